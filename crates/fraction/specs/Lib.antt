@@ -1,0 +1,4 @@
+pub mod Arithmetic
+pub mod Fraction
+pub mod Within
+pub mod Ring

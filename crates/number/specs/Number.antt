@@ -1,0 +1,74 @@
+-- Document 01's numbers, and IEEE 754 roundTiesToEven at 32 bits of precision.
+-- A number with mantissa m and exponent e is kept as m and x = e + bias, so that all is said in whole numbers.
+use Prim.Native.Nat.{ℕ, _+_, _-_, _*_, _/_, _^_, _≤_, _<_, min}
+use mathlib.Core.Path.{_≡_}
+use mathlib.Core.Bool.{cond}
+use lib.Dec.{eqb}
+use lib.Pow.{pow-pos}
+use lib.Ieee.{size}
+use lib.Ieee.Nearest.{closest}
+use Rattle.fraction.specs.Arithmetic.{Arithmetic}
+use Rattle.fraction.specs.Fraction.{Fraction}
+use Rattle.number.specs.declared.Number.{Number}
+
+-- the exponent 0
+abbrev pub bias : ℕ
+bias = 2 ^ 22
+
+-- zero, with mantissa and exponent 0
+abbrev pub zeroNumber : Number
+zeroNumber = record { m = 0; x = bias }
+
+abbrev pub oneNumber : Number
+oneNumber = record { m = 2 ^ 31; x = bias - 31 }
+
+-- a mantissa that was rounded up to 2 ^ 32 is 2 ^ 31 one exponent higher
+unfoldable pub carried : ℕ → ℕ → Number
+carried m x = cond (eqb m (2 ^ 32)) (record { m = 2 ^ 31; x = x + 1 }) (record { m = m; x = x })
+
+-- The exact n / d at exponent x, rounded once, where n is 0 or n / d at least a half.
+-- With 32 more binary places its whole part, n * 2 ^ 32 / d, has 32 digits or more; 32 of them are kept and k dropped.
+-- `closest` rounds to the nearest multiple of 2 ^ k, at a tie to the even one.
+unfoldable pub round : ℕ → ℕ → ℕ → Number
+round n d x =
+    let k = size (n * 2 ^ 32 / d) - 32 in
+    cond (eqb n 0) zeroNumber (carried (closest (n * 2 ^ 32) (d * 2 ^ k)) (x + k - 32))
+
+-- the exact sum, both operands brought to the lower exponent, rounded once
+unfoldable pub sumOf : Number → Number → Number
+sumOf a b =
+    let l = min (a .x) (b .x) in
+    round (a .m * 2 ^ (a .x - l) + b .m * 2 ^ (b .x - l)) 1 l
+
+unfoldable pub productOf : Number → Number → Number
+productOf a b = round (a .m * b .m) 1 (a .x + b .x - bias)
+
+unfoldable pub quotientOf : Number → Number → Number
+quotientOf a b = round (a .m) (b .m) (a .x + bias - b .x)
+
+-- the rounded rule's arithmetic
+abbrev pub rounded : Arithmetic
+rounded = record { Num = Number; zero = zeroNumber; one = oneNumber; add = sumOf; mul = productOf; div = quotientOf }
+
+-- the fraction m × 2 ^ e that a number stands for
+unfoldable pub value : Number → Fraction
+value a = record { top = a .m * 2 ^ (a .x - bias); low = 2 ^ (bias - a .x); above-zero = pow-pos (bias - a .x) }
+
+-- zero, or a mantissa of 32 bits, at an exponent from -r to r
+pub record Ranged (r : ℕ) (a : Number) : Type 0 where
+  pub zero : a .m ≡ 0 → a .x ≡ bias
+  pub low : 0 < a .m → 2 ^ 31 ≤ a .m
+  pub high : a .m < 2 ^ 32
+  pub start : bias ≤ a .x + r
+  pub stop : a .x ≤ bias + r
+
+-- a stored number: a mantissa from 2 ^ 31 to 2 ^ 32 - 1, an exponent from -1000 to 1000
+pub record Stored (a : Number) : Type 0 where
+  pub low : 2 ^ 31 ≤ a .m
+  pub high : a .m < 2 ^ 32
+  pub start : bias ≤ a .x + 1000
+  pub stop : a .x ≤ bias + 1000
+
+-- the exponents that the operations take: six sources of eight rows stay below 1.7 million
+abbrev pub reach : ℕ
+reach = 2 ^ 21 - 64

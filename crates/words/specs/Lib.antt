@@ -1,0 +1,5 @@
+pub mod RowSet
+pub mod Word
+pub mod Walk
+pub mod Formula
+pub mod Operation
