@@ -1,2 +1,5 @@
 pub mod RowSets
 pub mod Walks
+pub mod Related
+pub mod Words
+pub mod Counts
