@@ -3,3 +3,4 @@ pub mod Walks
 pub mod Related
 pub mod Words
 pub mod Counts
+pub mod Formulas
