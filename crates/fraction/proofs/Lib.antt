@@ -1,1 +1,7 @@
+pub mod Fraction
+pub mod Within
+pub mod Rational
 pub mod Ring
+pub mod Ordered
+pub mod Solver
+pub mod Identities

@@ -34,7 +34,7 @@ module _ (K : CRing) where
   pub +-cancel : (a b c : R) → a + b ≡ a + c → b ≡ c
   +-cancel a b c h = sym (neg-cancel-+ a b) ∙ ap (λ x. neg a + x) h ∙ neg-cancel-+ a c
 
-  -- a is the negative of b if their sum is zero
+  -- the negative of a is what adds to it to zero
   pub neg-unique : (a b : R) → a + b ≡ 𝟘 → neg a ≡ b
   neg-unique a b h = +-cancel a (neg a) b (+-neg a ∙ sym h)
 
@@ -44,6 +44,10 @@ module _ (K : CRing) where
   pub neg-zero : neg 𝟘 ≡ 𝟘
   neg-zero = neg-unique 𝟘 𝟘 (+-zero 𝟘)
 
+  pub difference-zero : (a b : R) → a + neg b ≡ 𝟘 → a ≡ b
+  difference-zero a b h = sym (neg-neg a) ∙ ap neg (neg-unique a (neg b) h) ∙ neg-neg b
+
+  -- An element and its negative with one to six terms between them, at the end of a sum or, by the rules -t, before a term t: `simp` sorts a sum, and that parts the two.
   pub cancel1 : (a b : R) → a + (b + (neg a)) ≡ b
   cancel1 a b = +-left a b _ ∙ ap (λ x. b + x) (+-neg a) ∙ +-zero b
 

@@ -29,6 +29,11 @@ pub record Ordered (K : CRing) : Type 1 where
   pub inv-mul : (x : K .R) → (x ≡ K .𝟘 → ⊥) → K .mul x (inv x) ≡ K .𝟙
   pub inv-pos : (x : K .R) → Pos x → Pos (inv x)
 
+-- positive or zero
+pub data NonNegative (K : CRing) (O : Ordered K) (x : K .R) : Type 0 where
+  positive : O .Pos x → NonNegative K O x
+  zero : x ≡ K .𝟘 → NonNegative K O x
+
 -- the mathematics' arithmetic
 abbrev pub arithmetic : (K : CRing) → Ordered K → Arithmetic
 arithmetic K O = record { Num = K .R; zero = K .𝟘; one = K .𝟙; add = K .add; mul = K .mul; div = λ x y. K .mul x (O .inv y) }

@@ -16,7 +16,6 @@ module _ (K : CRing) where
 
   infixl 65 _+_
   infixl 70 _*_
-
   -- the wedge of a vector v 1, v 2, .. and a form: the highest row of the set first
   unfoldable pub wedge : (ℕ → R) → (RowSet → R) → RowSet → R
   wedge v ω [] = 𝟘

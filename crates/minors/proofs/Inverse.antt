@@ -11,7 +11,6 @@ module _ (K : CRing) where
   open CRing K using (mul as _*_)
 
   infixl 70 _*_
-
   -- the entries of A with the signs (-1) ^ (i + j)
   abbrev pub resigned : Matrix K → Matrix K
   resigned A i j = sign K (i +ℕ j) * A i j

@@ -5,3 +5,5 @@ pub mod Recovery
 pub mod Positive
 pub mod Multiply
 pub mod Inverse
+pub mod Ratios
+pub mod Factors

@@ -14,7 +14,6 @@ module _ (K : CRing) (O : Ordered K) where
   open Ordered O using (Pos)
 
   infixl 70 _*_
-
   pub wordMatrix-carried : (n : ℕ) (W : Word R) → All (Rows n) W → Equal K n (wordMatrix K O n W) (matrixOf K O W)
   wordMatrix-carried n W h = ?
 

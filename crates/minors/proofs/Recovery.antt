@@ -12,7 +12,6 @@ module _ (K : CRing) where
   open CRing K using (R, 𝟙, mul as _*_)
 
   infixl 70 _*_
-
   -- the product of b (t + r, t) for t = 1 .. j
   unfoldable pub diagonalProduct : Factors R → ℕ → ℕ → R
   diagonalProduct b r zero = 𝟙

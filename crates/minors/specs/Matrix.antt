@@ -22,7 +22,6 @@ module _ (K : CRing) where
 
   infixl 65 _+_
   infixl 70 _*_
-
   -- the entry at row i and column j
   abbrev pub Matrix : Type 0
   Matrix = ℕ → ℕ → R

@@ -36,6 +36,16 @@ unfolding rows
 rows-beyond zero a b c h g = refl
 rows-beyond (suc n) a b c h g = ap₂ (λ y S. (leb a (suc n) && y) ∷ S) (le-leb (suc n) b h ∙ sym (le-leb (suc n) c g)) (rows-beyond n a b c (omega arith) (omega arith))
 
+-- there is no row 0
+pub rows-zero : (n b : ℕ) → rows n 0 b ≡ rows n 1 b
+unfolding rows
+rows-zero zero b = refl
+rows-zero (suc n) b = ap₂ (λ x S. (x && leb (suc n) b) ∷ S) (le-leb 0 (suc n) (omega arith) ∙ sym (le-leb 1 (suc n) (omega arith))) (rows-zero n b)
+
+-- an empty run has no highest row
+pub rows-none : (n a b : ℕ) → b < a → rows (suc n) a b ≡ false ∷ rows n a b
+rows-none n a b h = elim (decLe b n) [ yes g ↦ rows-over n a b (omega arith) | no g ↦ rows-under n a b (omega arith) ]
+
 pub count-rows : (n a b : ℕ) → 1 ≤ a → b ≤ n → count (rows n a b) ≡ suc b - a
 unfolding count rows
 count-rows zero a b h g = omega arith
@@ -43,11 +53,11 @@ count-rows (suc n) a b h g =
     elim (decLe b n) [
       | yes l ↦ ap count (rows-over n a b (omega arith)) ∙ count-rows n a b h l
       | no l ↦ elim (decLe a (suc n)) [
-          | yes m ↦
-              ap count (rows-in n a b m (omega arith)) ∙ ap suc (ap count (rows-beyond n a b n (omega arith) (omega arith)) ∙ count-rows n a n h (omega arith)) ∙ omega arith
-          | no m ↦
-              ap count (rows-under n a b (omega arith)) ∙ ap count (rows-beyond n a b n (omega arith) (omega arith)) ∙ count-rows n a n h (omega arith) ∙ omega arith
-        ]
+        | yes m ↦
+            ap count (rows-in n a b m (omega arith)) ∙ ap suc (ap count (rows-beyond n a b n (omega arith) (omega arith)) ∙ count-rows n a n h (omega arith)) ∙ omega arith
+        | no m ↦
+            ap count (rows-under n a b (omega arith)) ∙ ap count (rows-beyond n a b n (omega arith) (omega arith)) ∙ count-rows n a n h (omega arith) ∙ omega arith
+      ]
     ]
 
 -- row i put to the rows a .. i - 1
