@@ -3,6 +3,9 @@ pub mod Determined
 pub mod Transpose
 pub mod Recovery
 pub mod Positive
+pub mod Sums
+pub mod Products
+pub mod Letters
 pub mod Multiply
 pub mod Inverse
 pub mod Ratios
