@@ -13,7 +13,7 @@ use Rattle.minors.proofs.Determinant.{matrixOf}
 use Rattle.minors.proofs.Transpose.{transposedLetter, transposedWord, transposed-word}
 use Rattle.minors.proofs.Sums.{sum-equal}
 use Rattle.minors.proofs.Products.{identity-symmetric, times-equal, times-identity, times-transposed, times-reversed, wordMatrix-joined}
-use Rattle.minors.proofs.Letters.{identity-reversed, letter-carry, letter-converse, letter-transposed}
+use Rattle.minors.proofs.LetterMatrices.{identity-reversed, letter-carry, letter-converse, letter-transposed}
 
 module _ (K : CRing) (O : Ordered K) where
   open CRing K using (R, mul as _*_)

@@ -1,6 +1,9 @@
 pub mod RowSets
 pub mod Walks
-pub mod Related
+pub mod Agree
 pub mod Words
+pub mod Stages
+pub mod Related
+pub mod Alike
 pub mod Counts
 pub mod Formulas

@@ -1,0 +1,102 @@
+-- Letters with weights that are positive or zero, and positive diagonals (KeepsSign), keep a state positive or zero (walk-nonnegative) and a set's number positive
+-- (walk-positive). So a word joined on the left to one whose minors are all positive has positive minors (append-keeps).
+use mathlib.Core.Path.{_≡_, refl, sym, ap, _∙_, subst}
+use mathlib.Core.Bool.{Bool, true, false, not, cond, _&&_}
+use mathlib.Core.List.{[], _∷_, _++_}
+use Prim.Native.Nat.{ℕ, _-_}
+use lib.ListN.{length}
+use Rattle.fraction.specs.Arithmetic.{Arithmetic}
+use Rattle.fraction.specs.Ring.{CRing, Ordered, arithmetic, NonNegative, positive, zero}
+use Rattle.fraction.proofs.Ordered.{nonnegative-add, nonnegative-mul, positive-add-nonnegative}
+use Rattle.words.specs.RowSet.{RowSet, has, replaced, count, equal}
+use Rattle.words.specs.Word.{Letter, E, Et, D, Dinv, Word}
+use Rattle.words.specs.Walk.{State, oneAt, moved, movedIf, scaled, act, walk, minor}
+use Rattle.words.proofs.RowSets.{length-replaced}
+use Rattle.words.proofs.Walks.{All, walk-append}
+use Rattle.minors.specs.Matrix.{In}
+use Rattle.minors.proofs.Weights.{Weights, weights-weaken}
+use Rattle.minors.proofs.Entries.{scaled-product, product-positive}
+
+module _ (K : CRing) (O : Ordered K) where
+  open CRing K using (R, 𝟘, 𝟙, mul as _*_)
+  open Ordered O using (Pos, pos-one, pos-mul, inv, inv-pos)
+
+  infixl 70 _*_
+  abbrev F : Arithmetic
+  F = arithmetic K O
+
+  -- every minor of n rows is positive
+  abbrev pub AllPositive : ℕ → Word R → Type 0
+  AllPositive n W = (I J : RowSet) → length I ≡ n → length J ≡ n → count I ≡ count J → Pos (minor (arithmetic K O) W I J)
+
+  -- positive or zero at every set of n rows
+  abbrev pub NonNegatives : ℕ → State (arithmetic K O) → Type 0
+  NonNegatives n ω = (S : RowSet) → length S ≡ n → NonNegative K O (ω S)
+
+  -- a weight that is positive or zero, a positive diagonal
+  abbrev pub KeepsSign : ℕ → Letter R → Type 0
+  KeepsSign n = Weights (NonNegative K O) Pos n
+
+  moved-nonnegative : (n a o : ℕ) (w : R) (ω : State F) → NonNegative K O w → NonNegatives n ω → NonNegatives n (moved F a o w ω)
+  unfolding moved
+  moved-nonnegative n a o w ω p h S s = by (has a S && not (has o S))
+    where
+      by : (t : Bool) → NonNegative K O (movedIf F t a o w ω S)
+      by true = nonnegative-add K O _ _ (h S s) (nonnegative-mul K O _ _ p (h (replaced a o S) (length-replaced a o S ∙ s)))
+      by false = h S s
+
+  moved-positive : (n a o : ℕ) (w : R) (ω : State F) → NonNegative K O w → NonNegatives n ω → (S : RowSet) → length S ≡ n → Pos (ω S) → Pos (moved F a o w ω S)
+  unfolding moved
+  moved-positive n a o w ω p h S s q = by (has a S && not (has o S))
+    where
+      by : (t : Bool) → Pos (movedIf F t a o w ω S)
+      by true = positive-add-nonnegative K O _ _ q (nonnegative-mul K O _ _ p (h (replaced a o S) (length-replaced a o S ∙ s)))
+      by false = q
+
+  -- scaling by f (e i), all positive
+  module _ (f : R → R) (e : ℕ → R) (S : RowSet) (h : (i : ℕ) → In (length S) i → Pos (f (e i))) where
+    scaled-nonnegative : (x : R) → NonNegative K O x → NonNegative K O (scaled F (λ y z. y * f z) e S x)
+    scaled-nonnegative x p = subst (NonNegative K O) (sym (scaled-product K O f e S x)) (nonnegative-mul K O _ _ p (positive (product-positive K O (λ i. f (e i)) S h)))
+
+    scaled-positive : (x : R) → Pos x → Pos (scaled F (λ y z. y * f z) e S x)
+    scaled-positive x p = subst Pos (sym (scaled-product K O f e S x)) (pos-mul _ _ p (product-positive K O (λ i. f (e i)) S h))
+
+  pub act-nonnegative : (n : ℕ) (l : Letter R) (ω : State F) → KeepsSign n l → NonNegatives n ω → NonNegatives n (act F l ω)
+  unfolding act
+  act-nonnegative n (E j w) ω p h = moved-nonnegative n j (j - 1) w ω p h
+  act-nonnegative n (Et j w) ω p h = moved-nonnegative n (j - 1) j w ω p h
+  act-nonnegative n (D e) ω p h = λ S s. scaled-nonnegative (λ x. x) e S (λ i x. p i (subst (λ m. In m i) s x)) (ω S) (h S s)
+  act-nonnegative n (Dinv e) ω p h = λ S s. scaled-nonnegative inv e S (λ i x. inv-pos _ (p i (subst (λ m. In m i) s x))) (ω S) (h S s)
+
+  pub act-positive : (n : ℕ) (l : Letter R) (ω : State F) → KeepsSign n l → NonNegatives n ω → (S : RowSet) → length S ≡ n → Pos (ω S) → Pos (act F l ω S)
+  unfolding act
+  act-positive n (E j w) ω p h S s q = moved-positive n j (j - 1) w ω p h S s q
+  act-positive n (Et j w) ω p h S s q = moved-positive n (j - 1) j w ω p h S s q
+  act-positive n (D e) ω p h S s q = scaled-positive (λ x. x) e S (λ i x. p i (subst (λ m. In m i) s x)) (ω S) q
+  act-positive n (Dinv e) ω p h S s q = scaled-positive inv e S (λ i x. inv-pos _ (p i (subst (λ m. In m i) s x))) (ω S) q
+
+  pub walk-nonnegative : (n : ℕ) (W : Word R) (ω : State F) → All (KeepsSign n) W → NonNegatives n ω → NonNegatives n (walk F W ω)
+  unfolding walk
+  walk-nonnegative n [] ω p h = h
+  walk-nonnegative n (l ∷ W) ω p h = act-nonnegative n l (walk F W ω) (p .0) (walk-nonnegative n W ω (p .1) h)
+
+  pub walk-positive : (n : ℕ) (W : Word R) (ω : State F) → All (KeepsSign n) W → NonNegatives n ω → (S : RowSet) → length S ≡ n → Pos (ω S) → Pos (walk F W ω S)
+  unfolding walk
+  walk-positive n [] ω p h S s q = q
+  walk-positive n (l ∷ W) ω p h S s q = act-positive n l (walk F W ω) (p .0) (walk-nonnegative n W ω (p .1) h) S s (walk-positive n W ω (p .1) h S s q)
+
+  pub oneAt-nonnegative : (n : ℕ) (J : RowSet) → NonNegatives n (oneAt F J)
+  unfolding oneAt
+  oneAt-nonnegative n J S s = by (equal J S)
+    where
+      by : (t : Bool) → NonNegative K O (cond t 𝟙 𝟘)
+      by true = positive pos-one
+      by false = zero refl
+
+  pub positive-keeps : (n : ℕ) (W : Word R) → All (Weights Pos Pos n) W → All (KeepsSign n) W
+  positive-keeps n W h = weights-weaken Pos (NonNegative K O) Pos (λ w p. positive p) n W h
+
+  pub append-keeps : (n : ℕ) (U W : Word R) → All (KeepsSign n) U → All (KeepsSign n) W → AllPositive n W → AllPositive n (U ++ W)
+  unfolding minor
+  append-keeps n U W u w h I J i j c = subst Pos (sym (ap (λ ω. ω I) (walk-append F U W (oneAt F J))))
+      (walk-positive n U (walk F W (oneAt F J)) u (walk-nonnegative n W (oneAt F J) w (oneAt-nonnegative n J)) I i (h I J i j c))
