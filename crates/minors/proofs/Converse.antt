@@ -1,19 +1,19 @@
--- The converse: its minors are those of the word, row sets and column sets counted from the other end (minor-converse).
+-- The converse: its minors are those of the word, row sets and column sets counted from the other end (minor-converse; rows-reverse for consecutive rows).
 use mathlib.Core.Path.{_≡_, refl, sym, ap, ap₂, _∙_, fun-ext}
-use mathlib.Core.Bool.{Bool, true, false, not, cond, _&&_}
+use mathlib.Core.Bool.{Bool, true, false, not, cond, _&&_, and-comm}
 use mathlib.Core.List.{[], _∷_, _++_, reverse, reverse-cons, reverse-reverse}
 use Prim.Native.Nat.{ℕ, zero, suc, _+_ as _+ℕ_, _-_, _≤_}
 use native.Mathlib.Omega.{arith}
-use lib.Dec.{eqb, eqb·suc-suc}
+use lib.Dec.{eqb, leb, eqb·suc-suc}
 use lib.ListN.{length, length-append, length-reverse}
-use borrow.Author.Tests.{ne-eqb}
+use borrow.Author.Tests.{ne-eqb, leb-true, leb-false}
 use Rattle.fraction.specs.Arithmetic.{Arithmetic}
 use Rattle.fraction.specs.Ring.{CRing, Ordered, arithmetic}
 use Rattle.fraction.proofs.Ring.{one-*, *-one}
-use Rattle.words.specs.RowSet.{RowSet, has, put, count}
+use Rattle.words.specs.RowSet.{RowSet, has, put, count, rows}
 use Rattle.words.specs.Word.{Letter, E, Et, D, Dinv, Word, converseLetter, converseWord}
 use Rattle.words.specs.Walk.{State, oneAt, moved, scaled, act, walk, minor}
-use Rattle.words.proofs.RowSets.{has-top, has-under, put-top, put-under, length-put}
+use Rattle.words.proofs.RowSets.{has-top, has-under, put-top, put-under, length-put, length-rows, has-rows}
 use Rattle.words.proofs.Walks.{Rows, All}
 use Rattle.words.proofs.Agree.{act-agree}
 use Rattle.minors.specs.Matrix.{In}
@@ -82,6 +82,40 @@ unfolding count
 count-reverse [] = refl
 count-reverse (true ∷ S) = ap count (reverse-cons true S) ∙ count-end (reverse S) true ∙ ap suc (count-reverse S)
 count-reverse (false ∷ S) = ap count (reverse-cons false S) ∙ count-end (reverse S) false ∙ count-reverse S
+
+-- consecutive rows are consecutive from the other end
+rows-equal : (S T : RowSet) → length S ≡ length T → ((i : ℕ) → In (length S) i → has i S ≡ has i T) → S ≡ T
+rows-equal [] [] l h = refl
+rows-equal [] (y ∷ T) l h = absurd (omega arith)
+rows-equal (x ∷ S) [] l h = absurd (omega arith)
+rows-equal (x ∷ S) (y ∷ T) l h =
+    let m : length S ≡ length T = omega arith in
+    ap₂ _∷_ (sym (has-top x S) ∙ h (suc (length S)) (omega arith, omega arith) ∙ ap (λ k. has (suc k) (y ∷ T)) m ∙ has-top y T)
+    (rows-equal S T m (λ i p. sym (has-under i x S (p .1)) ∙ h i (p .0, omega (arith, p .1)) ∙ has-under i y T (omega (arith, p .1))))
+
+leb-equal : (a b c d : ℕ) → (a ≤ b → c ≤ d) → (c ≤ d → a ≤ b) → leb a b ≡ leb c d
+leb-equal a b c d f g = by (leb a b) (leb c d) refl refl
+  where
+    by : (s t : Bool) → leb a b ≡ s → leb c d ≡ t → s ≡ t
+    by true true e h = refl
+    by true false e h = absurd (omega (arith, f (leb-true a b e), leb-false c d h))
+    by false true e h = absurd (omega (arith, g (leb-true c d h), leb-false a b e))
+    by false false e h = refl
+
+pub rows-reverse : (n a b : ℕ) → reverse (rows n a b) ≡ rows n (n +ℕ 1 - b) (n +ℕ 1 - a)
+rows-reverse n a b = rows-equal (reverse (rows n a b)) (rows n (n +ℕ 1 - b) (n +ℕ 1 - a)) (reversed ∙ sym (length-rows n _ _)) (λ i x. same i (x .0) (omega (arith, x .1, reversed)))
+  where
+    reversed : length (reverse (rows n a b)) ≡ n
+    reversed = length-reverse (rows n a b) ∙ length-rows n a b
+
+    same : (i : ℕ) → 1 ≤ i → i ≤ n → has i (reverse (rows n a b)) ≡ has i (rows n (n +ℕ 1 - b) (n +ℕ 1 - a))
+    same zero p q = absurd (omega arith)
+    same (suc k) p q =
+        has-reverse k (n - k) (rows n a b) (omega arith) (omega (arith, length-rows n a b))
+        ∙ has-rows n (n - k) a b (omega arith) (omega arith)
+        ∙ ap₂ _&&_ (leb-equal a (n - k) (suc k) (n +ℕ 1 - a) (λ h. omega arith) (λ h. omega arith)) (leb-equal (n - k) b (n +ℕ 1 - b) (suc k) (λ h. omega arith) (λ h. omega arith))
+        ∙ and-comm (leb (suc k) (n +ℕ 1 - a)) (leb (n +ℕ 1 - b) (suc k))
+        ∙ sym (has-rows n (suc k) (n +ℕ 1 - b) (n +ℕ 1 - a) p q)
 
 module _ (K : CRing) where
   open CRing K using (R, 𝟙, mul as _*_)

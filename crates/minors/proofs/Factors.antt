@@ -3,7 +3,7 @@
 use mathlib.Core.Path.{_≡_, refl, sym, ap, ap₂, _∙_, subst, subst₂}
 use mathlib.Core.Bool.{Bool, true, false}
 use mathlib.Core.List.{List, [], _∷_}
-use Prim.Native.Nat.{ℕ, zero, suc, _≤_, _<_, _-_, _+_ as _+ℕ_}
+use Prim.Native.Nat.{ℕ, zero, suc, _≤_, _<_, _-_, min, _+_ as _+ℕ_}
 use native.Mathlib.Decide.{decLe}
 use native.Mathlib.Omega.{arith}
 use lib.ListN.{length}
@@ -13,7 +13,7 @@ use Rattle.words.specs.Word.{Factors, word, exchanged}
 use Rattle.words.specs.Walk.{minor}
 use Rattle.words.specs.Formula.{newFactor}
 use Rattle.words.proofs.RowSets.{length-rows}
-use Rattle.words.proofs.Formulas.{rows-none, rows-zero, newFactor-related}
+use Rattle.words.proofs.Formulas.{rows-none, rows-zero, count-rows, newFactor-related}
 use Rattle.minors.specs.Matrix.{In, Matrix, Equal, multiplied, Positive}
 use Rattle.minors.proofs.Determinant.{determinant, columns, wedges, empty, matrixOf, minor-determinant, determinant-equal}
 use Rattle.minors.proofs.Determined.{initial, initial-determined}
@@ -35,6 +35,21 @@ by-place n P low high i j x y = go (decLe j i)
         let e : suc (i - 1) ≡ i = omega (arith, x .0) in
         let f : suc (i - 1) +ℕ (j - i) ≡ j = omega (arith, x .0, y .0) in
         subst₂ P e f (high (j - i) (i - 1) (omega (arith, y .1, x .0)))
+
+-- the row set and the column set of an initial minor have equally many members
+corner-count : (n i j : ℕ) → In n i → In n j → count (rows n (suc i - j) i) ≡ min i j
+corner-count n i j x y =
+    elim (decLe j i) [
+      | yes h ↦ count-rows n (suc i - j) i (omega arith) (x .1) ∙ omega (arith, x .0, y .0)
+      | no h ↦
+          let e : suc i - j ≡ 0 = omega arith in
+          ap (λ a. count (rows n a i)) e ∙ ap count (rows-zero n i) ∙ count-rows n 1 i (omega arith) (x .1) ∙ omega (arith, x .0, y .0)
+    ]
+
+pub initial-counts : (n i j : ℕ) → In n i → In n j → count (rows n (suc i - j) i) ≡ count (rows n (suc j - i) j)
+initial-counts n i j x y =
+    let e : min i j ≡ min j i = omega arith in
+    corner-count n i j x y ∙ e ∙ sym (corner-count n j i y x)
 
 module _ (K : CRing) where
   open CRing K using (R, 𝟙)

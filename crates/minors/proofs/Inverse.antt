@@ -12,7 +12,7 @@ use Rattle.fraction.proofs.Ring.{ring, +-comm, +-neg, neg-*, one-*, *-one, *-ze
 use Rattle.words.specs.Word.{Letter, E, Et, D, Dinv, Word, inverseLetter, inverseWord}
 use Rattle.words.specs.Walk.{carryLetter, carry}
 use Rattle.words.proofs.Walks.{Rows, All}
-use Rattle.minors.specs.Matrix.{In, Matrix, Equal, identity, times, sign, letterMatrix, wordMatrix}
+use Rattle.minors.specs.Matrix.{In, Matrix, Equal, identity, times, sign, resigned, letterMatrix, wordMatrix}
 use Rattle.minors.proofs.Determinant.{matrixOf}
 use Rattle.minors.proofs.Positive.{Weights}
 use Rattle.minors.proofs.Sums.{sum-equal, scale-sum}
@@ -24,10 +24,6 @@ module _ (K : CRing) where
 
   infixl 65 _+_
   infixl 70 _*_
-  -- the entries of A with the signs (-1) ^ (i + j)
-  abbrev pub resigned : Matrix K → Matrix K
-  resigned A i j = sign K (i +ℕ j) * A i j
-
   -- an inverse on one side and one on the other are equal
   pub inverse-unique : (n : ℕ) (A X Y : Matrix K) → Equal K n (times K n X A) (identity K) → Equal K n (times K n A Y) (identity K) → Equal K n X Y
   inverse-unique n A X Y x y i j p q =
@@ -43,7 +39,7 @@ module _ (K : CRing) where
   sign-add zero j = ap (sign K) (zero-add j) ∙ sym (one-* K _)
   sign-add (suc i) j = ap (sign K) (suc-add i j) ∙ ap neg (sign-add i j) ∙ sym (neg-* K _ _)
 
-  sign-square : (i : ℕ) → sign K i * sign K i ≡ 𝟙
+  pub sign-square : (i : ℕ) → sign K i * sign K i ≡ 𝟙
   unfolding sign
   sign-square zero = *-one K 𝟙
   sign-square (suc i) = simp ring (sign-square i)
@@ -65,7 +61,7 @@ module _ (K : CRing) where
       between : (r s t : R) → s * s ≡ 𝟙 → r * t ≡ (r * s) * (s * t)
       between r s t e = sym (one-* K _) ∙ ap (λ x. x * (r * t)) (sym e) ∙ regroup r s t
 
-  times-resigned : (n : ℕ) (A B : Matrix K) (i j : ℕ) → resigned (times K n A B) i j ≡ times K n (resigned A) (resigned B) i j
+  times-resigned : (n : ℕ) (A B : Matrix K) (i j : ℕ) → resigned K (times K n A B) i j ≡ times K n (resigned K A) (resigned K B) i j
   unfolding times
   times-resigned n A B i j =
       scale-sum K n _ _

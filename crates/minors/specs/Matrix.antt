@@ -2,7 +2,7 @@
 use mathlib.Core.Path.{_≡_}
 use mathlib.Core.Bool.{Bool, cond, _&&_}
 use mathlib.Core.List.{List, [], _∷_}
-use Prim.Native.Nat.{ℕ, zero, suc, _≤_, _-_}
+use Prim.Native.Nat.{ℕ, zero, suc, _≤_, _-_, _+_ as _+ℕ_}
 use lib.Dec.{eqb}
 use lib.ListN.{getD}
 use Rattle.fraction.specs.Ring.{CRing, Ordered}
@@ -46,6 +46,10 @@ module _ (K : CRing) where
   unfoldable pub sign : ℕ → R
   sign zero = 𝟙
   sign (suc i) = neg (sign i)
+
+  -- the entries of A with the signs (-1) ^ (i + j)
+  abbrev pub resigned : Matrix → Matrix
+  resigned A i j = sign (i +ℕ j) * A i j
 
   -- the entries of A at the chosen rows P and columns Q
   abbrev pub submatrixOf : RowSet → RowSet → Matrix → Matrix

@@ -70,7 +70,7 @@ module _ {A B : Type 0} (P Q : A → B → Type 0) (n : ℕ) where
   alike-exchanged : (b : Factors A) (c : Factors B) → Alike b c → Alike (exchanged b) (exchanged c)
   alike-exchanged b c h = record { off = λ i j p q r s e. h .off j i r s p q (λ f. e (sym f)); on = h .on }
 
-  letters-word : (b : Factors A) (c : Factors B) → Alike b c → Each (Letters P Q n) (word n b) (word n c)
+  pub letters-word : (b : Factors A) (c : Factors B) → Alike b c → Each (Letters P Q n) (word n b) (word n c)
   letters-word b c h =
       each-word (Letters P Q n) n b c
       (λ i j x y z. (refl, h .off j i (omega arith) z x (omega arith) (λ e. omega arith)))

@@ -1,0 +1,3 @@
+pub mod Refactored
+pub mod Exact
+pub mod Requested

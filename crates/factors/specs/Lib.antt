@@ -1,0 +1,2 @@
+pub mod Requested
+pub mod Demand
