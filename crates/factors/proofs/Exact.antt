@@ -31,18 +31,17 @@ abbrev Stands : Fraction → rationals .R → Type 0
 Stands x y = rational x ≡ y
 
 -- a fraction stands for a rational number through every sum, product and quotient
-abbrev rational-related : Related exact ℚ
+abbrev rational-related : Related exact ℚ (Unit {0}) (λ g x y. Stands x y)
 rational-related = record {
-  Rel = λ t u x y. Stands x y;
   Weight = Stands;
   Entry = λ x y. Stands x y × (0 < x .top);
-  rel-zero = rational-zero;
-  rel-one = rational-one;
-  rel-stays = λ t u x y h. h;
-  rel-moves = λ t u x x′ w y y′ v h g k. rational-sum x (product w x′) ∙ ap₂ (rationals .add) h (rational-product w x′ ∙ ap₂ (rationals .mul) g k);
-  rel-skips = λ t u x y h. h;
-  rel-times = λ t u x e y f h g. rational-product x e ∙ ap₂ (rationals .mul) h (g .0);
-  rel-over = λ t u x e y f h g. rational-quotient x e (g .1) ∙ ap₂ (λ a b. rationals .mul a (rationals-ordered .inv b)) h (g .0);
+  afterMove = λ g. g;
+  rel-stays = λ g x y h. h;
+  rel-moves = λ g x x′ w y y′ v h k l. rational-sum x (product w x′) ∙ ap₂ (rationals .add) h (rational-product w x′ ∙ ap₂ (rationals .mul) k l);
+  afterEntry = λ g. g;
+  rel-skips = λ g x y h. h;
+  rel-times = λ g x e y f h k. rational-product x e ∙ ap₂ (rationals .mul) h (k .0);
+  rel-over = λ g x e y f h k. rational-quotient x e (k .1) ∙ ap₂ (λ a b. rationals .mul a (rationals-ordered .inv b)) h (k .0);
 }
 
 -- sources whose factors are accepted
@@ -72,8 +71,8 @@ module _ (n : ℕ) where
       (P Q : RowSet) (lengthP : length P ≡ n) (lengthQ : length Q ≡ n) (counts : count Q ≡ count P) where
     minor-rational : (I J : RowSet) → length I ≡ n → rational (minor exact (joinedWord n (s ∷ L)) I J) ≡ minor ℚ (joinedWord n (eachSteps rational (s ∷ L))) I J
     minor-rational I J i =
-        minor-related exact ℚ rational-related n (joinedWord n (s ∷ L)) (joinedWord n (eachSteps rational (s ∷ L)))
-        (letters-joined Stands (λ x y. Stands x y × (0 < x .top)) n (s ∷ L) (eachSteps rational (s ∷ L)) (steps-alike (s ∷ L) accepted)) I J i
+        minor-related exact ℚ (Unit {0}) (λ g x y. Stands x y) rational-related n (joinedWord n (s ∷ L)) (joinedWord n (eachSteps rational (s ∷ L)))
+        (letters-joined Stands (λ x y. Stands x y × (0 < x .top)) n (s ∷ L) (eachSteps rational (s ∷ L)) (steps-alike (s ∷ L) accepted)) tt rational-zero rational-one I J i
 
     -- the exact minors are positive
     pub exact-minor-positive : (I J : RowSet) → length I ≡ count P → length J ≡ count P → count I ≡ count J → 0 < minor exact (joinedWord n (s ∷ L)) (among P I) (among Q J) .top
