@@ -90,6 +90,8 @@ module _ (n : ℕ) where
     refactored-near P Q p q e i j x y =
         near-more (omega (arith, ap (λ (z : ℕ). 4 * z + 3) (joined-cost (2 + 0) (n * (1 + 0)) n (s ∷ L) some), letters-bound (suc (length L)) n some)) (omega arith)
         (factor-near (roundings 0 n W) (31 + 1035 * (suc (length L) * (n * n))) (count P) (omega arith) _ _
-        (λ I J u v w. (joined-minor-near (among P I) (among Q J) (length-among P I u ∙ p),
-        exact-minor-positive n (eachStep value s) (eachSteps value L) (steps-accepted (s ∷ L) stored) P Q p q e I J u v w))
+        (λ I J u v w. (
+          joined-minor-near (among P I) (among Q J) (length-among P I u ∙ p),
+          exact-minor-positive n (eachStep value s) (eachSteps value L) (steps-accepted (s ∷ L) stored) P Q p q e I J u v w,
+        ))
         i j (x .0) (x .1) (y .0) (y .1))

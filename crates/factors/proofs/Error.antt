@@ -80,9 +80,9 @@ module _ (c : ℕ) where
         → Near (roundings W) (exponents W) (minor rounded W I J) (minor exact X I J)
     minor-near W X h room I J i =
         let e : after rounded exact Grade NearBy near-related n W (0, 31) .0 ≡ 0 + roundings W =
-            after-measure rounded exact Grade NearBy near-related n (λ g. g .0) (2 + c) (1 + c) (λ g. refl) (λ g. refl) W (0, 31) in
+        after-measure rounded exact Grade NearBy near-related n (λ g. g .0) (2 + c) (1 + c) (λ g. refl) (λ g. refl) W (0, 31) in
         let f : after rounded exact Grade NearBy near-related n W (0, 31) .1 ≡ exponents W =
-            after-measure rounded exact Grade NearBy near-related n (λ g. g .1) 1035 1035 (λ g. refl) (λ g. refl) W (0, 31) in
+        after-measure rounded exact Grade NearBy near-related n (λ g. g .1) 1035 1035 (λ g. refl) (λ g. refl) W (0, 31) in
         near-more (omega arith) (omega arith)
         (minor-related rounded exact Grade NearBy near-related n W X h (0, 31) (λ r. near-zero 31) (λ r. near-one) I J i (omega arith))
 

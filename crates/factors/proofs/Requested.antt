@@ -30,7 +30,6 @@ module _ (K : CRing) (O : Ordered K) where
   open CRing K using (R, 𝟙, mul as _*_)
 
   infixl 70 _*_
-
   signed-twice : (i : ℕ) (x y : R) → y ≡ sign K i * x → x ≡ sign K i * y
   signed-twice i x y e = sym (one-* K x) ∙ ap (λ z. z * x) (sym (sign-square K i)) ∙ *-assoc K _ _ _ ∙ ap (λ z. sign K i * z) (sym e)
 

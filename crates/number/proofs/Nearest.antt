@@ -100,8 +100,8 @@ module _ (N D : ℕ) (pD : 0 < D) (lo : 2 ^ 31 * D ≤ N) where
         record {
           best = rw (a, b) (mul-le-mul-right E l);
           even = λ g ne.
-          let h : gap (M * D) N ≡ gap (m * 2 ^ t * D) N = le-antisymm l (le-of-mul-le-mul-right (rw (a, b) at g) pE) in
-          closest-tie N D pD (m * 2 ^ t) (λ (s : m * 2 ^ t ≡ M). ne (ap (λ (z : ℕ). z * D * E) (sym s) ∙ sym c)) h;
+              let h : gap (M * D) N ≡ gap (m * 2 ^ t * D) N = le-antisymm l (le-of-mul-le-mul-right (rw (a, b) at g) pE) in
+              closest-tie N D pD (m * 2 ^ t) (λ (s : m * 2 ^ t ≡ M). ne (ap (λ (z : ℕ). z * D * E) (sym s) ∙ sym c)) h;
         }
 
     -- it is finer, and so below 2 ^ 31 places

@@ -107,9 +107,10 @@ sum-zeros a b e f =
     ap (λ (n : ℕ). round n 1 l) s ∙ round-zero 1 l
 
 pub sum-zero : (a b : Number) → (sumOf a b .m ≡ 0) ↔ ((a .m ≡ 0) × (b .m ≡ 0))
-sum-zero a b =
-    (λ e. (none (λ p. let q = sum-positive-left a b p in omega arith), none (λ p. let q = sum-positive-right a b p in omega arith)),
-    λ z. ap (λ (c : Number). c .m) (sum-zeros a b (z .0) (z .1)))
+sum-zero a b = (
+  λ e. (none (λ p. let q = sum-positive-left a b p in omega arith), none (λ p. let q = sum-positive-right a b p in omega arith)),
+  λ z. ap (λ (c : Number). c .m) (sum-zeros a b (z .0) (z .1)),
+)
 
 pub product-zero : (a b : Number) → (productOf a b .m ≡ 0) ↔ ((a .m ≡ 0) ⊎ (b .m ≡ 0))
 product-zero a b =
