@@ -36,7 +36,7 @@ pub near-sum : {k r : ℕ} {x x′ : Number} {y y′ : Fraction} → Near k r x 
 near-sum {k} {r} u v h =
     record {
       ranged = ranged-sum (u .ranged) (v .ranged) (omega arith);
-      within = within-mono (omega arith) (within-trans (sum-within (u .ranged) (v .ranged) (omega arith) (omega arith)) (within-sum (u .within) (v .within)));
+      within = within-mono (omega arith) (within-trans (sum-within (u .ranged) (v .ranged) (omega arith)) (within-sum (u .within) (v .within)));
     }
 
 pub near-product : {j k r s : ℕ} {x x′ : Number} {y y′ : Fraction} → Near j r x y → Near k s x′ y′ → r + s + 64 ≤ bias → Near (j + k + 1) (r + s + 33) (productOf x x′) (product y y′)
