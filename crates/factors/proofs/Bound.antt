@@ -13,22 +13,22 @@ use Rattle.words.specs.RowSet.{RowSet, count, among}
 use Rattle.words.specs.Word.{Factors, Word}
 use Rattle.words.specs.Walk.{minor}
 use Rattle.words.specs.Operation.{Step, step, joinedWord, refactored, boundOf, eachStep, eachSteps}
-use Rattle.words.proofs.Alike.{AlikeStep, AlikeSteps, alike, letters-joined}
+use Rattle.words.proofs.Chosen.{length-among}
+use Rattle.words.proofs.Steps.{Source, Sources, sources-map}
+use Rattle.words.proofs.Alike.{letters-joined, alike-each}
 use Rattle.words.proofs.Counts.{joined-cost}
 use Rattle.minors.specs.Matrix.{In}
-use Rattle.minors.proofs.Chosen.{length-among}
-use Rattle.factors.specs.Demand.{Each}
+use Rattle.factors.specs.Demand.{Accepted}
 use Rattle.factors.proofs.Near.{Near, near-more, near-stored}
 use Rattle.factors.proofs.Error.{NearWeight, NearEntry, roundings, exponents, minor-near, factor-near}
-use Rattle.factors.proofs.Exact.{AcceptedStep, AcceptedSteps, exact-minor-positive}
+use Rattle.factors.proofs.Exact.{AcceptedSteps, exact-minor-positive}
 
 -- stored sources
 abbrev pub StoredStep : ℕ → Step Number → Type 0
-StoredStep n (step w b) = Each Stored n b
+StoredStep = Source Stored
 
 abbrev pub StoredSteps : ℕ → List (Step Number) → Type 0
-StoredSteps n [] = Unit {0}
-StoredSteps n (s ∷ L) = StoredStep n s × StoredSteps n L
+StoredSteps = Sources Stored
 
 pub stored-positive : (a : Number) → Stored a → 0 < value a .top
 stored-positive a s = value-positive a .0 (omega (arith, s .low))
@@ -51,20 +51,9 @@ letters-bound m n l =
     regroup m z = omega arith
 
 module _ (n : ℕ) where
-  step-near : (s : Step Number) → StoredStep n s → AlikeStep (NearWeight 0) (NearEntry 0) n s (eachStep value s)
-  step-near (step w b) h =
-      alike (record { off = λ i j p q r s e. near-stored (h i j (p, q) (r, s)); on = λ i p q. (near-stored (h i i (p, q) (p, q)), stored-positive (b i i) (h i i (p, q) (p, q))) })
-
-  steps-near : (L : List (Step Number)) → StoredSteps n L → AlikeSteps (NearWeight 0) (NearEntry 0) n L (eachSteps value L)
-  steps-near [] h = tt
-  steps-near (s ∷ L) h = (step-near s (h .0), steps-near L (h .1))
-
-  step-accepted : (s : Step Number) → StoredStep n s → AcceptedStep n (eachStep value s)
-  step-accepted (step w b) h = λ i j x y. stored-positive (b i j) (h i j x y)
-
+  -- are accepted as the fractions that they stand for
   pub steps-accepted : (L : List (Step Number)) → StoredSteps n L → AcceptedSteps n (eachSteps value L)
-  steps-accepted [] h = tt
-  steps-accepted (s ∷ L) h = (step-accepted s (h .0), steps-accepted L (h .1))
+  steps-accepted = sources-map Stored Accepted n value stored-positive
 
   -- six sources of eight rows have 6 * 64 = 384 of the 1012 for which there is room
   module _ (s : Step Number) (L : List (Step Number)) (stored : StoredSteps n (s ∷ L)) (some : 1 ≤ n) (room : suc (length L) * (n * n) ≤ 1012) where
@@ -79,7 +68,8 @@ module _ (n : ℕ) where
         → Near (roundings 0 n W) (31 + 1035 * (suc (length L) * (n * n))) (minor rounded W I J) (minor exact (joinedWord n (eachSteps value (s ∷ L))) I J)
     joined-minor-near I J i =
         near-more (omega arith) (omega (arith, reach-is))
-        (minor-near 0 n W (joinedWord n (eachSteps value (s ∷ L))) (letters-joined (NearWeight 0) (NearEntry 0) n (s ∷ L) (eachSteps value (s ∷ L)) (steps-near (s ∷ L) stored))
+        (minor-near 0 n W (joinedWord n (eachSteps value (s ∷ L))) (letters-joined (NearWeight 0) (NearEntry 0) n (s ∷ L) (eachSteps value (s ∷ L))
+        (alike-each (NearWeight 0) (NearEntry 0) n Stored value (λ a h. near-stored h) (λ a h. (near-stored h, stored-positive a h)) (s ∷ L) stored))
         (omega (arith, reach-is)) I J i)
 
     -- A NEW FACTOR

@@ -14,15 +14,16 @@ use Rattle.words.specs.Walk.{minor}
 use Rattle.words.specs.Formula.{newFactor}
 use Rattle.words.specs.Operation.{Step, joinedWord, refactored}
 use Rattle.words.proofs.RowSets.{length-rows}
+use Rattle.words.proofs.Chosen.{length-among, count-among, chosen-in}
+use Rattle.words.proofs.Steps.{joined-rows}
 use Rattle.words.proofs.Related.{Each, Letters}
 use Rattle.words.proofs.Alike.{Alike, letters-word}
 use Rattle.minors.specs.Matrix.{In, Matrix, Equal, submatrixOf, chosen, letterMatrix, wordMatrix, multiplied, Positive}
-use Rattle.minors.proofs.Chosen.{length-among, count-among, chosen-in}
 use Rattle.minors.proofs.Products.{times-equal}
 use Rattle.minors.proofs.Determinant.{determinant, matrixOf, minor-determinant, determinant-equal, determinant-among}
 use Rattle.minors.proofs.Determined.{initial}
 use Rattle.minors.proofs.Multiply.{wordMatrix-carried}
-use Rattle.minors.proofs.Positive.{PositiveSteps, joined-rows, joined-positive}
+use Rattle.minors.proofs.Positive.{PositiveSteps, joined-positive}
 use Rattle.minors.proofs.Factors.{factors-equal, factors-positive, factors-multiplied, factors-unique, initial-counts}
 
 module _ (K : CRing) (O : Ordered K) where
@@ -66,10 +67,10 @@ module _ (K : CRing) (O : Ordered K) where
 
     minor-submatrix : (I J : RowSet) → length I ≡ count P → length J ≡ count P → M I J ≡ determinant K S I J
     minor-submatrix I J i j =
-        minor-determinant K O n W (joined-rows K O n (s ∷ L)) (among P I) (among Q J) (among-length I i) (among-length′ J j)
+        minor-determinant K O n W (joined-rows n (s ∷ L)) (among P I) (among Q J) (among-length I i) (among-length′ J j)
         ∙ determinant-among K (matrixOf K O W) P Q I J i (j ∙ sym counts)
         ∙ determinant-equal K (count P) (submatrixOf K P Q (matrixOf K O W)) S
-        (λ r c x y. sym (wordMatrix-carried K O n W (joined-rows K O n (s ∷ L)) (chosen P r) (chosen Q c) (subst (λ k. In k (chosen P r)) lengthP (chosen-in P r x)) (subst (λ k. In k (chosen Q c)) lengthQ (chosen-in Q c (subst (λ k. In k c) (sym counts) y))))) I J i j
+        (λ r c x y. sym (wordMatrix-carried K O n W (joined-rows n (s ∷ L)) (chosen P r) (chosen Q c) (subst (λ k. In k (chosen P r)) lengthP (chosen-in P r x)) (subst (λ k. In k (chosen Q c)) lengthQ (chosen-in Q c (subst (λ k. In k c) (sym counts) y))))) I J i j
 
     pub minor-positive : (I J : RowSet) → length I ≡ count P → length J ≡ count P → count I ≡ count J → O .Pos (M I J)
     minor-positive I J i j e =

@@ -12,13 +12,11 @@ use Rattle.words.specs.RowSet.{RowSet, rows, count}
 use Rattle.words.specs.Word.{Factors, Word, word, inverseWord}
 use Rattle.words.specs.Operation.{Step, step, plain, inverted, conversed, joinedWord, refactored, Operation, product, inverse, converse, submatrix, steps, keptRows, keptColumns, size, result, eachFactor, eachStep, eachSteps, eachSource}
 use Rattle.words.proofs.RowSets.{length-rows}
-use Rattle.words.proofs.Walks.{All}
+use Rattle.words.proofs.Chosen.{count-all, chosen-all}
 use Rattle.words.proofs.Stages.{word-rows}
 use Rattle.minors.specs.Matrix.{In, Matrix, Equal, identity, times, sign, resigned, chosen, submatrixOf, wordMatrix, multiplied, Positive}
-use Rattle.minors.proofs.Chosen.{count-all, chosen-all}
 use Rattle.minors.proofs.Products.{times-equal-left, times-equal-right}
-use Rattle.minors.proofs.Weights.{weights-weaken}
-use Rattle.minors.proofs.Positive.{word-weights}
+use Rattle.minors.proofs.Complement.{word-diagonal}
 use Rattle.minors.proofs.Multiply.{wordMatrix-converse, joined-multiplied}
 use Rattle.minors.proofs.Inverse.{inverse-unique, inverse-left, inverse-right, sign-square}
 use Rattle.factors.specs.Requested.{ResignedInverse, Requested}
@@ -45,14 +43,11 @@ module _ (K : CRing) (O : Ordered K) where
       signs : Equal K n (resigned K X) (resigned K (wordMatrix K O n (inverseWord (word n b))))
       signs i j x y = ap (λ z. sign K (i +ℕ j) * z) (e i j x y)
 
-      diagonal : All (Rattle.minors.proofs.Weights.Weights (λ w. Unit {0}) (O .Pos) n) (word n b)
-      diagonal = weights-weaken (O .Pos) (λ w. Unit {0}) (O .Pos) (λ w h. tt) n (word n b) (word-weights K O n b p)
-
       left : Equal K n (times K n (resigned K X) (multiplied K O n b)) (identity K)
-      left i j x y = times-equal-left K n _ _ (multiplied K O n b) signs i j x y ∙ inverse-left K O n (word n b) (word-rows n b) diagonal i j x y
+      left i j x y = times-equal-left K n _ _ (multiplied K O n b) signs i j x y ∙ inverse-left K O n (word n b) (word-rows n b) (word-diagonal K O n b p) i j x y
 
       right : Equal K n (times K n (multiplied K O n b) (resigned K X)) (identity K)
-      right i j x y = times-equal-right K n (multiplied K O n b) _ _ signs i j x y ∙ inverse-right K O n (word n b) (word-rows n b) diagonal i j x y
+      right i j x y = times-equal-right K n (multiplied K O n b) _ _ signs i j x y ∙ inverse-right K O n (word n b) (word-rows n b) (word-diagonal K O n b p) i j x y
 
 module _ (n : ℕ) where
   all-rows : length (rows n 1 n) ≡ n

@@ -8,14 +8,13 @@ use lib.ListN.{length}
 use Rattle.fraction.specs.Arithmetic.{Arithmetic}
 use Rattle.fraction.specs.Ring.{CRing, Ordered, arithmetic, NonNegative, positive, zero}
 use Rattle.fraction.proofs.Ordered.{nonnegative-add, nonnegative-mul, positive-add-nonnegative}
-use Rattle.words.specs.RowSet.{RowSet, has, replaced, count, equal}
+use Rattle.words.specs.RowSet.{In, RowSet, has, replaced, count, equal}
 use Rattle.words.specs.Word.{Letter, E, Et, D, Dinv, Word}
 use Rattle.words.specs.Walk.{State, oneAt, moved, movedIf, scaled, act, walk, minor}
 use Rattle.words.proofs.RowSets.{length-replaced}
 use Rattle.words.proofs.Walks.{All, walk-append}
-use Rattle.minors.specs.Matrix.{In}
-use Rattle.minors.proofs.Weights.{Weights, weights-weaken}
-use Rattle.minors.proofs.Entries.{scaled-product, product-positive}
+use Rattle.words.proofs.Steps.{Weights, weights-weaken}
+use Rattle.minors.proofs.Entries.{scaled-product, entryProduct-positive}
 
 module _ (K : CRing) (O : Ordered K) where
   open CRing K using (R, 𝟘, 𝟙, mul as _*_)
@@ -56,10 +55,10 @@ module _ (K : CRing) (O : Ordered K) where
   -- scaling by f (e i), all positive
   module _ (f : R → R) (e : ℕ → R) (S : RowSet) (h : (i : ℕ) → In (length S) i → Pos (f (e i))) where
     scaled-nonnegative : (x : R) → NonNegative K O x → NonNegative K O (scaled F (λ y z. y * f z) e S x)
-    scaled-nonnegative x p = subst (NonNegative K O) (sym (scaled-product K O f e S x)) (nonnegative-mul K O _ _ p (positive (product-positive K O (λ i. f (e i)) S h)))
+    scaled-nonnegative x p = subst (NonNegative K O) (sym (scaled-product K O f e S x)) (nonnegative-mul K O _ _ p (positive (entryProduct-positive K O (λ i. f (e i)) S h)))
 
     scaled-positive : (x : R) → Pos x → Pos (scaled F (λ y z. y * f z) e S x)
-    scaled-positive x p = subst Pos (sym (scaled-product K O f e S x)) (pos-mul _ _ p (product-positive K O (λ i. f (e i)) S h))
+    scaled-positive x p = subst Pos (sym (scaled-product K O f e S x)) (pos-mul _ _ p (entryProduct-positive K O (λ i. f (e i)) S h))
 
   pub act-nonnegative : (n : ℕ) (l : Letter R) (ω : State F) → KeepsSign n l → NonNegatives n ω → NonNegatives n (act F l ω)
   unfolding act

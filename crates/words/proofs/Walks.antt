@@ -9,7 +9,7 @@ use Rattle.fraction.specs.Arithmetic.{Arithmetic}
 use Rattle.words.specs.RowSet.{RowSet, has, replaced}
 use Rattle.words.specs.Word.{Letter, E, Et, D, Dinv, Word}
 use Rattle.words.specs.Walk.{State, oneAt, moved, movedIf, scaled, act, walk, minor, carryLetter, carry}
-use Rattle.words.proofs.RowSets.{has-top, has-under, length-replaced, replaced-under, replaced-down, replaced-up}
+use Rattle.words.proofs.RowSets.{equal-same, has-top, has-under, length-replaced, replaced-under, replaced-down, replaced-up}
 
 -- A letter has its rows among 1 .. n, and so has a word's every letter.
 abbrev pub Rows : {A : Type 0} → ℕ → Letter A → Type 0
@@ -42,6 +42,11 @@ module _ (K : Arithmetic) where
   unfolding carry
   carry-append [] W v = refl
   carry-append (l ∷ U) W v = ap (carryLetter K l) (carry-append U W v)
+
+  -- the start, at its own set
+  pub oneAt-same : (S : RowSet) → oneAt K S S ≡ K .one
+  unfolding oneAt
+  oneAt-same S = ap (λ t. cond t (K .one) (K .zero)) (equal-same S)
 
   -- what a move does where neither of its rows is the highest
   pub moved-under : (a o : ℕ) (w : Num) (ω : State K) (x : Bool) (S : RowSet) → a ≤ length S → o ≤ length S
