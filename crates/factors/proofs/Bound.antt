@@ -14,34 +14,21 @@ use Rattle.words.specs.Word.{Factors, Word}
 use Rattle.words.specs.Walk.{minor}
 use Rattle.words.specs.Operation.{Step, step, joinedWord, refactored, boundOf, eachStep, eachSteps}
 use Rattle.words.proofs.Chosen.{length-among}
-use Rattle.words.proofs.Steps.{Source, Sources, sources-map}
+use Rattle.words.proofs.Steps.{sources-map}
 use Rattle.words.proofs.Alike.{letters-joined, alike-each}
-use Rattle.words.proofs.Counts.{joined-cost}
+use Rattle.words.proofs.Counts.{joined-cost, joined-square, row-square}
+use Rattle.words.proofs.Exponents.{runReach}
 use Rattle.minors.specs.Matrix.{In}
 use Rattle.factors.specs.Demand.{Accepted}
 use Rattle.factors.proofs.Near.{Near, near-more, near-stored}
 use Rattle.factors.proofs.Error.{NearWeight, NearEntry, roundings, exponents, minor-near, factor-near}
 use Rattle.factors.proofs.Exact.{AcceptedSteps, exact-minor-positive}
-
--- stored sources
-abbrev pub StoredStep : ℕ → Step Number → Type 0
-StoredStep = Source Stored
-
-abbrev pub StoredSteps : ℕ → List (Step Number) → Type 0
-StoredSteps = Sources Stored
+pub use Rattle.words.proofs.Exponents.{StoredStep, StoredSteps}
 
 pub stored-positive : (a : Number) → Stored a → 0 < value a .top
 stored-positive a s = value-positive a .0 (omega (arith, s .low))
 
--- what the sources' squares and the letters come to
-row-square : (n : ℕ) → 1 ≤ n → n ≤ n * n
-row-square n l = let h : 1 * n ≤ n * n = mul-le-mul l (let z : n ≤ n = omega arith in z) in omega arith
-
-letters-square : (m n : ℕ) → 1 ≤ n → m * (1035 * (n * n - n) + n * 1035) ≡ 1035 * (m * (n * n))
-letters-square m n l =
-    let e : 1035 * (n * n - n) + n * 1035 ≡ 1035 * (n * n) = omega (arith, row-square n l) in
-    ap (λ (z : ℕ). m * z) e ∙ omega arith
-
+-- four minors, two products and a quotient
 letters-bound : (m n : ℕ) → 1 ≤ n → 4 * (m * ((2 + 0) * (n * n - n) + n * (1 + 0))) + 3 ≡ boundOf m n
 letters-bound m n l =
     let e : (2 + 0) * (n * n - n) + n * (1 + 0) ≡ 2 * n * n - n = omega (arith, row-square n l) in
@@ -60,12 +47,12 @@ module _ (n : ℕ) where
     abbrev W : Word Number
     W = joinedWord n (s ∷ L)
 
-    reach-is : exponents 0 n W ≡ 31 + 1035 * (suc (length L) * (n * n))
-    reach-is = ap (λ (z : ℕ). 31 + z) (joined-cost 1035 (n * 1035) n (s ∷ L) some ∙ letters-square (suc (length L)) n some)
+    reach-is : exponents 0 n W ≡ runReach (suc (length L)) n
+    reach-is = ap (λ (z : ℕ). 31 + z) (joined-square 1035 n (s ∷ L) some)
 
     -- A MINOR, at any sets
     pub joined-minor-near : (I J : RowSet) → length I ≡ n
-        → Near (roundings 0 n W) (31 + 1035 * (suc (length L) * (n * n))) (minor rounded W I J) (minor exact (joinedWord n (eachSteps value (s ∷ L))) I J)
+        → Near (roundings 0 n W) (runReach (suc (length L)) n) (minor rounded W I J) (minor exact (joinedWord n (eachSteps value (s ∷ L))) I J)
     joined-minor-near I J i =
         near-more (omega arith) (omega (arith, reach-is))
         (minor-near 0 n W (joinedWord n (eachSteps value (s ∷ L))) (letters-joined (NearWeight 0) (NearEntry 0) n (s ∷ L) (eachSteps value (s ∷ L))
@@ -74,12 +61,12 @@ module _ (n : ℕ) where
 
     -- A NEW FACTOR
     pub refactored-near : (P Q : RowSet) → length P ≡ n → length Q ≡ n → count Q ≡ count P → (i j : ℕ) → In (count P) i → In (count P) j
-        → Near (boundOf (suc (length L)) n) (4 * (31 + 1035 * (suc (length L) * (n * n))) + 98)
+        → Near (boundOf (suc (length L)) n) (4 * runReach (suc (length L)) n + 98)
         (refactored rounded n (s ∷ L) P Q i j) (refactored exact n (eachSteps value (s ∷ L)) P Q i j)
     unfolding refactored
     refactored-near P Q p q e i j x y =
         near-more (omega (arith, ap (λ (z : ℕ). 4 * z + 3) (joined-cost (2 + 0) (n * (1 + 0)) n (s ∷ L) some), letters-bound (suc (length L)) n some)) (omega arith)
-        (factor-near (roundings 0 n W) (31 + 1035 * (suc (length L) * (n * n))) (count P) (omega arith) _ _
+        (factor-near (roundings 0 n W) (runReach (suc (length L)) n) (count P) (omega arith) _ _
         (λ I J u v w. (
           joined-minor-near (among P I) (among Q J) (length-among P I u ∙ p),
           exact-minor-positive n (eachStep value s) (eachSteps value L) (steps-accepted (s ∷ L) stored) P Q p q e I J u v w,

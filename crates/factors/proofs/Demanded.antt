@@ -14,6 +14,7 @@ use Rattle.words.specs.Word.{Factors, ascending}
 use Rattle.words.specs.Operation.{Step, step, plain, inverted, conversed, Operation, product, inverse, converse, submatrix, steps, keptRows, keptColumns, size, boundOf, bound, rowByRow, refactored, result, eachSteps}
 use Rattle.words.proofs.RowSets.{length-rows}
 use Rattle.words.proofs.Steps.{Sources}
+use Rattle.words.proofs.Exponents.{runReach}
 use Rattle.minors.specs.Matrix.{In, Equal}
 use Rattle.factors.specs.Demand.{Each, Proper, Accepted, product-of, Factored, exactly, Demand}
 use Rattle.factors.proofs.Exact.{exact-positive, exact-only}
@@ -64,13 +65,13 @@ module _ (n : ℕ) where
 
     -- how far a rounded factor's exponent reaches
     abbrev pub reachOf : Operation Number → ℕ
-    reachOf o = 4 * (31 + 1035 * (length (steps o) * (n * n))) + 98
+    reachOf o = 4 * runReach (length (steps o)) n + 98
 
     steps-near : (o : Operation Number) → Proper Stored n o → (i j : ℕ) → In (size n o) i → In (size n o) j
         → Near (bound n o) (reachOf o) (result rounded n o i j) (refactored exact n (eachSteps value (steps o)) (keptRows n o) (keptColumns n o) i j)
     steps-near = on-steps Stored n
         (λ L I J. (i j : ℕ) → In (count I) i → In (count I) j
-        → Near (boundOf (length L) n) (4 * (31 + 1035 * (length L * (n * n))) + 98) (refactored rounded n L I J i j) (refactored exact n (eachSteps value L) I J i j))
+        → Near (boundOf (length L) n) (4 * runReach (length L) n + 98) (refactored rounded n L I J i j) (refactored exact n (eachSteps value L) I J i j))
         (λ s L two h. refactored-near n s L h some (omega (arith, mul-le-mul two square)))
 
     pub result-near : (o : Operation Number) → Proper Stored n o → (i j : ℕ) → In (size n o) i → In (size n o) j → Near (bound n o) (reachOf o) (result rounded n o i j) (result exact n (exactly o) i j)

@@ -1,5 +1,6 @@
--- Words whose letters correspond one by one (`Each P`): the word of a matrix (each-word), words joined (each-append, each-behind), the inverse's word and the converse's
+-- Words whose letters correspond one by one (`Each P`): the word of a matrix (each-word), words joined (each-append), the inverse's word and the converse's
 -- (each-inverse, each-converse). So the words of steps whose sources are alike (Alike, AlikeSteps): letters-joined. Steps are alike in other numbers (alike-each).
+-- A word corresponds to itself in its weights and entries (letters-self).
 use mathlib.Core.Path.{_≡_, refl, sym, ap, ap₂, _∙_, subst}
 use mathlib.Core.List.{List, [], _∷_, _++_}
 use Prim.Native.Nat.{ℕ, zero, suc, _+_, _-_, _*_, _≤_, _<_}
@@ -7,18 +8,14 @@ use native.Mathlib.Omega.{arith}
 use lib.ListN.{length}
 use Rattle.words.specs.Word.{Factors, Letter, E, Et, D, Dinv, Word, ascending, descending, forUp, forDown, word, inverseLetter, inverseWord, converseLetter, converseWord, exchanged}
 use Rattle.words.specs.Operation.{Way, plain, inverted, conversed, transposed, Step, step, stepWord, joinedWord, eachSteps}
+use Rattle.words.proofs.Walks.{All}
+use Rattle.words.proofs.Steps.{Sources, Weights}
 use Rattle.words.proofs.Related.{Each, Letters}
-use Rattle.words.proofs.Steps.{Sources}
 
 module _ {A B : Type 0} (P : Letter A → Letter B → Type 0) where
   pub each-append : (U : Word A) (X : Word B) (U′ : Word A) (X′ : Word B) → Each P U X → Each P U′ X′ → Each P (U ++ U′) (X ++ X′)
   each-append [] [] U′ X′ h g = g
   each-append (x ∷ U) (y ∷ X) U′ X′ h g = (h .0, each-append U X U′ X′ (h .1) g)
-
-  -- what stands behind some letters
-  pub each-behind : (U W : Word A) (X : Word B) → Each P (U ++ W) X → (Y : Word B) × Each P W Y
-  each-behind [] W X h = (X, h)
-  each-behind (x ∷ U) W (y ∷ X) h = each-behind U W X (h .1)
 
   each-ascending : (a c : ℕ) (f : ℕ → Word A) (g : ℕ → Word B) → ((i : ℕ) → a ≤ i → i < a + c → Each P (f i) (g i)) → Each P (ascending a c f) (ascending a c g)
   unfolding ascending
@@ -61,6 +58,14 @@ module _ {A B : Type 0} (P : Letter A → Letter B → Type 0) where
   unfolding converseWord
   each-converse n h [] [] g = tt
   each-converse n h (x ∷ U) (y ∷ X) g = (h x y (g .0), each-converse n h U X (g .1))
+
+-- A WORD AND ITSELF, where only the weights and entries of one side are looked at
+pub letters-self : {A : Type 0} (P Q : A → Type 0) (n : ℕ) (W : Word A) → All (Weights P Q n) W → Each (Letters (λ w v. P w) (λ e f. Q e) n) W W
+letters-self P Q n [] h = tt
+letters-self P Q n (E j w ∷ W) h = ((refl, h .0), letters-self P Q n W (h .1))
+letters-self P Q n (Et j w ∷ W) h = ((refl, h .0), letters-self P Q n W (h .1))
+letters-self P Q n (D e ∷ W) h = (λ i x y. h .0 i (x, y), letters-self P Q n W (h .1))
+letters-self P Q n (Dinv e ∷ W) h = (λ i x y. h .0 i (x, y), letters-self P Q n W (h .1))
 
 -- THE WORDS OF STEPS whose factors are related, by P off the diagonal and by Q on it
 module _ {A B : Type 0} (P Q : A → B → Type 0) (n : ℕ) where

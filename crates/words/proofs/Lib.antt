@@ -10,3 +10,4 @@ pub mod Related
 pub mod Alike
 pub mod Counts
 pub mod Formulas
+pub mod Exponents

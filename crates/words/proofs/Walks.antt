@@ -26,6 +26,10 @@ pub all-append : {A : Type 0} (P : Letter A → Type 0) (U W : Word A) → All P
 all-append P [] W u w = w
 all-append P (l ∷ U) W u w = (u .0, all-append P U W (u .1) w)
 
+pub all-behind : {A : Type 0} (P : Letter A → Type 0) (U W : Word A) → All P (U ++ W) → All P W
+all-behind P [] W h = h
+all-behind P (l ∷ U) W h = all-behind P U W (h .1)
+
 -- the states on the sets whose highest row is in (true), or not in (false)
 abbrev pub under : {A : Type 0} → Bool → (RowSet → A) → RowSet → A
 under x ω S = ω (x ∷ S)
