@@ -11,3 +11,4 @@ pub mod Alike
 pub mod Counts
 pub mod Formulas
 pub mod Exponents
+pub mod Examples
