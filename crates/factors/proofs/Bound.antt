@@ -1,18 +1,17 @@
 -- THE BOUND: the new factors of m stored sources of n rows, rounded and exact, are within 4 m (2n² - n) + 3 (refactored-near), with exponents that the numbers allow.
-use mathlib.Core.Path.{_≡_, refl, sym, ap, ap₂, _∙_, subst}
-use mathlib.Core.List.{List, [], _∷_}
-use Prim.Native.Nat.{ℕ, zero, suc, _+_, _-_, _*_, _≤_, _<_}
-use native.Mathlib.Nat.{mul-le-mul}
+use mathlib.Core.Path.{_≡_, ap, _∙_}
+use mathlib.Core.List.{List, _∷_}
+use Prim.Native.Nat.{ℕ, suc, _+_, _-_, _*_, _≤_, _<_}
 use native.Mathlib.Omega.{arith}
 use lib.ListN.{length}
-use Rattle.fraction.specs.Fraction.{Fraction, exact}
+use Rattle.fraction.specs.Fraction.{exact}
 use Rattle.number.specs.declared.Number.{Number}
-use Rattle.number.specs.Number.{bias, rounded, value, Stored}
+use Rattle.number.specs.Number.{rounded, value, Stored}
 use Rattle.number.proofs.Value.{value-positive}
 use Rattle.words.specs.RowSet.{RowSet, count, among}
-use Rattle.words.specs.Word.{Factors, Word}
+use Rattle.words.specs.Word.{Word}
 use Rattle.words.specs.Walk.{minor}
-use Rattle.words.specs.Operation.{Step, step, joinedWord, refactored, boundOf, eachStep, eachSteps}
+use Rattle.words.specs.Operation.{Step, joinedWord, refactored, boundOf, eachStep, eachSteps}
 use Rattle.words.proofs.Chosen.{length-among}
 use Rattle.words.proofs.Steps.{sources-map}
 use Rattle.words.proofs.Alike.{letters-joined, alike-each}

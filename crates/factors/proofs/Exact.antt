@@ -1,25 +1,25 @@
 -- THE EXACT RUN in fractions beside the rational numbers: each fraction of the run stands for the number of the mathematics (refactored-rational); so its factors are positive (exact-positive),
 -- multiply out (exact-multiplied), and are the only ones (exact-only).
-use mathlib.Core.Path.{_≡_, refl, sym, ap, ap₂, _∙_, subst}
-use mathlib.Core.List.{List, [], _∷_}
-use Prim.Native.Nat.{ℕ, zero, suc, _≤_, _<_}
+use mathlib.Core.Path.{_≡_, refl, sym, ap₂, _∙_, subst}
+use mathlib.Core.List.{List, _∷_}
+use Prim.Native.Nat.{ℕ, _<_}
 use lib.ListN.{length}
 use Rattle.fraction.specs.Arithmetic.{Arithmetic}
-use Rattle.fraction.specs.Fraction.{Fraction, Same, whole, sum, product, quotient, exact}
+use Rattle.fraction.specs.Fraction.{Fraction, Same, product, exact}
 use Rattle.fraction.specs.Ring.{arithmetic}
 use Rattle.fraction.specs.Rational.{rationals, rationals-ordered, rational}
 use Rattle.fraction.proofs.Fraction.{product-positive}
 use Rattle.fraction.proofs.Rational.{same-rational, rational-zero, rational-one, rational-sum, rational-product, rational-quotient, positive-rational}
 use Rattle.words.specs.RowSet.{RowSet, count, among}
-use Rattle.words.specs.Word.{Factors, Word}
+use Rattle.words.specs.Word.{Factors}
 use Rattle.words.specs.Walk.{minor}
-use Rattle.words.specs.Operation.{Step, step, joinedWord, refactored, eachFactor, eachStep, eachSteps}
+use Rattle.words.specs.Operation.{Step, joinedWord, refactored, eachFactor, eachStep, eachSteps}
 use Rattle.words.proofs.Chosen.{length-among}
 use Rattle.words.proofs.Related.{Related, minor-related}
 use Rattle.words.proofs.Steps.{Source, Sources, sources-map}
 use Rattle.words.proofs.Alike.{letters-joined, alike-each}
 use Rattle.words.proofs.Formulas.{newFactor-related}
-use Rattle.minors.specs.Matrix.{In, Matrix, Equal, submatrixOf, wordMatrix, multiplied, Positive}
+use Rattle.minors.specs.Matrix.{In, Equal, submatrixOf, wordMatrix}
 use Rattle.minors.proofs.Positive.{PositiveSteps}
 use Rattle.factors.specs.Demand.{Each, Accepted, product-of}
 use Rattle.factors.proofs.Refactored.{multiplied-equal, minor-positive, refactored-positive, refactored-multiplied, refactored-unique}

@@ -1,14 +1,13 @@
 -- THE FACTOR THEOREM FOR JOINED WORDS: the new factors of joined steps, at chosen rows and columns, are positive (refactored-positive), multiply out to the chosen entries
 -- of the word's matrix (refactored-multiplied), and are the only positive ones that do (refactored-unique).
 use mathlib.Core.Path.{_≡_, refl, sym, ap, ap₂, _∙_, subst}
-use mathlib.Core.Bool.{Bool, true, false, cond, _&&_}
+use mathlib.Core.Bool.{cond}
 use mathlib.Core.List.{List, [], _∷_}
-use Prim.Native.Nat.{ℕ, zero, suc, _≤_, _-_}
-use native.Mathlib.Omega.{arith}
+use Prim.Native.Nat.{ℕ}
 use lib.Dec.{eqb}
 use lib.ListN.{length}
 use Rattle.fraction.specs.Ring.{CRing, Ordered, arithmetic}
-use Rattle.words.specs.RowSet.{RowSet, rows, count, among}
+use Rattle.words.specs.RowSet.{RowSet, count, among}
 use Rattle.words.specs.Word.{Factors, Letter, E, Et, D, Dinv, Word, word}
 use Rattle.words.specs.Walk.{minor}
 use Rattle.words.specs.Formula.{newFactor}
@@ -17,7 +16,7 @@ use Rattle.words.proofs.RowSets.{length-rows}
 use Rattle.words.proofs.Chosen.{length-among, count-among, chosen-in}
 use Rattle.words.proofs.Steps.{joined-rows}
 use Rattle.words.proofs.Related.{Each, Letters}
-use Rattle.words.proofs.Alike.{Alike, letters-word}
+use Rattle.words.proofs.Alike.{letters-word}
 use Rattle.minors.specs.Matrix.{In, Matrix, Equal, submatrixOf, chosen, letterMatrix, wordMatrix, multiplied, Positive}
 use Rattle.minors.proofs.Products.{times-equal}
 use Rattle.minors.proofs.Determinant.{determinant, matrixOf, minor-determinant, determinant-equal, determinant-among}

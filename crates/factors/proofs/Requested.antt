@@ -1,26 +1,25 @@
 -- THE REQUESTED MATRIX: the exact factors of product, re-signed inverse, converse and submatrix multiply out to it (exact-requested).
 use mathlib.Core.Path.{_≡_, refl, sym, ap, ap₂, _∙_, subst}
 use mathlib.Core.List.{List, [], _∷_}
-use Prim.Native.Nat.{ℕ, _≤_, _-_, _+_ as _+ℕ_}
-use native.Mathlib.Omega.{arith}
+use Prim.Native.Nat.{ℕ, _+_ as _+ℕ_}
 use lib.ListN.{length}
 use Rattle.fraction.specs.Fraction.{Fraction, exact}
 use Rattle.fraction.specs.Ring.{CRing, Ordered}
 use Rattle.fraction.specs.Rational.{rationals, rationals-ordered, rational}
 use Rattle.fraction.proofs.Ring.{*-assoc, one-*}
-use Rattle.words.specs.RowSet.{RowSet, rows, count}
-use Rattle.words.specs.Word.{Factors, Word, word, inverseWord}
-use Rattle.words.specs.Operation.{Step, step, plain, inverted, conversed, joinedWord, refactored, Operation, product, inverse, converse, submatrix, steps, keptRows, keptColumns, size, result, eachFactor, eachStep, eachSteps, eachSource}
+use Rattle.words.specs.RowSet.{rows, count}
+use Rattle.words.specs.Word.{Factors, word, inverseWord}
+use Rattle.words.specs.Operation.{Step, step, plain, inverted, conversed, joinedWord, refactored, Operation, product, inverse, converse, submatrix, size, result, eachFactor, eachSteps, eachSource}
 use Rattle.words.proofs.RowSets.{length-rows}
 use Rattle.words.proofs.Chosen.{count-all, chosen-all}
 use Rattle.words.proofs.Stages.{word-rows}
-use Rattle.minors.specs.Matrix.{In, Matrix, Equal, identity, times, sign, resigned, chosen, submatrixOf, wordMatrix, multiplied, Positive}
+use Rattle.minors.specs.Matrix.{In, Matrix, Equal, identity, times, sign, resigned, wordMatrix, multiplied, Positive}
 use Rattle.minors.proofs.Products.{times-equal-left, times-equal-right}
 use Rattle.minors.proofs.Complement.{word-diagonal}
 use Rattle.minors.proofs.Multiply.{wordMatrix-converse, joined-multiplied}
 use Rattle.minors.proofs.Inverse.{inverse-unique, inverse-left, inverse-right, sign-square}
 use Rattle.factors.specs.Requested.{ResignedInverse, Requested}
-use Rattle.factors.specs.Demand.{Each, Proper, Accepted, product-of}
+use Rattle.factors.specs.Demand.{Proper, Accepted, product-of}
 use Rattle.factors.proofs.Exact.{AcceptedSteps, exact-multiplied}
 
 -- THE RE-SIGNED INVERSE: the matrix of the inverse's word is it

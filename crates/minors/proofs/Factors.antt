@@ -1,9 +1,7 @@
 -- THE FACTOR THEOREM. A matrix with positive initial minors is what its new factors multiply out to (factors-multiplied), these are positive (factors-positive),
 -- and no other positive factors multiply out to it (factors-unique).
-use mathlib.Core.Path.{_≡_, refl, sym, ap, ap₂, _∙_, subst, subst₂}
-use mathlib.Core.Bool.{Bool, true, false}
-use mathlib.Core.List.{List, [], _∷_}
-use Prim.Native.Nat.{ℕ, zero, suc, _≤_, _<_, _-_, min, _+_ as _+ℕ_}
+use mathlib.Core.Path.{_≡_, sym, ap, ap₂, _∙_, subst, subst₂}
+use Prim.Native.Nat.{ℕ, zero, suc, _≤_, _-_, min, _+_ as _+ℕ_}
 use native.Mathlib.Decide.{decLe}
 use native.Mathlib.Omega.{arith}
 use lib.ListN.{length}
@@ -22,7 +20,7 @@ use Rattle.minors.proofs.Determinant.{determinant, matrixOf, minor-dete
 use Rattle.minors.proofs.Determined.{initial, initial-determined}
 use Rattle.minors.proofs.Recovery.{diagonalProduct, blockProduct, recovery-below, recovery-above}
 use Rattle.minors.proofs.Multiply.{wordMatrix-carried}
-use Rattle.minors.proofs.Ratios.{ratioOf, lower, upper, factor-below, factor-above, all-pos, ratio-pos, block-solves, block-ratios}
+use Rattle.minors.proofs.Ratios.{ratioOf, lower, upper, factor-below, factor-above, ratio-pos, block-solves, block-ratios}
 
 -- what holds below the diagonal, on it and above it holds everywhere
 by-place : (n : ℕ) (P : ℕ → ℕ → Type 0) → ((r t : ℕ) → r +ℕ suc t ≤ n → P (suc t +ℕ r) (suc t)) → ((r t : ℕ) → r +ℕ suc t ≤ n → P (suc t) (suc t +ℕ r))

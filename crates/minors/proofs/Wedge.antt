@@ -1,7 +1,7 @@
 -- The wedge of a vector and a form on row sets, and forms that are iterated wedges (wedges): linear in the form (wedge-add, wedge-mul),
 -- a function of the rows of the set (wedge-agree), zero where every product is (wedge-zero), and compatible with a diagonal (wedge-diagonal).
 use mathlib.Core.Path.{_≡_, refl, sym, ap, ap₂, _∙_}
-use mathlib.Core.Bool.{Bool, true, false}
+use mathlib.Core.Bool.{true, false}
 use mathlib.Core.List.{List, [], _∷_}
 use Prim.Native.Nat.{ℕ, suc}
 use lib.ListN.{length}

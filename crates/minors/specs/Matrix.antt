@@ -1,7 +1,7 @@
 -- Matrices over a ring, and what a word's letters multiply out to (document 01, "The matrix and its letters"). Rows and columns count from 1.
 use mathlib.Core.Path.{_≡_}
-use mathlib.Core.Bool.{Bool, cond, _&&_}
-use mathlib.Core.List.{List, [], _∷_}
+use mathlib.Core.Bool.{cond, _&&_}
+use mathlib.Core.List.{[], _∷_}
 use Prim.Native.Nat.{ℕ, zero, suc, _-_, _+_ as _+ℕ_}
 use lib.Dec.{eqb}
 use Rattle.fraction.specs.Ring.{CRing, Ordered}

@@ -1,12 +1,11 @@
 -- Words whose letters correspond one by one (`Each P`): the word of a matrix (each-word), words joined (each-append), the inverse's word and the converse's
 -- (each-inverse, each-converse). So the words of steps whose sources are alike (Alike, AlikeSteps): letters-joined. Steps are alike in other numbers (alike-each).
 -- A word corresponds to itself in its weights and entries (letters-self).
-use mathlib.Core.Path.{_≡_, refl, sym, ap, ap₂, _∙_, subst}
+use mathlib.Core.Path.{_≡_, refl, sym, ap}
 use mathlib.Core.List.{List, [], _∷_, _++_}
-use Prim.Native.Nat.{ℕ, zero, suc, _+_, _-_, _*_, _≤_, _<_}
+use Prim.Native.Nat.{ℕ, zero, suc, _+_, _-_, _≤_, _<_}
 use native.Mathlib.Omega.{arith}
-use lib.ListN.{length}
-use Rattle.words.specs.Word.{Factors, Letter, E, Et, D, Dinv, Word, ascending, descending, forUp, forDown, word, inverseLetter, inverseWord, converseLetter, converseWord, exchanged}
+use Rattle.words.specs.Word.{Factors, Letter, E, Et, D, Dinv, Word, ascending, descending, forUp, word, inverseLetter, inverseWord, converseLetter, converseWord, exchanged}
 use Rattle.words.specs.Operation.{Way, plain, inverted, conversed, transposed, Step, step, stepWord, joinedWord, eachSteps}
 use Rattle.words.proofs.Walks.{All}
 use Rattle.words.proofs.Steps.{Sources, Weights}

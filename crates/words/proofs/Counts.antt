@@ -8,7 +8,7 @@ use native.Mathlib.Omega.{arith}
 use lib.ListN.{length}
 use Rattle.words.specs.Word.{Factors, Letter, E, Et, D, Dinv, Word, ascending, descending, forUp, forDown, word, inverseLetter, inverseWord, converseLetter, converseWord, exchanged}
 use Rattle.words.proofs.Related.{total, letterCost}
-use Rattle.words.specs.Operation.{Way, plain, inverted, conversed, transposed, Step, step, stepWord, joinedWord}
+use Rattle.words.specs.Operation.{plain, inverted, conversed, transposed, Step, step, stepWord, joinedWord}
 
 -- twice the two halves of a word of n = k + 1 rows, and D
 halves : (e d x y k n : ℕ) → n ≡ suc k → 2 * x + e * k ≡ e * k * (2 * 1 + k) → 2 * y ≡ e * k * (k + 1) → x + (d + y) ≡ e * (n * n - n) + d

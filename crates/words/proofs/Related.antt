@@ -1,10 +1,10 @@
 -- THE GRADED WALK LEMMA: a relation between the numbers of two arithmetics that a letter keeps is kept by a walk (walk-related), and by a minor (minor-related).
 -- The relation is graded, as by an error so far: a letter E or Et takes a grade to another, and so does each entry of D that is multiplied or divided by.
 -- Instances: rounded numbers within so many unit roundings of fractions; exponents that reach so far; fractions that stand for elements of a ring.
-use mathlib.Core.Path.{_≡_, refl, sym, ap, ap₂, _∙_, subst}
+use mathlib.Core.Path.{_≡_, refl, ap, _∙_, subst}
 use mathlib.Core.Bool.{Bool, true, false, not, cond, _&&_}
-use mathlib.Core.List.{List, [], _∷_, _++_}
-use Prim.Native.Nat.{ℕ, zero, suc, _+_, _-_, _*_, _≤_, _<_}
+use mathlib.Core.List.{[], _∷_, _++_}
+use Prim.Native.Nat.{ℕ, zero, suc, _+_, _-_, _*_, _≤_}
 use native.Mathlib.Omega.{arith}
 use lib.ListN.{length}
 use Rattle.fraction.specs.Arithmetic.{Arithmetic}

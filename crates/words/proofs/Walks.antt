@@ -1,15 +1,15 @@
 -- Laws of the walk over any arithmetic: words joined (walk-append), letters under the highest row (act-under), and at the two highest rows (raise-top, lower-top).
-use mathlib.Core.Path.{_≡_, refl, sym, ap, ap₂, _∙_, subst, fun-ext}
+use mathlib.Core.Path.{_≡_, refl, ap, ap₂, _∙_}
 use mathlib.Core.Bool.{Bool, true, false, not, cond, _&&_}
-use mathlib.Core.List.{List, [], _∷_, _++_}
-use Prim.Native.Nat.{ℕ, zero, suc, _-_, _≤_, _<_}
+use mathlib.Core.List.{[], _∷_, _++_}
+use Prim.Native.Nat.{ℕ, zero, suc, _-_, _≤_}
 use native.Mathlib.Omega.{arith}
 use lib.ListN.{length}
 use Rattle.fraction.specs.Arithmetic.{Arithmetic}
-use Rattle.words.specs.RowSet.{RowSet, has, replaced}
+use Rattle.words.specs.RowSet.{RowSet, has}
 use Rattle.words.specs.Word.{Letter, E, Et, D, Dinv, Word}
-use Rattle.words.specs.Walk.{State, oneAt, moved, movedIf, scaled, act, walk, minor, carryLetter, carry}
-use Rattle.words.proofs.RowSets.{equal-same, has-top, has-under, length-replaced, replaced-under, replaced-down, replaced-up}
+use Rattle.words.specs.Walk.{State, oneAt, moved, movedIf, scaled, act, walk, carryLetter, carry}
+use Rattle.words.proofs.RowSets.{equal-same, has-top, has-under, replaced-under, replaced-down, replaced-up}
 
 -- A letter has its rows among 1 .. n, and so has a word's every letter.
 abbrev pub Rows : {A : Type 0} → ℕ → Letter A → Type 0

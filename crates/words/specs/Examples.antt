@@ -8,7 +8,7 @@ use Rattle.number.specs.Number.{oneNumber, rounded}
 use Rattle.number.specs.declared.signed.Signed.{Signed}
 use Rattle.number.specs.Signed.{plain, zeroSigned, signedArithmetic}
 use Rattle.number.specs.Examples.{Row, row, down}
-use Rattle.words.specs.RowSet.{RowSet, ofMask}
+use Rattle.words.specs.RowSet.{ofMask}
 use Rattle.words.specs.Word.{Factors, word, forUp}
 use Rattle.words.specs.Walk.{minor, carry}
 use Rattle.words.specs.Operation.{Operation, product, inverse, converse, submatrix, size, bound, rowByRow, result}
