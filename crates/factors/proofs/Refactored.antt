@@ -26,7 +26,7 @@ use Rattle.minors.proofs.Positive.{PositiveSteps, joined-positive}
 use Rattle.minors.proofs.Factors.{factors-equal, factors-positive, factors-multiplied, factors-unique, initial-counts}
 
 module _ (K : CRing) (O : Ordered K) where
-  open CRing K using (R, mul as _*_)
+  open CRing K using (R)
 
   -- words with equal letters have equal matrices
   letter-equal : (n : ℕ) (x y : Letter R) → Letters _≡_ _≡_ n x y → Equal K n (letterMatrix K O x) (letterMatrix K O y)

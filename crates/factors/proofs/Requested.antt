@@ -24,7 +24,7 @@ use Rattle.factors.proofs.Exact.{AcceptedSteps, exact-multiplied}
 
 -- THE RE-SIGNED INVERSE: the matrix of the inverse's word is it
 module _ (K : CRing) (O : Ordered K) where
-  open CRing K using (R, 𝟙, mul as _*_)
+  open CRing K using (R, mul as _*_)
 
   infixl 70 _*_
   signed-twice : (i : ℕ) (x y : R) → y ≡ sign K i * x → x ≡ sign K i * y

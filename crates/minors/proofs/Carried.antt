@@ -20,7 +20,7 @@ use Rattle.minors.proofs.Entries.{scaled-product}
 use Rattle.minors.proofs.Wedge.{SameEntries, wedge, empty, wedge-add, wedge-agree, wedge-diagonal, empty-diagonal}
 
 module _ (K : CRing) (O : Ordered K) where
-  open CRing K using (R, 𝟘, 𝟙, add as _+_, mul as _*_, neg)
+  open CRing K using (R, 𝟘, add as _+_, mul as _*_, neg)
 
   infixl 65 _+_
   infixl 70 _*_

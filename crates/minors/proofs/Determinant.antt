@@ -102,9 +102,8 @@ module _ (K : CRing) where
   determinant-zero-row M I (false ∷ J) h = determinant-zero-row M I J (λ j p. h j (in-under p))
 
 module _ (K : CRing) (O : Ordered K) where
-  open CRing K using (R, 𝟘, 𝟙, add as _+_, mul as _*_, neg)
+  open CRing K using (R, 𝟘, 𝟙, mul as _*_)
 
-  infixl 65 _+_
   infixl 70 _*_
   abbrev F : Arithmetic
   F = arithmetic K O
@@ -160,7 +159,7 @@ module _ (K : CRing) (O : Ordered K) where
       ∙ walk-determinant W (identity K) I J (subst (λ k. All (Rows k) W) (sym i) h)
 
 module _ (K : CRing) where
-  open CRing K using (R, 𝟘, 𝟙, add as _+_, mul as _*_, neg)
+  open CRing K using (R, 𝟙, add as _+_, mul as _*_, neg)
 
   infixl 65 _+_
   infixl 70 _*_

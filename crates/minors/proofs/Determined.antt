@@ -22,7 +22,7 @@ abbrev pub initial : (K : CRing) → ℕ → Matrix K → ℕ → ℕ → K .R
 initial K n M i j = determinant K M (rows n (suc i - j) i) (rows n (suc j - i) j)
 
 module _ (K : CRing) (O : Ordered K) where
-  open CRing K using (R, 𝟘, 𝟙, add as _+_, mul as _*_, neg)
+  open CRing K using (R, 𝟘, add as _+_, mul as _*_, neg)
   open Ordered O using (Pos)
 
   infixl 65 _+_

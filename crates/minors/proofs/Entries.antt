@@ -29,7 +29,7 @@ module _ (K : CRing) where
   wholeProduct v (suc n) = wholeProduct v n * v (suc n)
 
 module _ (K : CRing) (O : Ordered K) where
-  open CRing K using (R, 𝟙, mul as _*_)
+  open CRing K using (R, mul as _*_)
   open Ordered O using (Pos, pos-one, pos-mul)
 
   infixl 70 _*_

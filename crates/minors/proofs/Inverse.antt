@@ -108,10 +108,9 @@ module _ (K : CRing) where
       by false p = p
 
 module _ (K : CRing) (O : Ordered K) where
-  open CRing K using (R, 𝟘, 𝟙, add as _+_, mul as _*_, neg)
+  open CRing K using (R, 𝟙, mul as _*_, neg)
   open Ordered O using (Pos)
 
-  infixl 65 _+_
   infixl 70 _*_
   -- the letter whose matrix is the inverse: the inverse's letter, re-signed
   abbrev undone : Letter R → Letter R

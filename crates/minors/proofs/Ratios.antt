@@ -15,7 +15,7 @@ use Rattle.words.proofs.Formulas.{corner-is, corner-before, before-is}
 use Rattle.minors.proofs.Recovery.{blockProduct, block-ratio, block-diagonal, block-empty}
 
 module _ (K : CRing) (O : Ordered K) where
-  open CRing K using (R, 𝟘, 𝟙, mul as _*_)
+  open CRing K using (R, 𝟙, mul as _*_)
   open Ordered O using (Pos, pos-one, pos-mul, inv, inv-pos)
 
   infixl 70 _*_

@@ -32,7 +32,7 @@ transposed-word n b =
     ∙ sym (word-stages n (exchanged b))
 
 module _ (K : CRing) where
-  open CRing K using (R, 𝟘, 𝟙, add as _+_, mul as _*_)
+  open CRing K using (R, 𝟘, add as _+_, mul as _*_)
 
   infixl 65 _+_
   infixl 70 _*_
@@ -70,7 +70,7 @@ module _ (K : CRing) where
   pairing-zero (suc n) ω = ap₂ _+_ (pairing-zero n (under false ω)) (pairing-zero n (under true ω)) ∙ +-zero K _
 
 module _ (K : CRing) (O : Ordered K) where
-  open CRing K using (R, 𝟘, 𝟙, add as _+_, mul as _*_)
+  open CRing K using (R, add as _+_, mul as _*_)
 
   infixl 65 _+_
   infixl 70 _*_

@@ -35,7 +35,7 @@ abbrev pub under : {A : Type 0} → Bool → (RowSet → A) → RowSet → A
 under x ω S = ω (x ∷ S)
 
 module _ (K : Arithmetic) where
-  open Arithmetic K using (Num, add, mul, div)
+  open Arithmetic K using (Num, add, mul)
 
   pub walk-append : (U W : Word Num) (ω : State K) → walk K (U ++ W) ω ≡ walk K U (walk K W ω)
   unfolding walk
