@@ -1,11 +1,12 @@
--- The products of entries by which the letters D and Dinv scale a number (entryProduct, scaled-product): positive if the entries are (entryProduct-positive).
+-- The products of entries by which the letters D and Dinv scale a number (entryProduct, scaled-product): positive if the entries are (entryProduct-positive,
+-- wholeProduct-positive).
 use mathlib.Core.Path.{_≡_, sym, ap, _∙_}
 use mathlib.Core.Bool.{true, false}
 use mathlib.Core.List.{[], _∷_}
 use Prim.Native.Nat.{ℕ, zero, suc}
 use lib.ListN.{length}
 use Rattle.fraction.specs.Ring.{CRing, Ordered, arithmetic}
-use Rattle.fraction.proofs.Ring.{ring, *-one, *-assoc}
+use Rattle.fraction.proofs.Ring.{ring, *-one, *-assoc, zero-*}
 use Rattle.words.specs.RowSet.{In, RowSet}
 use Rattle.words.specs.Walk.{scaled}
 use Rattle.words.proofs.RowSets.{in-under, in-top}
@@ -29,7 +30,7 @@ module _ (K : CRing) where
   wholeProduct v (suc n) = wholeProduct v n * v (suc n)
 
 module _ (K : CRing) (O : Ordered K) where
-  open CRing K using (R, mul as _*_)
+  open CRing K using (R, 𝟘, mul as _*_)
   open Ordered O using (Pos, pos-one, pos-mul)
 
   infixl 70 _*_
@@ -39,6 +40,9 @@ module _ (K : CRing) (O : Ordered K) where
   scaled-product f e [] x = sym (*-one K x)
   scaled-product f e (true ∷ S) x = ap (λ y. y * f (e (suc (length S)))) (scaled-product f e S x) ∙ *-assoc K _ _ _
   scaled-product f e (false ∷ S) x = scaled-product f e S x
+
+  pub scaled-zero : (f : R → R) (e : ℕ → R) (S : RowSet) → scaled (arithmetic K O) (λ y z. y * f z) e S 𝟘 ≡ 𝟘
+  scaled-zero f e S = scaled-product f e S 𝟘 ∙ zero-* K _
 
   pub entryProduct-positive : (v : ℕ → R) (S : RowSet) → ((i : ℕ) → In (length S) i → Pos (v i)) → Pos (entryProduct K v S)
   unfolding entryProduct

@@ -10,7 +10,7 @@ use lib.ListN.{length}
 use borrow.Author.Tests.{le-leb, leb-true}
 use Rattle.fraction.specs.Arithmetic.{Arithmetic}
 use Rattle.fraction.specs.Ring.{CRing, Ordered, arithmetic}
-use Rattle.fraction.proofs.Ring.{ring, zero-*}
+use Rattle.fraction.proofs.Ring.{ring}
 use Rattle.words.specs.RowSet.{RowSet, has, replaced, rows}
 use Rattle.words.specs.Word.{Factors, Letter, E, Et, D, Dinv, Word}
 use Rattle.words.specs.Walk.{State, moved, movedIf, scaled, act, walk}
@@ -18,6 +18,7 @@ use Rattle.words.proofs.RowSets.{has-rows, length-replaced}
 use Rattle.words.proofs.Walks.{All, under, walk-append, raise-top}
 use Rattle.words.proofs.Words.{all-map}
 use Rattle.words.proofs.Stages.{stage, stages, stage-all, Raises, stage-under, stage-false}
+use Rattle.minors.proofs.Entries.{scaled-zero}
 
 -- S has a row above row m
 abbrev pub Above : ℕ → RowSet → Type 0
@@ -98,18 +99,12 @@ module _ (K : CRing) (O : Ordered K) where
       by true = zero-step w _ _ (h S s) (h (replaced a o S) (length-replaced a o S ∙ s))
       by false = h S s
 
-  pub scaled-zero : (op : R → R → R) → ((x : R) → op 𝟘 x ≡ 𝟘) → (e : ℕ → R) (S : RowSet) → scaled F op e S 𝟘 ≡ 𝟘
-  unfolding scaled
-  scaled-zero op h e [] = refl
-  scaled-zero op h e (false ∷ S) = scaled-zero op h e S
-  scaled-zero op h e (true ∷ S) = ap (λ x. op x (e (suc (length S)))) (scaled-zero op h e S) ∙ h _
-
   act-zero : (n : ℕ) (l : Letter R) (ω : RowSet → R) → Zero n ω → Zero n (act F l ω)
   unfolding act
   act-zero n (E j w) ω h = moved-zero n j (j - 1) w ω h
   act-zero n (Et j w) ω h = moved-zero n (j - 1) j w ω h
-  act-zero n (D e) ω h = λ S s. ap (scaled F _*_ e S) (h S s) ∙ scaled-zero _*_ (zero-* K) e S
-  act-zero n (Dinv e) ω h = λ S s. ap (scaled F (λ x y. x * O .inv y) e S) (h S s) ∙ scaled-zero (λ x y. x * O .inv y) (λ x. zero-* K _) e S
+  act-zero n (D e) ω h = λ S s. ap (scaled F _*_ e S) (h S s) ∙ scaled-zero K O (λ x. x) e S
+  act-zero n (Dinv e) ω h = λ S s. ap (scaled F (λ x y. x * O .inv y) e S) (h S s) ∙ scaled-zero K O (O .inv) e S
 
   pub walk-zero : (n : ℕ) (W : Word R) (ω : RowSet → R) → Zero n ω → Zero n (walk F W ω)
   unfolding walk

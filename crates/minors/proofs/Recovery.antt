@@ -17,7 +17,8 @@ use Rattle.words.proofs.RowSets.{length-rows}
 use Rattle.words.proofs.Runs.{rows-above, topped, length-topped, rows-run}
 use Rattle.words.proofs.Walks.{under, walk-append, oneAt-same, raise-top}
 use Rattle.words.proofs.Stages.{stage, stages, stages-zero, word-stages, stages-raises, stages-rows, stage-under, stages-false, word-rows}
-use Rattle.minors.proofs.Raising.{Above, Confined, scaled-zero, lowest-idle, stages-idle, stages-confined}
+use Rattle.minors.proofs.Entries.{scaled-zero}
+use Rattle.minors.proofs.Raising.{Above, Confined, lowest-idle, stages-idle, stages-confined}
 use Rattle.minors.proofs.Transpose.{transposedWord, transposed-word, minor-transposed}
 
 module _ (K : CRing) where
@@ -151,7 +152,7 @@ module _ (K : CRing) (O : Ordered K) where
       ap (λ W. walk F W (oneAt F J) I) (word-stages n b ∙ ap (λ L. L ++ U) (sym (stages-zero n b)))
       ∙ ap (λ η. η I) (walk-append F (stages n 0 n b) U (oneAt F J))
       ∙ lower-run (n - (j +ℕ r)) n r j b (walk F U (oneAt F J)) (omega arith)
-      (λ S s a. ap (scaled F _*_ (λ i. b i i) S) (upper-lowest n j (exchanged b) S s ∙ oneAt-above n j S s a) ∙ scaled-zero K O _*_ (zero-* K) (λ i. b i i) S)
+      (λ S s a. ap (scaled F _*_ (λ i. b i i) S) (upper-lowest n j (exchanged b) S s ∙ oneAt-above n j S s a) ∙ scaled-zero K O (λ x. x) (λ i. b i i) S)
       (ap (scaled F _*_ (λ i. b i i) J) (upper-lowest n j (exchanged b) J (length-rows n 1 j) ∙ oneAt-same F J) ∙ scaled-lowest n j b (omega arith))
     where
       I : RowSet

@@ -15,10 +15,9 @@ use Rattle.words.specs.RowSet.{In, RowSet, equal}
 use Rattle.words.specs.Word.{Word}
 use Rattle.words.specs.Walk.{State, oneAt, scaled, walk}
 use Rattle.words.specs.Operation.{Step, joinedWord}
-use Rattle.words.proofs.RowSets.{in-under, in-top}
 use Rattle.words.proofs.Walks.{All, all-behind}
 use Rattle.words.proofs.Steps.{Source, Sources, Weights, joined-weights}
-use Rattle.words.proofs.Related.{Related, total, letterCost, after, after-measure, walk-related}
+use Rattle.words.proofs.Related.{Related, repeated, total, letterCost, scaled-related, after, repeated-measure, after-measure, walk-related}
 use Rattle.words.proofs.Alike.{letters-self}
 use Rattle.words.proofs.Counts.{total-append, joined-square}
 
@@ -69,21 +68,20 @@ state-ranged n W h r ω start room S s =
     (walk-related rounded rounded ℕ RangedBy ranged-related n W W (letters-self Stored Stored n W h) r ω ω (λ T t room. start T t) S s (omega arith))
 
 -- WHILE D IS APPLIED: x multiplied, or divided, by the entries of some rows
-module _ (e : ℕ → Number) where
-  scaled-ranged : (op : Number → Number → Number) → ((r : ℕ) (x d : Number) → r + 1035 + 64 ≤ bias → Ranged r x → Stored d → Ranged (r + 1035) (op x d))
-      → (S : RowSet) → ((i : ℕ) → In (length S) i → Stored (e i)) → (r : ℕ) (x : Number) → Ranged r x → r + 1035 * length S + 64 ≤ bias → Ranged (r + 1035 * length S) (scaled rounded op e S x)
-  unfolding scaled
-  scaled-ranged op step [] h r x g room = ranged-more (omega arith) g
-  scaled-ranged op step (true ∷ S) h r x g room =
-      ranged-more (omega arith) (step _ _ _ (omega arith) (scaled-ranged op step S (λ i p. h i (in-under p)) r x g (omega arith)) (h (suc (length S)) (in-top (length S))))
-  scaled-ranged op step (false ∷ S) h r x g room = ranged-more (omega arith) (scaled-ranged op step S (λ i p. h i (in-under p)) r x g (omega arith))
+module _ (e : ℕ → Number) (S : RowSet) (stored : (i : ℕ) → In (length S) i → Stored (e i)) (r : ℕ) (x : Number) (h : Ranged r x) (room : r + length S * 1035 + 64 ≤ bias) where
+  scaled-ranged : (op : Number → Number → Number) → ((r : ℕ) (x e y f : Number) → RangedBy r x y → Stored e → RangedBy (r + 1035) (op x e) (op y f))
+      → Ranged (r + length S * 1035) (scaled rounded op e S x)
+  scaled-ranged op step =
+      let d : repeated (length S) (λ r. r + 1035) r ≡ r + length S * 1035 =
+      repeated-measure rounded rounded ℕ RangedBy ranged-related (length S) (λ g. g) 1035 1035 (λ g. refl) (λ g. refl) (length S) r in
+      subst (λ k. Ranged k (scaled rounded op e S x)) d
+      (scaled-related rounded rounded ℕ RangedBy ranged-related (length S) op op step e e (λ i p q. stored i (p, q)) S (omega arith) r x x (λ room. h) (omega arith))
 
-  module _ (S : RowSet) (stored : (i : ℕ) → In (length S) i → Stored (e i)) (r : ℕ) (x : Number) (h : Ranged r x) (room : r + 1035 * length S + 64 ≤ bias) where
-    pub multiplied-ranged : Ranged (r + 1035 * length S) (scaled rounded productOf e S x)
-    multiplied-ranged = scaled-ranged productOf (λ r x d. times-ranged) S stored r x h room
+  pub multiplied-ranged : Ranged (r + length S * 1035) (scaled rounded productOf e S x)
+  multiplied-ranged = scaled-ranged productOf (λ r x e y f h s room. times-ranged room (h (omega arith)) s)
 
-    pub divided-ranged : Ranged (r + 1035 * length S) (scaled rounded quotientOf e S x)
-    divided-ranged = scaled-ranged quotientOf (λ r x d. over-ranged) S stored r x h room
+  pub divided-ranged : Ranged (r + length S * 1035) (scaled rounded quotientOf e S x)
+  divided-ranged = scaled-ranged quotientOf (λ r x e y f h s room. over-ranged room (h (omega arith)) s)
 
 -- A RUN of m stored sources of n rows: how far its minors reach, and each number on the way to one
 abbrev pub runReach : ℕ → ℕ → ℕ

@@ -101,7 +101,7 @@ module _ (A B : Arithmetic) (G : Type 0) (Rel : G → A .Num → B .Num → Type
   module _ (f : A .Num → A .Num → A .Num) (h : B .Num → B .Num → B .Num)
       (kept : (g : G) (x e : A .Num) (y d : B .Num) → Rel g x y → Entry e d → Rel (afterEntry g) (f x e) (h y d))
       (e : ℕ → A .Num) (d : ℕ → B .Num) (entries : (i : ℕ) → 1 ≤ i → i ≤ n → Entry (e i) (d i)) where
-    scaled-related : (S : RowSet) → length S ≤ n → (g : G) (x : A .Num) (y : B .Num) → Rel g x y → Rel (repeated (length S) afterEntry g) (scaled A f e S x) (scaled B h d S y)
+    pub scaled-related : (S : RowSet) → length S ≤ n → (g : G) (x : A .Num) (y : B .Num) → Rel g x y → Rel (repeated (length S) afterEntry g) (scaled A f e S x) (scaled B h d S y)
     unfolding scaled repeated
     scaled-related [] l g x y r = r
     scaled-related (true ∷ S) l g x y r = kept _ _ _ _ _ (scaled-related S (omega arith) g x y r) (entries (suc (length S)) (omega arith) l)
@@ -140,7 +140,7 @@ module _ (A B : Arithmetic) (G : Type 0) (Rel : G → A .Num → B .Num → Type
 
   -- a measure of the grades to which each letter E or Et adds a, and each entry of D e
   module _ (measure : G → ℕ) (a e : ℕ) (moving : (g : G) → measure (afterMove g) ≡ measure g + a) (entering : (g : G) → measure (afterEntry g) ≡ measure g + e) where
-    repeated-measure : (m : ℕ) (g : G) → measure (repeated m afterEntry g) ≡ measure g + m * e
+    pub repeated-measure : (m : ℕ) (g : G) → measure (repeated m afterEntry g) ≡ measure g + m * e
     unfolding repeated
     repeated-measure zero g = omega arith
     repeated-measure (suc m) g = omega (arith, entering (repeated m afterEntry g), repeated-measure m g)
