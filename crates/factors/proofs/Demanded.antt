@@ -11,7 +11,8 @@ use Rattle.number.specs.declared.Number.{Number}
 use Rattle.number.specs.Number.{rounded, value, Stored}
 use Rattle.words.specs.RowSet.{RowSet, rows, count}
 use Rattle.words.specs.Word.{Factors, ascending}
-use Rattle.words.specs.Operation.{Step, step, plain, inverted, conversed, Operation, product, inverse, converse, submatrix, steps, keptRows, keptColumns, size, boundOf, bound, rowByRow, refactored, result, eachSteps}
+use Rattle.words.specs.Operation.{Step, step, plain, inverted, conversed, Operation, product, inverse, converse, submatrix, steps, keptRows, keptColumns}
+use Rattle.words.specs.Operation.{size, boundOf, bound, rowByRow, refactored, result, eachSteps}
 use Rattle.words.proofs.RowSets.{length-rows}
 use Rattle.words.proofs.Steps.{Sources}
 use Rattle.words.proofs.Exponents.{runReach}
@@ -74,7 +75,8 @@ module _ (n : ℕ) where
         → Near (boundOf (length L) n) (4 * runReach (length L) n + 98) (refactored rounded n L I J i j) (refactored exact n (eachSteps value L) I J i j))
         (λ s L two h. refactored-near n s L h some (omega (arith, mul-le-mul two square)))
 
-    pub result-near : (o : Operation Number) → Proper Stored n o → (i j : ℕ) → In (size n o) i → In (size n o) j → Near (bound n o) (reachOf o) (result rounded n o i j) (result exact n (exactly o) i j)
+    pub result-near : (o : Operation Number) → Proper Stored n o → (i j : ℕ) → In (size n o) i → In (size n o) j
+        → Near (bound n o) (reachOf o) (result rounded n o i j) (result exact n (exactly o) i j)
     result-near (product b c) h = steps-near (product b c) h
     result-near (inverse b) h = steps-near (inverse b) h
     result-near (converse b) h = steps-near (converse b) h

@@ -58,26 +58,34 @@ module _ (K : CRing) (O : Ordered K) where
     abbrev pub S : Matrix K
     S = submatrixOf K P Q (wordMatrix K O n W)
 
-    among-length : (I : RowSet) → length I ≡ count P → length (among P I) ≡ n
-    among-length I i = length-among P I i ∙ lengthP
+    -- sets among the chosen rows and columns are sets of n, and chosen rows and columns are some of 1 .. n
+    among-rows : (I : RowSet) → length I ≡ count P → length (among P I) ≡ n
+    among-rows I i = length-among P I i ∙ lengthP
 
-    among-length′ : (J : RowSet) → length J ≡ count P → length (among Q J) ≡ n
-    among-length′ J j = length-among Q J (j ∙ sym counts) ∙ lengthQ
+    among-columns : (J : RowSet) → length J ≡ count P → length (among Q J) ≡ n
+    among-columns J j = length-among Q J (j ∙ sym counts) ∙ lengthQ
+
+    chosen-row : (r : ℕ) → In (count P) r → In n (chosen P r)
+    chosen-row r x = subst (λ k. In k (chosen P r)) lengthP (chosen-in P r x)
+
+    chosen-column : (c : ℕ) → In (count P) c → In n (chosen Q c)
+    chosen-column c y = subst (λ k. In k (chosen Q c)) lengthQ (chosen-in Q c (subst (λ k. In k c) (sym counts) y))
 
     minor-submatrix : (I J : RowSet) → length I ≡ count P → length J ≡ count P → M I J ≡ determinant K S I J
     minor-submatrix I J i j =
-        minor-determinant K O n W (joined-rows n (s ∷ L)) (among P I) (among Q J) (among-length I i) (among-length′ J j)
+        minor-determinant K O n W (joined-rows n (s ∷ L)) (among P I) (among Q J) (among-rows I i) (among-columns J j)
         ∙ determinant-among K (matrixOf K O W) P Q I J i (j ∙ sym counts)
         ∙ determinant-equal K (count P) (submatrixOf K P Q (matrixOf K O W)) S
-        (λ r c x y. sym (wordMatrix-carried K O n W (joined-rows n (s ∷ L)) (chosen P r) (chosen Q c) (subst (λ k. In k (chosen P r)) lengthP (chosen-in P r x)) (subst (λ k. In k (chosen Q c)) lengthQ (chosen-in Q c (subst (λ k. In k c) (sym counts) y))))) I J i j
+        (λ r c x y. sym (wordMatrix-carried K O n W (joined-rows n (s ∷ L)) (chosen P r) (chosen Q c) (chosen-row r x) (chosen-column c y))) I J i j
 
     pub minor-positive : (I J : RowSet) → length I ≡ count P → length J ≡ count P → count I ≡ count J → O .Pos (M I J)
     minor-positive I J i j e =
-        joined-positive K O n s L positive (among P I) (among Q J) (among-length I i) (among-length′ J j) (count-among P I i ∙ e ∙ sym (count-among Q J (j ∙ sym counts)))
+        joined-positive K O n s L positive (among P I) (among Q J) (among-rows I i) (among-columns J j) (count-among P I i ∙ e ∙ sym (count-among Q J (j ∙ sym counts)))
 
     initial-positive : (i j : ℕ) → In (count P) i → In (count P) j → O .Pos (initial K (count P) S i j)
     initial-positive i j x y =
-        subst (O .Pos) (minor-submatrix _ _ (length-rows (count P) _ _) (length-rows (count P) _ _)) (minor-positive _ _ (length-rows (count P) _ _) (length-rows (count P) _ _) (initial-counts (count P) i j x y))
+        subst (O .Pos) (minor-submatrix _ _ (length-rows (count P) _ _) (length-rows (count P) _ _))
+        (minor-positive _ _ (length-rows (count P) _ _) (length-rows (count P) _ _) (initial-counts (count P) i j x y))
 
     refactored-formula : (i j : ℕ) → In (count P) i → In (count P) j → refactored (arithmetic K O) n (s ∷ L) P Q i j ≡ newFactor (arithmetic K O) (count P) (determinant K S) i j
     unfolding refactored

@@ -54,7 +54,8 @@ module _ (n : ℕ) where
 
   -- of all rows and columns
   whole-multiplied : (s : Step Fraction) (L : List (Step Fraction)) → AcceptedSteps n (s ∷ L)
-      → Equal rationals n (product-of (count (rows n 1 n)) (refactored exact n (s ∷ L) (rows n 1 n) (rows n 1 n))) (wordMatrix rationals rationals-ordered n (joinedWord n (eachSteps rational (s ∷ L))))
+      → Equal rationals n (product-of (count (rows n 1 n)) (refactored exact n (s ∷ L) (rows n 1 n) (rows n 1 n)))
+      (wordMatrix rationals rationals-ordered n (joinedWord n (eachSteps rational (s ∷ L))))
   whole-multiplied s L h i j x y =
       exact-multiplied n s L h (rows n 1 n) (rows n 1 n) all-rows all-rows refl i j (subst (λ k. In k i) (sym (count-all n)) x) (subst (λ k. In k j) (sym (count-all n)) y)
       ∙ ap₂ (wordMatrix rationals rationals-ordered n (joinedWord n (eachSteps rational (s ∷ L)))) (chosen-all n i x) (chosen-all n j y)

@@ -1,4 +1,5 @@
--- Jacobi's complementary minors: the minors of the inverse's word are those of the word at the complements of the sets, exchanged, over the word's determinant (minor-inverse).
+-- JACOBI'S COMPLEMENTARY MINORS: the minors of the inverse's word are those of the word at the complements of the sets, exchanged, over the word's determinant (minor-inverse).
+-- The determinant is the product of all diagonal entries (wordDeterminant), positive where these are (Diagonal, word-diagonal, wordDeterminant-positive).
 use mathlib.Core.Path.{_≡_, refl, sym, ap, ap₂, _∙_, fun-ext, subst}
 use mathlib.Core.Bool.{Bool, true, false, not, cond, _&&_, Bool·not-not}
 use mathlib.Core.List.{[], _∷_, _++_, map}

@@ -64,7 +64,6 @@ corner-first n zero t = ap (λ c. rows n c (suc t)) (let c : suc (suc t) - (suc 
 corner-first n (suc r) t = ap (λ c. rows n c (suc t)) (let c : suc (suc t) - (suc t +ℕ suc r) ≡ 0 = omega arith in c) ∙ rows-zero n (suc t)
 
 module _ (K : CRing) where
-
   -- INITIAL MINORS by the distance r from the diagonal
   initial-below : (n : ℕ) (M : Matrix K) (r t : ℕ) → initial K n M (suc t +ℕ r) (suc t) ≡ determinant K M (rows n (suc r) (r +ℕ suc t)) (rows n 1 (suc t))
   initial-below n M r t = ap₂ (determinant K M) (corner-run n r t) (corner-first n r t)

@@ -1,4 +1,5 @@
--- Every minor of the words of positive factors is positive: the plain word (word-positive), the inverse's, the converse's, and words joined.
+-- EVERY MINOR OF THE WORDS OF POSITIVE FACTORS IS POSITIVE: of the plain word (word-positive), the inverse's (inverse-positive), the converse's (converse-positive),
+-- words joined (append-positive), and so of joined steps (joined-positive).
 use mathlib.Core.Path.{_≡_, sym, ap, _∙_, subst}
 use mathlib.Core.List.{List, [], _∷_, _++_, reverse}
 use Prim.Native.Nat.{ℕ, _-_}

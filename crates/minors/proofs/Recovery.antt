@@ -9,7 +9,7 @@ use lib.Dec.{leb}
 use lib.ListN.{length}
 use Rattle.fraction.specs.Arithmetic.{Arithmetic}
 use Rattle.fraction.specs.Ring.{CRing, Ordered, arithmetic}
-use Rattle.fraction.proofs.Ring.{ring, *-comm, one-*, zero-*}
+use Rattle.fraction.proofs.Ring.{ring, *-comm, one-*}
 use Rattle.words.specs.RowSet.{RowSet, equal, rows}
 use Rattle.words.specs.Word.{Factors, E, D, Word, word, exchanged}
 use Rattle.words.specs.Walk.{oneAt, scaled, act, walk, minor}

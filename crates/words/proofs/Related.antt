@@ -107,16 +107,18 @@ module _ (A B : Arithmetic) (G : Type 0) (Rel : G → A .Num → B .Num → Type
     scaled-related (true ∷ S) l g x y r = kept _ _ _ _ _ (scaled-related S (omega arith) g x y r) (entries (suc (length S)) (omega arith) l)
     scaled-related (false ∷ S) l g x y r = rel-skips _ _ _ (scaled-related S (omega arith) g x y r)
 
+    scaled-states : (g : G) (ω : State A) (η : State B) → States g ω η → States (repeated n afterEntry g) (λ S. scaled A f e S (ω S)) (λ S. scaled B h d S (η S))
+    scaled-states g ω η r S s =
+        subst (λ (k : ℕ). Rel (repeated k afterEntry g) (scaled A f e S (ω S)) (scaled B h d S (η S))) s (scaled-related S (omega (arith, s)) g _ _ (r S s))
+
   act-related : (l : Letter (A .Num)) (m : Letter (B .Num)) → Letters Weight Entry n l m → (g : G) (ω : State A) (η : State B) → States g ω η → States (afterLetter l g) (act A l ω) (act B m η)
   unfolding act
   act-related (E j w) (E i v) h g ω η r S s =
       subst (λ (k : ℕ). Rel (afterMove g) (moved A j (j - 1) w ω S) (moved B k (k - 1) v η S)) (h .0) (moved-related j (j - 1) g w v (h .1) ω η r S s)
   act-related (Et j w) (Et i v) h g ω η r S s =
       subst (λ (k : ℕ). Rel (afterMove g) (moved A (j - 1) j w ω S) (moved B (k - 1) k v η S)) (h .0) (moved-related (j - 1) j g w v (h .1) ω η r S s)
-  act-related (D e) (D f) h g ω η r S s =
-      subst (λ (k : ℕ). Rel (repeated k afterEntry g) (scaled A (A .mul) e S (ω S)) (scaled B (B .mul) f S (η S))) s (scaled-related (A .mul) (B .mul) rel-times e f h S (omega (arith, s)) g _ _ (r S s))
-  act-related (Dinv e) (Dinv f) h g ω η r S s =
-      subst (λ (k : ℕ). Rel (repeated k afterEntry g) (scaled A (A .div) e S (ω S)) (scaled B (B .div) f S (η S))) s (scaled-related (A .div) (B .div) rel-over e f h S (omega (arith, s)) g _ _ (r S s))
+  act-related (D e) (D f) h g ω η r S s = scaled-states (A .mul) (B .mul) rel-times e f h g ω η r S s
+  act-related (Dinv e) (Dinv f) h g ω η r S s = scaled-states (A .div) (B .div) rel-over e f h g ω η r S s
 
   pub walk-related : (W : Word (A .Num)) (X : Word (B .Num)) → Each (Letters Weight Entry n) W X → (g : G) (ω : State A) (η : State B) → States g ω η → States (after W g) (walk A W ω) (walk B X η)
   unfolding walk after
