@@ -1,12 +1,12 @@
 -- DEMAND 3: the module's run by the rounded rule beside the exact run of the same operation in fractions, source numbers taken as exact.
 use mathlib.Core.Path.{_≡_}
-use Prim.Native.Nat.{ℕ, _≤_, _<_}
+use Prim.Native.Nat.{ℕ, _<_}
 use lib.ListN.{length}
 use Rattle.fraction.specs.Fraction.{Fraction, Same, exact}
 use Rattle.fraction.specs.Within.{Within}
 use Rattle.fraction.specs.Rational.{rationals, rationals-ordered, rational}
 use Rattle.number.specs.declared.Number.{Number}
-use Rattle.number.specs.Number.{rounded, value, Stored}
+use Rattle.number.specs.Number.{rounded, value}
 use Rattle.words.specs.RowSet.{count}
 use Rattle.words.specs.Word.{Factors}
 use Rattle.words.specs.Operation.{Operation, product, inverse, converse, submatrix, size, bound, rowByRow, result, eachFactor, eachSource}

@@ -42,8 +42,11 @@ fn round(n: u64, d: u64, x: u64) -> Number
     if d < t {
         return carried(q + 1, x);
     }
-    if t == d {
-        return carried(q + q % 2, x);
+    if t < d {
+        return carried(q, x);
+    }
+    if q % 2 == 1 {
+        return carried(q + 1, x);
     }
     carried(q, x)
 }

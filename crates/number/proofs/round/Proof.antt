@@ -20,6 +20,10 @@ answer c m e =
     let p = c .pre in
     sym (round-normal (a .n) (a .d) (a .x) (p .0) (p .2) (p .3) ∙ ap (λ (k : ℕ). carried k (a .x)) e)
 
+-- the even one at a tie
+tie-even : (c : tie.Start) → c .args .n % c .args .d * 2 ≡ c .args .d → closest (c .args .n) (c .args .d) ≡ c .args .n / c .args .d + c .args .n / c .args .d % 2
+tie-even c e = nearest-even (c .args .n / c .args .d) (c .args .n % c .args .d * 2) (c .args .d) e
+
 -- src/lib.rt:40:13
 div-q : tie.Need-div-q
 div-q c = search needs
@@ -44,27 +48,37 @@ carried-requires c κs = search needs
 returns : tie.Need-returns
 returns c = c .carried .ensures ∙ answer (c .before .before) _ (nearest-up _ _ _ (c .before .if1 .taken))
 
--- src/lib.rt:46:24
-add-carried-2 : tie.Need-add-carried-2
-add-carried-2 c = omega (arith, div-lt-iff-lt-mul (c .before .before .pre .0) .1 (c .before .before .pre .3))
-
 -- src/lib.rt:46:9
 carried-requires-2 : tie.Need-carried-requires-2
 carried-requires-2 c κs = search needs
 
 -- src/lib.rt:46:9
 returns-2 : tie.Need-returns-2
-returns-2 c = c .carried2 .ensures ∙ answer (c .before .before .before) _ (nearest-even _ _ _ (c .before .if2 .taken))
+returns-2 c = c .carried2 .ensures ∙ answer (c .before .before .before) _ (nearest-down _ _ _ (c .before .if2 .taken))
 
--- src/lib.rt:48:5
+-- src/lib.rt:49:24
+add-carried-2 : tie.Need-add-carried-2
+add-carried-2 c = omega (arith, div-lt-iff-lt-mul (c .before .before .before .pre .0) .1 (c .before .before .before .pre .3))
+
+-- src/lib.rt:49:9
 carried-requires-3 : tie.Need-carried-requires-3
 carried-requires-3 c κs = search needs
 
--- src/lib.rt:36:1
+-- src/lib.rt:49:9
 returns-3 : tie.Need-returns-3
 returns-3 c =
-    let a = c .before .before .before .args in
-    c .carried3 .ensures ∙ answer (c .before .before .before) _ (nearest-down (a .n / a .d) (a .n % a .d * 2) (a .d) (omega arith))
+    let s = c .before .before .before .before in
+    c .carried3 .ensures ∙ answer s _ (tie-even s (omega arith) ∙ omega arith)
+
+-- src/lib.rt:51:5
+carried-requires-4 : tie.Need-carried-requires-4
+carried-requires-4 c κs = search needs
+
+-- src/lib.rt:36:1
+returns-4 : tie.Need-returns-4
+returns-4 c =
+    let s = c .before .before .before .before in
+    c .carried4 .ensures ∙ answer s _ (tie-even s (omega arith) ∙ omega arith)
 
 pub round-spec : {M : Type 1} → statement M
 round-spec =
@@ -76,8 +90,10 @@ round-spec =
     add-carried
     carried-requires
     returns
-    add-carried-2
     carried-requires-2
     returns-2
+    add-carried-2
     carried-requires-3
-    returns-3)
+    returns-3
+    carried-requires-4
+    returns-4)

@@ -1,0 +1,68 @@
+-- Document 01's marked examples on words, P5 to P10 and P12, as rows of one table, and its two tables of bounds.
+use mathlib.Core.Bool.{true, cond}
+use mathlib.Core.List.{List, [], _∷_}
+use Prim.Native.Nat.{ℕ, _*_, _^_}
+use lib.Dec.{eqb}
+use Rattle.number.specs.declared.Number.{Number}
+use Rattle.number.specs.Number.{oneNumber, rounded}
+use Rattle.number.specs.declared.signed.Signed.{Signed}
+use Rattle.number.specs.Signed.{plain, zeroSigned, signedArithmetic}
+use Rattle.number.specs.Examples.{Row, row, down}
+use Rattle.words.specs.RowSet.{ofMask}
+use Rattle.words.specs.Word.{Factors, word, forUp}
+use Rattle.words.specs.Walk.{minor, carry}
+use Rattle.words.specs.Operation.{Operation, product, inverse, converse, submatrix, size, bound, rowByRow, result}
+
+-- the source whose factors are all one
+abbrev pub ones : Factors Number
+ones i j = oneNumber
+
+-- rows 2 and 3, columns 1 and 2, of three
+abbrev pub cornerOf : Factors Number → Operation Number
+cornerOf b = submatrix b (ofMask 3 6) (ofMask 3 3)
+
+-- the operation's factors, row by row
+abbrev factorsOf : ℕ → Operation Number → List Number
+factorsOf n o = rowByRow (size n o) (result rounded n o)
+
+-- 1/2, 1, 3/2, 2 and 5
+abbrev pub half : Number
+half = down (2 ^ 31) 32
+
+abbrev pub threeHalves : Number
+threeHalves = down 3221225472 31
+
+abbrev pub two : Number
+two = down (2 ^ 31) 30
+
+abbrev pub three : Number
+three = down (3 * 2 ^ 30) 30
+
+abbrev pub five : Number
+five = down (5 * 2 ^ 29) 29
+
+-- 1 and -1 as list items
+abbrev pub signedOne : Signed
+signedOne = plain oneNumber
+
+abbrev pub minusOne : Signed
+minusOne = record { negative = true; size = oneNumber }
+
+unfoldable pub ruleTable : List Row
+ruleTable =
+    row (factorsOf 2 (product ones ones)) (two ∷ threeHalves ∷ threeHalves ∷ half ∷ [])  -- P5
+    ∷ row (factorsOf 2 (inverse ones)) (two ∷ half ∷ half ∷ half ∷ [])  -- P6
+    ∷ row (factorsOf 2 (converse ones)) (two ∷ half ∷ half ∷ half ∷ [])  -- P7
+    ∷ row (factorsOf 3 (cornerOf ones)) (oneNumber ∷ two ∷ oneNumber ∷ oneNumber ∷ [])  -- P8
+    ∷ row (minor rounded (word 3 ones) (ofMask 3 5) (ofMask 3 5)) five  -- P9: rows and columns 1 and 3
+    ∷ row (factorsOf 1 (inverse (λ i j. three))) (down 2863311531 33 ∷ [])  -- P10
+    ∷ row (forUp 1 2 (λ i. carry signedArithmetic (word 2 (λ i j. signedOne)) (λ i. cond (eqb i 1) signedOne minusOne) i ∷ [])) (zeroSigned ∷ minusOne ∷ [])  -- P12: the list 1, -1
+    ∷ []
+
+-- the bounds returned for n = 1 to 8: of a product, and of one source
+unfoldable pub boundTable : List Row
+boundTable =
+    row (forUp 1 8 (λ n. bound n (product ones ones) ∷ [])) (11 ∷ 51 ∷ 123 ∷ 227 ∷ 363 ∷ 531 ∷ 731 ∷ 963 ∷ [])
+    ∷ row (forUp 1 8 (λ n. bound n (inverse ones) ∷ [])) (7 ∷ 27 ∷ 63 ∷ 115 ∷ 183 ∷ 267 ∷ 367 ∷ 483 ∷ [])
+    ∷ row (bound 3 (cornerOf ones)) 63  -- P8's, which goes by the source's rows
+    ∷ []
