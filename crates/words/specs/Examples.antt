@@ -1,13 +1,13 @@
--- Document 01's marked examples on words, P5 to P10 and P12, as rows of one table, and its two tables of bounds.
-use mathlib.Core.Bool.{true, cond}
+-- Document 01's marked examples on words, P5 to P12, as rows of one table, and its two tables of bounds.
+use mathlib.Core.Bool.{true, false, cond}
 use mathlib.Core.List.{List, [], _∷_}
 use Prim.Native.Nat.{ℕ, _*_, _^_}
 use lib.Dec.{eqb}
 use Rattle.number.specs.declared.Number.{Number}
-use Rattle.number.specs.Number.{oneNumber, rounded}
+use Rattle.number.specs.Number.{oneNumber, rounded, inRange}
 use Rattle.number.specs.declared.signed.Signed.{Signed}
 use Rattle.number.specs.Signed.{plain, zeroSigned, signedArithmetic}
-use Rattle.number.specs.Examples.{Row, row, down}
+use Rattle.number.specs.Examples.{Row, row, up, down}
 use Rattle.words.specs.RowSet.{ofMask}
 use Rattle.words.specs.Word.{Factors, word, forUp}
 use Rattle.words.specs.Walk.{minor, carry}
@@ -41,6 +41,10 @@ three = down (3 * 2 ^ 30) 30
 abbrev pub five : Number
 five = down (5 * 2 ^ 29) 29
 
+-- the least mantissa at the largest exponent
+abbrev pub large : Number
+large = up (2 ^ 31) 1000
+
 -- 1 and -1 as list items
 abbrev pub signedOne : Signed
 signedOne = plain oneNumber
@@ -56,6 +60,9 @@ ruleTable =
     ∷ row (factorsOf 3 (cornerOf ones)) (oneNumber ∷ two ∷ oneNumber ∷ oneNumber ∷ [])  -- P8
     ∷ row (minor rounded (word 3 ones) (ofMask 3 5) (ofMask 3 5)) five  -- P9: rows and columns 1 and 3
     ∷ row (factorsOf 1 (inverse (λ i j. three))) (down 2863311531 33 ∷ [])  -- P10
+    ∷ row (inRange (result rounded 1 (product (λ i j. large) ones) 1 1)) true  -- P11: times one
+    ∷ row (inRange (result rounded 1 (product (λ i j. large) (λ i j. two)) 1 1)) false  -- times two
+    ∷ row (inRange (result rounded 1 (inverse (λ i j. large)) 1 1)) false  -- its inverse
     ∷ row (forUp 1 2 (λ i. carry signedArithmetic (word 2 (λ i j. signedOne)) (λ i. cond (eqb i 1) signedOne minusOne) i ∷ [])) (zeroSigned ∷ minusOne ∷ [])  -- P12: the list 1, -1
     ∷ []
 
