@@ -17,7 +17,7 @@ use Rattle.words.specs.Examples.{ruleTable, boundTable}
 pub rule-examples : AllHold ruleTable
 unfolding ruleTable has put count equal rows ofMask among ascending descending word inverseWord converseWord joinedWord oneAt moved scaled act walk minor carryLetter carry
     onDiagonal belowDiagonal newFactor refactored rowByRow round carried sumOf productOf quotientOf signedRound signedSum withSign signedProduct inRange size lib.Ieee.span lib.Ieee.climb mathlib.Core.Bool.xor
-rule-examples = (refl, (refl, (refl, (refl, (refl, (refl, (refl, (refl, (refl, (refl, tt))))))))))
+rule-examples = (refl, (refl, (refl, (refl, (refl, (refl, (refl, (refl, (refl, (refl, (refl, tt)))))))))))
 
 pub bound-examples : AllHold boundTable
 unfolding boundTable ascending

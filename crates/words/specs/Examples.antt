@@ -2,7 +2,7 @@
 use mathlib.Core.Bool.{true, false, cond}
 use mathlib.Core.List.{List, [], _∷_}
 use Prim.Native.Nat.{ℕ, _*_, _^_}
-use lib.Dec.{eqb}
+use lib.Dec.{eqb, ltb}
 use Rattle.number.specs.declared.Number.{Number}
 use Rattle.number.specs.Number.{oneNumber, rounded, inRange}
 use Rattle.number.specs.declared.signed.Signed.{Signed}
@@ -17,6 +17,10 @@ use Rattle.words.specs.Operation.{Operation, product, inverse, converse,
 abbrev pub ones : Factors Number
 ones i j = oneNumber
 
+-- two above the diagonal, else one
+abbrev pub higher : Factors Number
+higher i j = cond (ltb i j) (down (2 ^ 31) 30) oneNumber
+
 -- rows 2 and 3, columns 1 and 2, of three
 abbrev pub cornerOf : Factors Number → Operation Number
 cornerOf b = submatrix b (ofMask 3 6) (ofMask 3 3)
@@ -25,7 +29,7 @@ cornerOf b = submatrix b (ofMask 3 6) (ofMask 3 3)
 abbrev factorsOf : ℕ → Operation Number → List Number
 factorsOf n o = rowByRow (size n o) (result rounded n o)
 
--- 1/2, 1, 3/2, 2 and 5
+-- 1/2, 3/2, 2, 5/2, 3 and 5
 abbrev pub half : Number
 half = down (2 ^ 31) 32
 
@@ -34,6 +38,9 @@ threeHalves = down 3221225472 31
 
 abbrev pub two : Number
 two = down (2 ^ 31) 30
+
+abbrev pub fiveHalves : Number
+fiveHalves = down (5 * 2 ^ 29) 30
 
 abbrev pub three : Number
 three = down (3 * 2 ^ 30) 30
@@ -55,6 +62,7 @@ minusOne = record { negative = true; size = oneNumber }
 unfoldable pub ruleTable : List Row
 ruleTable =
     row (factorsOf 2 (product ones ones)) (two ∷ threeHalves ∷ threeHalves ∷ half ∷ [])  -- P5
+    ∷ row (factorsOf 2 (product ones higher)) (two ∷ fiveHalves ∷ threeHalves ∷ half ∷ [])  -- beside it: the left word, then the right word
     ∷ row (factorsOf 2 (inverse ones)) (two ∷ half ∷ half ∷ half ∷ [])  -- P6
     ∷ row (factorsOf 2 (converse ones)) (two ∷ half ∷ half ∷ half ∷ [])  -- P7
     ∷ row (factorsOf 3 (cornerOf ones)) (oneNumber ∷ two ∷ oneNumber ∷ oneNumber ∷ [])  -- P8
