@@ -28,19 +28,12 @@ StoredStep = Source Stored
 abbrev pub StoredSteps : ℕ → List (Step Number) → Type 0
 StoredSteps = Sources Stored
 
--- ONE STEP of the walk adds 1035 at most: a product with a stored number 1033, the sum 2
-module _ {r : ℕ} {x e : Number} (room : r + 1035 + 64 ≤ bias) (h : Ranged r x) (s : Stored e) where
-  times-ranged : Ranged (r + 1035) (productOf x e)
-  times-ranged = ranged-more (omega arith) (ranged-product h (ranged-stored s) (omega arith))
-
-  over-ranged : Ranged (r + 1035) (quotientOf x e)
-  over-ranged = ranged-more (omega arith) (ranged-quotient h (ranged-stored s) (omega arith) (omega (arith, s .low)))
-
 -- a weight times a number, before the sum
 pub weighed-ranged : {r : ℕ} {w x : Number} → r + 1064 ≤ bias → Stored w → Ranged r x → Ranged (r + 1033) (productOf w x)
 weighed-ranged room s h = ranged-more (omega arith) (ranged-product (ranged-stored s) h (omega arith))
 
--- THE GRADES are exponents from -r to r, where there is room; the second number is not looked at
+-- THE GRADES are exponents from -r to r, where there is room; the second number is not looked at. A letter, or an entry of D, adds 1035 at most:
+-- a product with a stored number 1033, or a quotient by one 1032, and the sum 2.
 abbrev RangedBy : ℕ → Number → Number → Type 0
 RangedBy r x y = r + 64 ≤ bias → Ranged r x
 
@@ -54,8 +47,8 @@ ranged-related = record {
       (ranged-sum {r = r + 1033} (ranged-more (omega arith) (h (omega arith))) (weighed-ranged (omega arith) s (g (omega arith))) (omega arith));
   afterEntry = λ r. r + 1035;
   rel-skips = λ r x y h room. ranged-more (omega arith) (h (omega arith));
-  rel-times = λ r x e y f h s room. times-ranged room (h (omega arith)) s;
-  rel-over = λ r x e y f h s room. over-ranged room (h (omega arith)) s;
+  rel-times = λ r x e y f h s room. ranged-more (omega arith) (ranged-product (h (omega arith)) (ranged-stored s) (omega arith));
+  rel-over = λ r x e y f h s room. ranged-more (omega arith) (ranged-quotient (h (omega arith)) (ranged-stored s) (omega arith) (omega (arith, s .low)));
 }
 
 -- ANY WORD of stored weights and entries, from any state
@@ -78,10 +71,10 @@ module _ (e : ℕ → Number) (S : RowSet) (stored : (i : ℕ) → In (length S)
       (scaled-related rounded rounded ℕ RangedBy ranged-related (length S) op op step e e (λ i p q. stored i (p, q)) S (omega arith) r x x (λ room. h) (omega arith))
 
   pub multiplied-ranged : Ranged (r + length S * 1035) (scaled rounded productOf e S x)
-  multiplied-ranged = scaled-ranged productOf (λ r x e y f h s room. times-ranged room (h (omega arith)) s)
+  multiplied-ranged = scaled-ranged productOf (ranged-related .rel-times)
 
   pub divided-ranged : Ranged (r + length S * 1035) (scaled rounded quotientOf e S x)
-  divided-ranged = scaled-ranged quotientOf (λ r x e y f h s room. over-ranged room (h (omega arith)) s)
+  divided-ranged = scaled-ranged quotientOf (ranged-related .rel-over)
 
 -- A RUN of m stored sources of n rows: how far its minors reach, and each number on the way to one
 abbrev pub runReach : ℕ → ℕ → ℕ
