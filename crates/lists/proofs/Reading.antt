@@ -1,0 +1,71 @@
+-- Laws of reading a list: one item and the rest (`list-next`), what a reader has then (`listed-value`, `listed-malformed`, `listed-end`), and how many numbers
+-- a list has (`list-numbered`).
+use mathlib.Core.Path.{_≡_, refl, sym, ap, ap₂, _∙_, subst}
+use mathlib.Core.List.{List, [], _∷_}
+use mathlib.Core.Option.{Option, none, some}
+use Prim.Native.Nat.{ℕ, zero, suc, _+_, _*_, _≤_, _<_}
+use native.Mathlib.Numerals.{add-one}
+use native.Mathlib.Omega.{arith}
+use lib.IntN.{ℤ, pos}
+use lib.ListN.{length, getD, drop, set, drop-of-length-le}
+use lib.Seq.{drop-cons, sets}
+use Rattle.number.specs.declared.signed.Signed.{Signed}
+use Rattle.lists.specs.Items.{itemOf, joined, listOf, listedFrom, blank}
+use Rattle.lists.specs.declared.items.Item.{Item}
+use Rattle.lists.specs.declared.items.Item.the-variants.{Value, Malformed}
+use Rattle.lists.specs.declared.items.Listed.{Listed}
+
+-- item k of a row of numbers
+abbrev pub itemIn : List ℤ → ℕ → Item
+itemIn z k = itemOf (getD z (3 * k) (pos 0)) (getD z (3 * k + 1) (pos 0)) (getD z (3 * k + 2) (pos 0))
+
+drop-three : (z : List ℤ) (i : ℕ) → i + 2 < length z → drop i z ≡ getD z i (pos 0) ∷ getD z (i + 1) (pos 0) ∷ getD z (i + 2) (pos 0) ∷ drop (i + 3) z
+drop-three z i h =
+    let e : suc i ≡ i + 1 = omega arith in
+    let f : suc (i + 1) ≡ i + 2 = omega arith in
+    let g : suc (i + 2) ≡ i + 3 = omega arith in
+    drop-cons z i (pos 0) (omega arith)
+    ∙ ap (λ L. getD z i (pos 0) ∷ L)
+    (ap (λ k. drop k z) e ∙ drop-cons z (i + 1) (pos 0) (omega arith)
+    ∙ ap (λ L. getD z (i + 1) (pos 0) ∷ L) (ap (λ k. drop k z) f ∙ drop-cons z (i + 2) (pos 0) h ∙ ap (λ k. getD z (i + 2) (pos 0) ∷ drop k z) g))
+
+list-next : (z : List ℤ) (k : ℕ) → 3 * k + 2 < length z → listOf (drop (3 * k) z) ≡ joined (itemIn z k) (listOf (drop (3 * (k + 1)) z))
+unfolding listOf
+list-next z k h =
+    let e : 3 * k + 3 ≡ 3 * (k + 1) = omega arith in
+    ap listOf (drop-three z (3 * k) h) ∙ ap (λ j. joined (itemIn z k) (listOf (drop j z))) e
+
+module _ (z : List ℤ) (v : List Signed) (k : ℕ) where
+  abbrev rest : Listed
+  rest = listedFrom v k (listOf (drop (3 * k) z))
+
+  pub listed-value : (a : Signed) → 3 * k + 2 < length z → itemIn z k ≡ Value a → rest ≡ listedFrom (set v k a) (k + 1) (listOf (drop (3 * (k + 1)) z))
+  listed-value a h e = ap (listedFrom v k) (list-next z k h ∙ ap (λ x. joined x (listOf (drop (3 * (k + 1)) z))) e) ∙ go (listOf (drop (3 * (k + 1)) z))
+    where
+      go : (o : Option (List Signed)) → listedFrom v k (joined (Value a) o) ≡ listedFrom (set v k a) (k + 1) o
+      go (some L) = rw add-one
+      go none = refl
+
+  pub listed-malformed : 3 * k + 2 < length z → itemIn z k ≡ Malformed → rest ≡ listedFrom v k none
+  listed-malformed h e = ap (listedFrom v k) (list-next z k h ∙ ap (λ x. joined x (listOf (drop (3 * (k + 1)) z))) e)
+
+  pub listed-end : length z ≡ 3 * k → rest ≡ listedFrom v k (some [])
+  unfolding listOf
+  listed-end e = ap (λ L. listedFrom v k (listOf L)) (drop-of-length-le z {i = 3 * k} (omega (arith, e)))
+
+-- a well-formed row has three numbers an item
+abbrev pub Numbered : List ℤ → Option (List Signed) → Type 0
+Numbered z (some L) = length z ≡ 3 * length L
+Numbered z none = Unit {0}
+
+pub list-numbered : (z : List ℤ) → Numbered z (listOf z)
+unfolding listOf
+list-numbered [] = refl
+list-numbered (s ∷ []) = tt
+list-numbered (s ∷ m ∷ []) = tt
+list-numbered (s ∷ m ∷ x ∷ z) = go (itemOf s m x) (listOf z) (list-numbered z)
+  where
+    go : (i : Item) (o : Option (List Signed)) → Numbered z o → Numbered (s ∷ m ∷ x ∷ z) (joined i o)
+    go (Value a) (some L) h = omega arith
+    go (Value a) none h = tt
+    go Malformed o h = tt

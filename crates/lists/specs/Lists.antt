@@ -1,0 +1,113 @@
+-- The list calls (document 01, "Shelf calls" and its tables of refusals): what a carry and a count of reversals answer and write (`carryOf`, `reversalsOf`).
+use mathlib.Core.Bool.{Bool, true, false, not, cond, xor, _&&_, _||_}
+use mathlib.Core.List.{List, [], _∷_}
+use mathlib.Core.Option.{Option, none, some, Option·getD}
+use Prim.Native.Nat.{ℕ, _+_, _-_, _*_, _≤_}
+use lib.Dec.{eqb, leb, ltb}
+use lib.IntN.{ℤ}
+use lib.ListN.{length, getD}
+use lib.Seq.{sets}
+use Rattle.number.specs.Number.{zeroNumber, inRange, Stored}
+use Rattle.number.specs.Signed.{plain, zeroSigned, signedArithmetic}
+use Rattle.number.specs.declared.Number.{Number}
+use Rattle.number.specs.declared.signed.Signed.{Signed}
+use Rattle.words.specs.Word.{Factors, word, forUp}
+use Rattle.words.specs.Walk.{carry}
+use Rattle.lists.specs.Items.{isZero, listOf, listNumbers}
+use Rattle.lists.specs.declared.Answer.{Answer}
+use Rattle.lists.specs.declared.Answer.the-variants.{Done, Refused}
+use Rattle.lists.specs.declared.Reversals.{Reversals}
+use Rattle.lists.specs.declared.Reversals.the-variants as reversal
+
+-- ---- reversals
+-- one is positive and one negative
+unfoldable pub opposite : Signed → Signed → Bool
+opposite a b = not (isZero a) && (not (isZero b) && xor (a .negative) (b .negative))
+
+-- the reversals of a list behind an item: neighbours of opposite sign
+unfoldable pub reversalsBehind : Signed → List Signed → ℕ
+reversalsBehind a [] = 0
+reversalsBehind a (b ∷ L) = cond (opposite a b) 1 0 + reversalsBehind b L
+
+-- zero is opposite to no item
+abbrev pub reversals : List Signed → ℕ
+reversals L = reversalsBehind zeroSigned L
+
+-- ---- carrying
+-- the items of a list as a vector, counted from 1, and the first n of a vector as a list
+abbrev pub vectorOf : List Signed → ℕ → Signed
+vectorOf L i = getD L (i - 1) zeroSigned
+
+abbrev pub firstItems : ℕ → (ℕ → Signed) → List Signed
+firstItems n v = forUp 1 n (λ i. v i ∷ [])
+
+-- carried through the word of n rows with the factors b
+unfoldable pub carried : ℕ → Factors Number → (ℕ → Signed) → ℕ → Signed
+carried n b v = carry signedArithmetic (word n (λ i j. plain (b i j))) v
+
+abbrev pub carriedList : ℕ → Factors Number → List Signed → List Signed
+carriedList n b L = firstItems n (carried n b (vectorOf L))
+
+-- ---- refusals
+-- a condition under which a call is turned down, and its number
+pub record Condition : Type 0 where
+  pub holds : Bool
+  pub number : ℕ
+
+-- the number of the first condition that holds
+abbrev pub refusal : List Condition → Option ℕ
+refusal [] = none
+refusal (c ∷ L) = cond (c .holds) (some (c .number)) (refusal L)
+
+-- a well-formed list of least to most items
+abbrev pub proper : ℕ → ℕ → Option (List Signed) → Bool
+proper least most none = false
+proper least most (some L) = leb least (length L) && leb (length L) most
+
+abbrev pub itemsOf : List ℤ → List Signed
+itemsOf items = Option·getD (listOf items) []
+
+-- an item is not zero, and its exponent lies outside the stored range
+abbrev pub outside : Signed → Bool
+outside a = not (isZero a) && not (inRange (a .size))
+
+unfoldable pub anyOutside : List Signed → Bool
+anyOutside [] = false
+anyOutside (a ∷ L) = outside a || anyOutside L
+
+unfoldable pub carryConditions : ℕ → Factors Number → (items out : List ℤ) → List Condition
+carryConditions n b items out =
+    record { holds = not (proper n n (listOf items)); number = 9 }
+    ∷ record { holds = anyOutside (carriedList n b (itemsOf items)); number = 14 }
+    ∷ record { holds = ltb (length out) (3 * n); number = 10 }
+    ∷ []
+
+-- ---- the calls
+-- what a carry answers, and what the lent output then holds: the carried items in its first 3 n numbers, and nothing else changed; a refusal changes nothing
+pub record Carrying : Type 0 where
+  pub answer : Answer
+  pub out : List ℤ
+
+abbrev pub carryBy : List Signed → List ℤ → Option ℕ → Carrying
+carryBy L out none = record { answer = Done; out = sets out 0 (listNumbers L) }
+carryBy L out (some k) = record { answer = Refused k; out = out }
+
+unfoldable pub carryOf : ℕ → Factors Number → (items out : List ℤ) → Carrying
+carryOf n b items out = carryBy (carriedList n b (itemsOf items)) out (refusal (carryConditions n b items out))
+
+abbrev pub reversalsBy : List Signed → Option ℕ → Reversals
+reversalsBy L none = reversal.Counted (reversals L)
+reversalsBy L (some k) = reversal.Refused k
+
+unfoldable pub reversalsOf : List ℤ → Reversals
+reversalsOf items = reversalsBy (itemsOf items) (refusal (record { holds = not (proper 1 8 (listOf items)); number = 9 } ∷ []))
+
+-- ---- a place's factors, in rows of eight, and its numbers as stored ones
+abbrev pub placeOf : ℕ → ℕ → ℕ
+placeOf i j = (i - 1) * 8 + (j - 1)
+
+unfoldable pub factorsOf : List Number → Factors Number
+factorsOf b i j = getD b (placeOf i j) zeroNumber
+
+pub record StoredFactors (n : ℕ) (b : Factors Number) : Type 0 where
+  pub stored : (i j : ℕ) → 1 ≤ i → i ≤ n → 1 ≤ j → j ≤ n → Stored (b i j)
