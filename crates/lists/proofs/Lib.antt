@@ -1,3 +1,5 @@
 pub mod Wholes
 pub mod ItemForms
 pub mod Reading
+pub mod Fronts
+pub mod Vectors

@@ -6,7 +6,7 @@ use mathlib.Core.Option.{Option, none, some}
 use Prim.Native.Nat.{ℕ, suc, _+_, _-_, _*_, _^_}
 use lib.Dec.{eqb, leb, ltb}
 use lib.IntN.{ℤ, pos, negsuc, natAbs, subℕ}
-use lib.ListN.{replicate}
+use lib.ListN.{length, replicate}
 use lib.Seq.{sets}
 use Rattle.number.specs.Number.{bias, zeroNumber}
 use Rattle.number.specs.Signed.{zeroSigned}
@@ -63,13 +63,18 @@ unfoldable pub listNumbers : List Signed → List ℤ
 listNumbers [] = []
 listNumbers (a ∷ L) = itemNumbers a ++ listNumbers L
 
+-- a well-formed list of least to most items
+abbrev pub proper : ℕ → ℕ → Option (List Signed) → Bool
+proper least most (some L) = leb least (length L) && leb (length L) most
+proper least most none = false
+
 -- the answer of a reader: the items stand at the start of eight, or from position k of v on
 abbrev pub blank : List Signed
 blank = replicate 8 zeroSigned
 
 abbrev pub listedFrom : List Signed → ℕ → Option (List Signed) → Listed
-listedFrom v k (some L) = record { formed = true; items = sets v k L }
-listedFrom v k none = record { formed = false; items = blank }
+listedFrom v k (some L) = record { proper = true; count = k + length L; items = sets v k L }
+listedFrom v k none = record { proper = false; count = 0; items = blank }
 
-abbrev pub listed : Option (List Signed) → Listed
-listed o = listedFrom blank 0 o
+unfoldable pub listed : ℕ → ℕ → Option (List Signed) → Listed
+listed least most o = listedFrom blank 0 (cond (proper least most o) o none)

@@ -7,17 +7,17 @@ use lib.Dec.{eqb, leb, ltb}
 use lib.IntN.{ℤ}
 use lib.ListN.{length, getD}
 use lib.Seq.{sets}
-use Rattle.number.specs.Number.{zeroNumber, inRange, Stored}
+use Rattle.number.specs.Number.{inRange}
 use Rattle.number.specs.Signed.{plain, zeroSigned, signedArithmetic}
 use Rattle.number.specs.declared.Number.{Number}
 use Rattle.number.specs.declared.signed.Signed.{Signed}
 use Rattle.words.specs.Word.{Factors, word, forUp}
 use Rattle.words.specs.Walk.{carry}
-use Rattle.lists.specs.Items.{isZero, listOf, listNumbers}
+use Rattle.lists.specs.Items.{isZero, listOf, listNumbers, proper}
 use Rattle.lists.specs.declared.Answer.{Answer}
 use Rattle.lists.specs.declared.Answer.the-variants.{Done, Refused}
-use Rattle.lists.specs.declared.Reversals.{Reversals}
-use Rattle.lists.specs.declared.Reversals.the-variants as reversal
+use Rattle.lists.specs.declared.Counted.{Counted}
+use Rattle.lists.specs.declared.Counted.the-variants as counted
 
 -- ---- reversals
 -- one is positive and one negative
@@ -25,9 +25,12 @@ unfoldable pub opposite : Signed → Signed → Bool
 opposite a b = not (isZero a) && (not (isZero b) && xor (a .negative) (b .negative))
 
 -- the reversals of a list behind an item: neighbours of opposite sign
+abbrev pub turn : Signed → Signed → ℕ
+turn a b = cond (opposite a b) 1 0
+
 unfoldable pub reversalsBehind : Signed → List Signed → ℕ
 reversalsBehind a [] = 0
-reversalsBehind a (b ∷ L) = cond (opposite a b) 1 0 + reversalsBehind b L
+reversalsBehind a (b ∷ L) = turn a b + reversalsBehind b L
 
 -- zero is opposite to no item
 abbrev pub reversals : List Signed → ℕ
@@ -58,11 +61,6 @@ pub record Condition : Type 0 where
 abbrev pub refusal : List Condition → Option ℕ
 refusal [] = none
 refusal (c ∷ L) = cond (c .holds) (some (c .number)) (refusal L)
-
--- a well-formed list of least to most items
-abbrev pub proper : ℕ → ℕ → Option (List Signed) → Bool
-proper least most none = false
-proper least most (some L) = leb least (length L) && leb (length L) most
 
 abbrev pub itemsOf : List ℤ → List Signed
 itemsOf items = Option·getD (listOf items) []
@@ -95,19 +93,9 @@ carryBy L out (some k) = record { answer = Refused k; out = out }
 unfoldable pub carryOf : ℕ → Factors Number → (items out : List ℤ) → Carrying
 carryOf n b items out = carryBy (carriedList n b (itemsOf items)) out (refusal (carryConditions n b items out))
 
-abbrev pub reversalsBy : List Signed → Option ℕ → Reversals
-reversalsBy L none = reversal.Counted (reversals L)
-reversalsBy L (some k) = reversal.Refused k
+abbrev pub reversalsBy : List Signed → Option ℕ → Counted
+reversalsBy L none = counted.Reversals (reversals L)
+reversalsBy L (some k) = counted.Refused k
 
-unfoldable pub reversalsOf : List ℤ → Reversals
+unfoldable pub reversalsOf : List ℤ → Counted
 reversalsOf items = reversalsBy (itemsOf items) (refusal (record { holds = not (proper 1 8 (listOf items)); number = 9 } ∷ []))
-
--- ---- a place's factors, in rows of eight, and its numbers as stored ones
-abbrev pub placeOf : ℕ → ℕ → ℕ
-placeOf i j = (i - 1) * 8 + (j - 1)
-
-unfoldable pub factorsOf : List Number → Factors Number
-factorsOf b i j = getD b (placeOf i j) zeroNumber
-
-pub record StoredFactors (n : ℕ) (b : Factors Number) : Type 0 where
-  pub stored : (i j : ℕ) → 1 ≤ i → i ≤ n → 1 ≤ j → j ≤ n → Stored (b i j)

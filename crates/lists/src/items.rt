@@ -1,12 +1,14 @@
 // List items: read from three whole numbers, and written as three.
 ghost use mathlib.Core.Path.{_≡_};
+ghost use mathlib.Core.Option.{none};
 ghost use Prim.Native.Nat.{_+_, _*_, _≤_, _<_};
 ghost use lib.IntN.{pos, natAbs};
-ghost use lib.ListN.{length, getD};
+ghost use lib.ListN.{length, getD, take};
 ghost use lib.Seq.{sets};
 ghost use Rattle.number.specs.Number.{reach};
 ghost use Rattle.number.specs.Signed.{SignedRanged};
-ghost use Rattle.lists.specs.Items.{biased, unbiased, blank, itemOf, listOf, listed, signOf, itemNumbers};
+ghost use Rattle.lists.specs.Items.{biased, unbiased, blank, itemOf, listOf, listed, listedFrom, signOf, itemNumbers, listNumbers};
+ghost use Rattle.lists.specs.Carrying.{Working};
 use crate::whole;
 use number::Number;
 use number::signed::Signed;
@@ -19,9 +21,10 @@ pub enum Item {
     Malformed,
 }
 
-// The items of a list, at the start of eight, if all are well formed.
+// The items of a list, at the start of eight, if it is a proper one.
 pub struct Listed {
-    pub formed: bool,
+    pub proper: bool,
+    pub count: usize,
     pub items: [Signed; 8],
 }
 
@@ -102,10 +105,20 @@ fn blank() -> [Signed; 8]
     [zero; 8]
 }
 
+fn improper() -> Listed
+    ensures { λ r. ⌜ r ≡ listedFrom blank 0 none ⌝ }
+{
+    Listed {
+        proper: false,
+        count: 0,
+        items: blank(),
+    }
+}
+
 // The n items of a row of 3 n numbers.
-pub fn read(items: &[i64], n: usize) -> Listed
+fn items_of(items: &[i64], n: usize) -> Listed
     requires { ⌜ (n ≤ 8) × (length (now items) ≡ 3 * n) ⌝ }
-    ensures { λ r. ⌜ r ≡ listed (listOf (now (items .entry))) ⌝ }
+    ensures { λ r. ⌜ r ≡ listedFrom blank 0 (listOf (now (items .entry))) ⌝ }
 {
     let mut v = blank();
     let mut k = 0;
@@ -116,18 +129,34 @@ pub fn read(items: &[i64], n: usize) -> Listed
                 v[k] = a;
             }
             Item::Malformed => {
-                return Listed {
-                    formed: false,
-                    items: blank(),
-                };
+                return improper();
             }
         }
         k += 1;
     }
     Listed {
-        formed: true,
+        proper: true,
+        count: n,
         items: v,
     }
+}
+
+// A list of least to most items.
+pub fn read(items: &[i64], least: usize, most: usize) -> Listed
+    requires { ⌜ most ≤ 8 ⌝ }
+    ensures { λ r. ⌜ r ≡ listed least most (listOf (now (items .entry))) ⌝ }
+{
+    let n = items.len() / 3;
+    if 3 * n < items.len() {
+        return improper();
+    }
+    if n < least {
+        return improper();
+    }
+    if most < n {
+        return improper();
+    }
+    items_of(items, n)
 }
 
 fn sign(a: Signed) -> i64
@@ -144,7 +173,7 @@ fn sign(a: Signed) -> i64
 }
 
 // Writes an item's three numbers from index `at` on.
-pub fn put(a: Signed, out: &mut [i64], at: usize)
+fn put(a: Signed, out: &mut [i64], at: usize)
     requires { ⌜ SignedRanged reach a × (at + 2 < length (now out)) ⌝ }
     ensures { λ r. ⌜ now (out .exit) ≡ sets (now (out .entry)) at (itemNumbers a) ⌝ }
 {
@@ -155,4 +184,17 @@ pub fn put(a: Signed, out: &mut [i64], at: usize)
     out[at] = s;
     out[at + 1] = m;
     out[at + 2] = e;
+}
+
+// Writes the first n of eight items.
+pub fn write(v: [Signed; 8], n: usize, out: &mut [i64])
+    requires { ⌜ (n ≤ 8) × Working reach n v × (3 * n ≤ length (now out)) ⌝ }
+    ensures { λ r. ⌜ now (out .exit) ≡ sets (now (out .entry)) 0 (listNumbers (take n v)) ⌝ }
+{
+    let mut k = 0;
+    while k < n {
+        let a = v[k];
+        put(a, out, 3 * k);
+        k += 1;
+    }
 }

@@ -1,107 +1,60 @@
-use borrow.Author.Needs.{needs}
-use mathlib.Core.Path.{_≡_, refl, sym, ap, _∙_}
-use mathlib.Core.Bool.{false}
-use mathlib.Core.List.{List}
-use Prim.Native.Nat.{ℕ, _+_, _-_, _*_, _≤_, _<_}
 use native.Mathlib.Omega.{arith}
-use denote.Ref.{now}
-use lib.ListN.{length, drop}
-use Rattle.number.specs.declared.signed.Signed.{Signed}
-use Rattle.lists.specs.Items.{blank, listOf, listed, listedFrom}
-use Rattle.lists.proofs.Reading.{listed-value, listed-malformed, listed-end}
+use mathlib.Core.Path.{_≡_, sym, _∙_}
+use Rattle.lists.proofs.Reading.{listed-spare, listed-few, listed-many, listed-proper}
+use borrow.Author.Needs.{needs}
 use Rattle.lists.proofs.items.read.Statement.{statement}
 use Rattle.lists.proofs.items.read.Tie as tie
 use Rattle.lists.proofs.items.read.Reads as reads
 use Rattle.lists.proofs.items.read.Lts as lts
-use Rattle.lists.proofs.items.blank.Reads as blank-reads
-use Rattle.lists.proofs.items.item_at.Reads as item-at-reads
+use Rattle.lists.proofs.items.improper.Reads as improper-reads
+use Rattle.lists.proofs.items.items_of.Reads as items-of-reads
 
-abbrev Inv-loop : tie.InvT-loop
-Inv-loop items n v₀ k₀ v k = (k ≤ n) × (listed (listOf items) ≡ listedFrom v k (listOf (drop (3 * k) items)))
+-- src/items.rt:150:8
+mul-if1 : tie.Need-mul-if1
+mul-if1 c = search needs
 
-abbrev μ-loop : tie.MeasureT-loop
-μ-loop items n v₀ k₀ v k = n - k
+-- src/items.rt:151:9
+improper-requires : tie.Need-improper-requires
+improper-requires c κs = search needs
 
--- src/items.rt:110:17
-blank-requires : tie.Need-blank-requires Inv-loop μ-loop
-blank-requires c κs = search needs
+-- src/items.rt:151:9
+returns : tie.Need-returns
+returns c = c .improper .ensures ∙ sym (listed-spare _ _ _ (omega arith))
 
--- src/items.rt:112:5
-loop-holds : tie.Need-loop-holds Inv-loop μ-loop
-loop-holds c = (omega arith, ap (λ (v : List Signed). listedFrom v 0 (listOf (now (c .before .args .items)))) (sym (c .blank .ensures)))
+-- src/items.rt:154:9
+improper-requires-2 : tie.Need-improper-requires-2
+improper-requires-2 c κs = search needs
 
--- src/items.rt:113:13
-item-at-requires : tie.Need-item-at-requires Inv-loop μ-loop
-item-at-requires c κs = search needs
+-- src/items.rt:154:9
+returns-2 : tie.Need-returns-2
+returns-2 c = c .improper2 .ensures ∙ sym (listed-few _ _ _ (omega arith))
 
--- src/items.rt:115:25
-enum-known-item : tie.Need-enum-known-item Inv-loop μ-loop
-enum-known-item c = search needs
+-- src/items.rt:157:9
+improper-requires-3 : tie.Need-improper-requires-3
+improper-requires-3 c κs = search needs
 
--- src/items.rt:116:17
-mul-v : tie.Need-mul-v Inv-loop μ-loop
-mul-v c = search needs
+-- src/items.rt:157:9
+returns-3 : tie.Need-returns-3
+returns-3 c = c .improper3 .ensures ∙ sym (listed-many _ _ _ (omega arith))
 
--- src/items.rt:116:17
-array-set-from-v : tie.Need-array-set-from-v Inv-loop μ-loop
-array-set-from-v c = search needs
+-- src/items.rt:159:5
+items-of-requires : tie.Need-items-of-requires
+items-of-requires c κs = search needs
 
--- src/items.rt:121:28
-enum-told : tie.Need-enum-told Inv-loop μ-loop
-enum-told c = search needs
-
--- src/items.rt:121:28
-blank-requires-2 : tie.Need-blank-requires-2 Inv-loop μ-loop
-blank-requires-2 c κs = search needs
-
--- src/items.rt:119:17
-returns : tie.Need-returns Inv-loop μ-loop
-returns c =
-    let b = c .before .before .before .before .before in
-    ap (λ (v : List Signed). record { formed = false; items = v }) (c .blank2 .ensures)
-    ∙ sym (b .loop .inv .1 ∙ listed-malformed (now (b .before .before .args .items)) (b .loop .v) (b .loop .k) (omega (arith, b .before .before .pre .1, c .before .before .before .before .loop-test .taken))
-    (sym (c .before .before .before .item-at .ensures) ∙ c .before .enum-told .given .1))
-
--- src/items.rt:125:9
-add-k : tie.Need-add-k Inv-loop μ-loop
-add-k c = search needs
-
--- src/items.rt:112:5
-loop-less : tie.Need-loop-less Inv-loop μ-loop
-loop-less c = search needs
-
--- src/items.rt:112:5
-loop-again : tie.Need-loop-again Inv-loop μ-loop
-loop-again c =
-    let b = c .before .before .before .before .before in
-    (
-      omega (arith, c .before .before .before .before .loop-test .taken),
-      b .loop .inv .1 ∙ listed-value (now (b .before .before .args .items)) (b .loop .v) (b .loop .k) (c .before .item .given .0 .0) (omega (arith, b .before .before .pre .1, c .before .before .before .before .loop-test .taken))
-      (sym (c .before .before .before .item-at .ensures) ∙ c .before .item .given .1),
-    )
-
--- src/items.rt:106:1
-returns-2 : tie.Need-returns-2 Inv-loop μ-loop
-returns-2 c =
-    let b = c .before in
-    sym (b .loop .inv .1 ∙ listed-end (now (b .before .before .args .items)) (b .loop .v) (b .loop .k) (omega (arith, b .before .before .pre .1, c .loop-test .left)))
+-- src/items.rt:145:1
+returns-4 : tie.Need-returns-4
+returns-4 c = c .items-of .ensures ∙ sym (listed-proper _ _ _ (omega arith) (omega arith))
 
 pub read-spec : {M : Type 1} → statement M
 read-spec =
     tie.close
     (tie.spec
-    Inv-loop
-    μ-loop
-    blank-requires
-    loop-holds
-    item-at-requires
-    enum-known-item
-    mul-v
-    array-set-from-v
-    enum-told
-    blank-requires-2
+    mul-if1
+    improper-requires
     returns
-    add-k
-    loop-less
-    loop-again
-    returns-2)
+    improper-requires-2
+    returns-2
+    improper-requires-3
+    returns-3
+    items-of-requires
+    returns-4)
