@@ -14,7 +14,7 @@ use Rattle.lists.specs.Items.{isNegative, biased, storable, itemOf}
 use Rattle.lists.specs.declared.items.Item.{Item}
 use Rattle.lists.specs.declared.items.Item.the-variants.{Value, Malformed}
 
-both : (s t : Bool) → (s && t) ≡ true → (s ≡ true) × (t ≡ true)
+pub both : (s t : Bool) → (s && t) ≡ true → (s ≡ true) × (t ≡ true)
 both true t e = (refl, e)
 both false t e = absurd (false≢true e)
 

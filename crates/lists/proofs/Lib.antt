@@ -3,3 +3,5 @@ pub mod ItemForms
 pub mod Reading
 pub mod Fronts
 pub mod Vectors
+pub mod Outcomes
+pub mod Carried

@@ -10,6 +10,14 @@ ghost use Rattle.lists.specs.Carrying.{Working, Carries, letterReach, wo
 use number::Number;
 use number::signed::Signed;
 
+// The factor of row i and column j.
+fn factor(b: [Number; 64], i: usize, j: usize) -> Number
+    requires { ⌜ (1 ≤ i) × (i ≤ 8) × (1 ≤ j) × (j ≤ 8) ⌝ }
+    ensures { λ r. ⌜ r ≡ factorsOf b i j ⌝ }
+{
+    b[(i - 1) * 8 + (j - 1)]
+}
+
 // Item `to` gets w times item `from` added: E_j(w) with to = j and from = j - 1, Et_j(w) with to = j - 1 and from = j.
 fn added(v: [Signed; 8], to: usize, from: usize, w: Number) -> [Signed; 8]
     requires { ⌜ (1 ≤ to) × (to ≤ 8) × (1 ≤ from) × (from ≤ 8) ⌝ }
@@ -33,7 +41,7 @@ fn above(v: [Signed; 8], b: [Number; 64], n: usize, i: usize) -> [Signed; 8]
     let mut c = 0;
     while c < i {
         let j = n - i + 1 + c;
-        let w = b[c * 8 + (j - 1)];
+        let w = factor(b, c + 1, j);
         let x = added(u, j - 1, j, w);
         u = x;
         c += 1;
@@ -51,7 +59,7 @@ fn below(v: [Signed; 8], b: [Number; 64], n: usize, i: usize) -> [Signed; 8]
     let mut c = i;
     while 0 < c {
         let j = n - i + c;
-        let w = b[(j - 1) * 8 + (c - 1)];
+        let w = factor(b, j, c);
         let x = added(u, j, j - 1, w);
         u = x;
         c -= 1;
@@ -69,7 +77,7 @@ fn diagonal(v: [Signed; 8], b: [Number; 64], n: usize) -> [Signed; 8]
     let mut k = 0;
     while k < n {
         let x = u[k];
-        let w = b[k * 9];
+        let w = factor(b, k + 1, k + 1);
         u[k] = x.times(w);
         k += 1;
     }
