@@ -39,7 +39,7 @@ module _ {n : ℕ} where
   carries-more h c = record { agrees = c .agrees; working = λ r g w. working-more (omega arith) (c .working r (omega arith) w) }
 
 -- w times item o, and that added to item a
-module _ {r : ℕ} {x y : Signed} {w : Number} (far : r + letterReach ≤ workingReach) (u : SignedRanged r x) (v : SignedRanged r y) (s : Stored w) where
+module _ {r : ℕ} {x y : Signed} {w : Number} (far : r ≤ workingReach) (u : SignedRanged r x) (v : SignedRanged r y) (s : Stored w) where
   pub product-reach : SignedRanged (r + 1033) (signedProduct y (plain w))
   product-reach = signed-ranged-more (omega arith) (signed-ranged-product v (signed-ranged-plain (ranged-stored s)) (omega arith))
 

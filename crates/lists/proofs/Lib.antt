@@ -5,3 +5,4 @@ pub mod Fronts
 pub mod Vectors
 pub mod Outcomes
 pub mod Carried
+pub mod Staged

@@ -35,12 +35,19 @@ pub record Carries (n k : ℕ) (W : Word Signed) (v u : List Signed) : Type 0 wh
   pub agrees : (ω : ℕ → Signed) → Agree n v ω → Agree n u (carry signedArithmetic W ω)
   pub working : (r : ℕ) → r + k * letterReach ≤ workingReach → Working r n v → Working (r + k * letterReach) n u
 
--- stage i of the letters Et, and of the letters E, in the word of n rows with factors b
-abbrev pub stageAbove : ℕ → Factors Number → ℕ → Word Signed
-stageAbove n b i = forDown n (n - i + 1) (λ j. Et j (plain (b (i + j - n) j)) ∷ [])
+-- the word of n rows with factors b by its stages: of the letters Et and of the letters E, and D
+module _ (n : ℕ) (b : Factors Number) where
+  abbrev pub letterAbove : ℕ → ℕ → Word Signed
+  letterAbove i j = Et j (plain (b (i + j - n) j)) ∷ []
 
-abbrev pub stageBelow : ℕ → Factors Number → ℕ → Word Signed
-stageBelow n b i = forUp (n - i + 1) n (λ j. E j (plain (b j (i + j - n))) ∷ [])
+  abbrev pub stageAbove : ℕ → Word Signed
+  stageAbove i = forDown n (n - i + 1) (letterAbove i)
+
+  abbrev pub letterBelow : ℕ → ℕ → Word Signed
+  letterBelow i j = E j (plain (b j (i + j - n))) ∷ []
+
+  abbrev pub stageBelow : ℕ → Word Signed
+  stageBelow i = forUp (n - i + 1) n (letterBelow i)
 
 abbrev pub diagonalOf : Factors Number → Word Signed
 diagonalOf b = D (λ i. plain (b i i)) ∷ []

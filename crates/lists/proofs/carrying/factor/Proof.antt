@@ -1,3 +1,6 @@
+use mathlib.Core.Path.{_≡_}
+use lib.ListN.{length}
+use Rattle.lists.proofs.Vectors.{factor-is}
 use borrow.Author.Needs.{needs}
 use Rattle.lists.proofs.carrying.factor.Statement.{statement}
 use Rattle.lists.proofs.carrying.factor.Tie as tie
@@ -30,7 +33,11 @@ array-copy-out-result c = search needs
 
 -- src/carrying.rt:14:1
 returns : tie.Need-returns
-returns c = ?
+returns c =
+    let b = c .before in
+    let a = b .args in
+    let e : length (a .t1) ≡ 64 = search needs in
+    factor-is (a .t1) (a .i) (a .j) (record { m = 0; x = 0 }) e (b .pre .0) (b .pre .1) (b .pre .2) (b .pre .3)
 
 pub factor-spec : {M : Type 1} → statement M
 factor-spec =
