@@ -6,3 +6,4 @@ pub mod Vectors
 pub mod Outcomes
 pub mod Carried
 pub mod Staged
+pub mod Scaled

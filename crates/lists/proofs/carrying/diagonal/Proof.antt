@@ -1,3 +1,16 @@
+use borrow.Author.Needs.{needs}
+use mathlib.Core.Path.{_≡_, sym, ap₂, _∙_, subst}
+use Prim.Native.Nat.{ℕ, _+_, _-_, _*_, _≤_, _<_}
+use native.Mathlib.Omega.{arith}
+use Rattle.number.specs.Number.{Ranged, reach}
+use Rattle.number.specs.Signed.{plain, signedProduct, SignedRanged}
+use Rattle.number.specs.declared.Number.{Number}
+use Rattle.number.specs.declared.signed.Signed.{Signed}
+use Rattle.number.proofs.Reach.{ranged-more, ranged-stored}
+use Rattle.number.proofs.SignedReach.{signed-ranged-more}
+use Rattle.lists.specs.Table.{factorsOf}
+use Rattle.lists.proofs.Fronts.{unset}
+use Rattle.lists.proofs.Scaled.{Scaled, scaled-none, scaled-old, scaled-next, scaled-all}
 use Rattle.lists.proofs.carrying.diagonal.Statement.{statement}
 use Rattle.lists.proofs.carrying.diagonal.Tie as tie
 use Rattle.lists.proofs.carrying.diagonal.Reads as reads
@@ -6,62 +19,82 @@ use Rattle.lists.proofs.carrying.factor.Reads as factor-reads
 use Rattle.number.proofs.signed.Signed.times.Reads as times-reads
 
 abbrev Inv-loop : tie.InvT-loop
-Inv-loop b n u₀ k₀ u k = ?
+Inv-loop b n u₀ k₀ u k = (k ≤ n) × Scaled k (factorsOf b) u₀ u
 
 abbrev μ-loop : tie.MeasureT-loop
-μ-loop b n u₀ k₀ u k = ?
+μ-loop b n u₀ k₀ u k = n - k
 
 -- src/carrying.rt:78:5
 loop-holds : tie.Need-loop-holds Inv-loop μ-loop
-loop-holds c = ?
+loop-holds c = (omega arith, scaled-none (c .pre .1 .0 .eight))
 
 -- src/carrying.rt:79:17
 mul-x : tie.Need-mul-x Inv-loop μ-loop
-mul-x c = ?
+mul-x c = search needs
 
 -- src/carrying.rt:79:17
 array-copy-out-x : tie.Need-array-copy-out-x Inv-loop μ-loop
-array-copy-out-x c = ?
+array-copy-out-x c = search needs
 
 -- src/carrying.rt:80:27
 add-factor : tie.Need-add-factor Inv-loop μ-loop
-add-factor c = ?
+add-factor c = search needs
 
 -- src/carrying.rt:80:34
 add-factor-2 : tie.Need-add-factor-2 Inv-loop μ-loop
-add-factor-2 c = ?
+add-factor-2 c = search needs
 
 -- src/carrying.rt:80:13
 factor-requires : tie.Need-factor-requires Inv-loop μ-loop
-factor-requires c κs = ?
+factor-requires c κs = search needs
 
 -- src/carrying.rt:81:16
 times-requires : tie.Need-times-requires Inv-loop μ-loop
-times-requires c κs = ?
+times-requires c κs =
+    let b = c .before .before .before in
+    let a = b .before .args in
+    let h : b .loop .k < a .n = c .before .before .loop-test .taken in
+    let p = b .before .pre in
+    (
+      subst (SignedRanged reach) (sym (scaled-old (b .loop .inv .1) (omega arith) unset)) (signed-ranged-more (omega arith) (p .1 .0 .ranged (b .loop .k + 1) (omega arith) (omega arith))),
+      subst (Ranged reach) (sym (c .factor .ensures)) (ranged-more (omega arith) (ranged-stored (p .1 .1 .stored (b .loop .k + 1) (b .loop .k + 1) (omega arith) (omega arith) (omega arith) (omega arith)))),
+    )
 
 -- src/carrying.rt:81:9
 mul-u : tie.Need-mul-u Inv-loop μ-loop
-mul-u c = ?
+mul-u c = search needs
 
 -- src/carrying.rt:81:9
 array-set-from-u : tie.Need-array-set-from-u Inv-loop μ-loop
-array-set-from-u c = ?
+array-set-from-u c = search needs
 
 -- src/carrying.rt:82:9
 add-k : tie.Need-add-k Inv-loop μ-loop
-add-k c = ?
+add-k c = search needs
 
 -- src/carrying.rt:78:5
 loop-less : tie.Need-loop-less Inv-loop μ-loop
-loop-less c = ?
+loop-less c = search needs
 
 -- src/carrying.rt:78:5
 loop-again : tie.Need-loop-again Inv-loop μ-loop
-loop-again c = ?
+loop-again c =
+    let b = c .before .before .before .before in
+    let a = b .before .args in
+    let h : b .loop .k < a .n = c .before .before .before .loop-test .taken in
+    (
+      omega arith,
+      scaled-next (b .loop .inv .1) (omega (arith, b .before .pre .0)) (c .times .result)
+      (c .times .ensures ∙ ap₂ (λ (x : Signed) (w : Number). signedProduct x (plain w)) (scaled-old (b .loop .inv .1) (omega (arith, b .before .pre .0)) unset) (c .before .factor .ensures)),
+    )
 
 -- src/carrying.rt:71:1
 returns : tie.Need-returns Inv-loop μ-loop
-returns c = ?
+returns c =
+    let b = c .before in
+    let a = b .before .args in
+    let e : b .loop .k ≡ a .n = omega (arith, b .loop .inv .0, c .loop-test .left) in
+    scaled-all (b .before .pre .1 .1) (subst (λ (k : ℕ). Scaled k (factorsOf (a .b)) (a .v) (b .loop .u)) e (b .loop .inv .1))
 
 pub diagonal-spec : {M : Type 1} → statement M
 diagonal-spec =
