@@ -7,3 +7,4 @@ pub mod Outcomes
 pub mod Carried
 pub mod Staged
 pub mod Scaled
+pub mod FirstItems

@@ -1,13 +1,13 @@
 -- The word of a matrix in the order in which items are carried through it: the letters of a stage (`above-next`, `above-all`, `below-next`, `below-all`), the stages
--- of letters Et (`stages-above-next`), D (`diagonal-then`), the stages of letters E (`stages-below-next`), and so the whole word (`carries-word`).
+-- of letters Et (`stages-above-next`) and of letters E (`stages-below-next`), and the whole word (`carries-word`).
 use mathlib.Core.Path.{_≡_, refl, sym, ap, ap₂, _∙_, subst}
-use mathlib.Core.List.{List, [], _∷_, _++_, append-assoc}
+use mathlib.Core.List.{List, [], _∷_, _++_}
 use Prim.Native.Nat.{ℕ, suc, _+_, _-_, _*_, _≤_, _<_}
 use native.Mathlib.Omega.{arith}
 use Rattle.number.specs.Signed.{plain}
 use Rattle.number.specs.declared.Number.{Number}
 use Rattle.number.specs.declared.signed.Signed.{Signed}
-use Rattle.words.specs.Word.{Factors, Word, E, Et, D, ascending, descending, word}
+use Rattle.words.specs.Word.{Factors, Word, E, Et, ascending, descending, word}
 use Rattle.lists.specs.Carrying.{Carries, letterAbove, letterBelow, stageAbove, stageBelow, diagonalOf}
 use Rattle.lists.proofs.Carried.{carries-then, carries-more}
 
@@ -79,41 +79,27 @@ module _ (n : ℕ) (b : Factors Number) where
   abbrev pub stagesAbove : ℕ → Word Signed
   stagesAbove k = descending k k (stageAbove n b)
 
-  -- D and the letters Et
-  abbrev pub upper : Word Signed
-  upper = diagonalOf b ++ stagesAbove (n - 1)
-
   abbrev pub stagesBelow : ℕ → Word Signed
-  stagesBelow i = ascending i (n - i) (stageBelow n b) ++ upper
+  stagesBelow i = ascending i (n - i) (stageBelow n b)
 
-  module _ {v u : List Signed} where
-    pub stages-above-next : {t : List Signed} (i : ℕ) → 1 ≤ i → Carries n (8 * (i - 1)) (stagesAbove (i - 1)) v u → Carries n 8 (stageAbove n b i) u t → Carries n (8 * (i + 1 - 1)) (stagesAbove (i + 1 - 1)) v t
+  module _ {v u t : List Signed} where
+    pub stages-above-next : (i : ℕ) → 1 ≤ i → Carries n (8 * (i - 1)) (stagesAbove (i - 1)) v u → Carries n 8 (stageAbove n b i) u t → Carries n (8 * (i + 1 - 1)) (stagesAbove (i + 1 - 1)) v t
     stages-above-next i h c d =
         let p : i ≡ i - 1 + 1 = omega arith in
         let q : i - 1 + 1 ≡ i + 1 - 1 = omega arith in
         respelt (omega arith) (ap (λ k. stageAbove n b k ++ stagesAbove (i - 1)) p ∙ descending-next (i - 1) (i - 1) (stageAbove n b) ∙ ap stagesAbove q) (carries-then c d)
 
-    pub diagonal-then : {t : List Signed} (i : ℕ) → 1 ≤ i → i ≡ n → Carries n (8 * (i - 1)) (stagesAbove (i - 1)) v u → Carries n 8 (diagonalOf b) u t → Carries n (8 * n + 8 * (n - i)) (stagesBelow i) v t
-    unfolding ascending
-    diagonal-then i h e c d =
-        let p : 0 ≡ n - i = omega arith in
-        respelt (omega arith) (ap (λ k. diagonalOf b ++ stagesAbove (k - 1)) e ∙ ap (λ m. ascending i m (stageBelow n b) ++ upper) p) (carries-then c d)
-
-    pub stages-below-next : {t : List Signed} (i : ℕ) → 1 < i → i ≤ n → Carries n (8 * n + 8 * (n - i)) (stagesBelow i) v u → Carries n 8 (stageBelow n b (i - 1)) u t
-        → Carries n (8 * n + 8 * (n - (i - 1))) (stagesBelow (i - 1)) v t
+    pub stages-below-next : (i : ℕ) → 1 < i → i ≤ n → Carries n (8 * (n - i)) (stagesBelow i) v u → Carries n 8 (stageBelow n b (i - 1)) u t → Carries n (8 * (n - (i - 1))) (stagesBelow (i - 1)) v t
     stages-below-next i h g c d =
         let f : ℕ → Word Signed = stageBelow n b in
         let p : i ≡ i - 1 + 1 = omega arith in
         let q : n - i + 1 ≡ n - (i - 1) = omega arith in
-        respelt (omega arith)
-        (sym (append-assoc (f (i - 1)) (ascending i (n - i) f) upper)
-        ∙ ap (λ W. W ++ upper) (ap (λ k. f (i - 1) ++ ascending k (n - i) f) p ∙ ascending-next (i - 1) (n - i) f ∙ ap (λ m. ascending (i - 1) m f) q))
-        (carries-then c d)
+        respelt (omega arith) (ap (λ k. f (i - 1) ++ ascending k (n - i) f) p ∙ ascending-next (i - 1) (n - i) f ∙ ap (λ m. ascending (i - 1) m f) q) (carries-then c d)
 
-    pub carries-word : (i : ℕ) → i ≡ 1 → 1 ≤ n → Carries n (8 * n + 8 * (n - i)) (stagesBelow i) v u → Carries n (16 * n) (word n (λ i j. plain (b i j))) v u
-    unfolding word
-    carries-word i e h c =
-        let p : n - 1 ≡ suc (n - 1) - 1 = omega arith in
-        respelt (omega arith)
-        (ap stagesBelow e ∙ ap₂ (λ k l. ascending 1 k (stageBelow n b) ++ (diagonalOf b ++ descending (n - 1) l (stageAbove n b))) p p)
-        c
+  -- ---- the whole word
+  pub carries-word : {v x y u : List Signed} → 1 ≤ n → Carries n (8 * (n - 1)) (stagesAbove (n - 1)) v x → Carries n 8 (diagonalOf b) x y → Carries n (8 * (n - 1)) (stagesBelow 1) y u
+      → Carries n (16 * n) (word n (λ i j. plain (b i j))) v u
+  unfolding word
+  carries-word h a d e =
+      let p : n - 1 ≡ suc (n - 1) - 1 = omega arith in
+      respelt (omega arith) (ap₂ (λ k l. ascending 1 k (stageBelow n b) ++ (diagonalOf b ++ descending (n - 1) l (stageAbove n b))) p p) (carries-then (carries-then a d) e)
