@@ -1,4 +1,5 @@
--- Laws of list items: what three numbers are by the code's tests (`Storable`, `item-zero`, `item-value`, `item-malformed`), and three numbers written (`put-is`).
+-- Laws of list items: what three numbers are by the code's tests (`Storable`, `item-zero`, `item-value`, `item-malformed`), that it is in range
+-- (`item-ranged`), and three numbers written (`put-is`).
 use mathlib.Core.Path.{_≡_, refl, sym, ap, _∙_}
 use mathlib.Core.Bool.{Bool, true, false, not, cond, _&&_, true≢false, false≢true}
 use mathlib.Core.List.{List, [], _∷_}
@@ -9,10 +10,12 @@ use lib.Dec.{eqb, leb, ltb}
 use lib.IntN.{ℤ, natAbs}
 use lib.ListN.{set}
 use lib.Seq.{sets}
-use Rattle.number.specs.Signed.{zeroSigned}
+use Rattle.number.specs.Signed.{zeroSigned, SignedRanged}
+use Rattle.number.proofs.SignedReach.{signed-ranged-zero}
 use Rattle.lists.specs.Items.{isNegative, biased, storable, itemOf}
 use Rattle.lists.specs.declared.items.Item.{Item}
 use Rattle.lists.specs.declared.items.Item.the-variants.{Value, Malformed}
+use Rattle.lists.proofs.Wholes.{biased-near}
 
 pub both : (s t : Bool) → (s && t) ≡ true → (s ≡ true) × (t ≡ true)
 both true t e = (refl, e)
@@ -67,6 +70,26 @@ module _ (s m e : ℤ) where
       let a = both (eqb (natAbs s) 0) _ h in
       let b = both (eqb (natAbs m) 0) _ (a .1) in
       p (eqb-true _ _ (a .0)) (eqb-true _ _ (b .0)) (eqb-true _ _ (b .1))), unless (storable s m e) (λ h. q (storable-facts h)))
+
+-- a well-formed item is in range
+abbrev pub RangedItem : Item → Type 0
+RangedItem (Value a) = SignedRanged 1000 a
+RangedItem Malformed = Unit {0}
+
+pub item-ranged : (s m e : ℤ) → RangedItem (itemOf s m e)
+unfolding itemOf
+item-ranged s m e = go (eqb (natAbs s) 0 && (eqb (natAbs m) 0 && eqb (natAbs e) 0)) (storable s m e) refl
+  where
+    go : (t y : Bool) → storable s m e ≡ y → RangedItem (cond t (Value zeroSigned) (cond y (Value (record { negative = isNegative s; size = record { m = natAbs m; x = biased e } })) Malformed))
+    go true y h = signed-ranged-zero 1000
+    go false true h =
+        let f = storable-facts s m e h in
+        let n = biased-near e (f .near) in
+        record {
+          size = record { zero = λ z. absurd (omega (arith, f .low)); low = λ p. f .low; high = f .high; start = n .0; stop = n .1 };
+          zero = λ z. absurd (omega (arith, f .low));
+        }
+    go false false h = tt
 
 -- three numbers put one after the other
 pub put-is : (z : List ℤ) (i : ℕ) (a b c a′ b′ c′ : ℤ) → a ≡ a′ → b ≡ b′ → c ≡ c′ → set (set (set z i a) (i + 1) b) (i + 2) c ≡ sets z i (a′ ∷ b′ ∷ c′ ∷ [])

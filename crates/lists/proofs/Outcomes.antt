@@ -1,25 +1,28 @@
--- What the list calls answer, by what their tests find: a list as it was read (`Read`, `read-proper`, `read-improper`), the answers to a count of reversals
+-- What the list calls answer, by what their tests find: a list as it was read (`Read`, `read-proper`, `read-improper`, `read-working`), the answers to a count of reversals
 -- (`reversals-counted`, `reversals-refused`) and to a carry (`carry-improper`, `carry-outside`, `carry-short`, `carry-done`).
 use mathlib.Core.Path.{_≡_, refl, sym, ap, ap₂, _∙_, subst}
 use mathlib.Core.Bool.{Bool, true, false, not, cond, _&&_, true≢false, false≢true}
 use mathlib.Core.List.{List, [], _∷_, _++_}
 use mathlib.Core.Option.{Option, none, some}
-use Prim.Native.Nat.{ℕ, zero, suc, _+_, _*_, _≤_, _<_}
+use Prim.Native.Nat.{ℕ, zero, suc, _+_, _-_, _*_, _≤_, _<_}
 use native.Mathlib.Omega.{arith}
 use borrow.Author.Tests.{leb-true, le-leb, lt-ltb, le-ltb}
 use lib.Dec.{leb}
 use lib.IntN.{ℤ}
-use lib.ListN.{length, take, length-replicate}
-use lib.Seq.{sets, sets-eq, take-append-le, take-all}
+use lib.ListN.{length, take, getD}
+use lib.Seq.{sets, sets-eq, length-sets, take-append-le, take-all, getD-take}
+use Rattle.number.specs.Signed.{zeroSigned, SignedRanged}
 use Rattle.number.specs.declared.Number.{Number}
 use Rattle.number.specs.declared.signed.Signed.{Signed}
 use Rattle.words.specs.Word.{Factors}
 use Rattle.lists.specs.Items.{blank, listOf, listNumbers, proper, listed, listedFrom}
 use Rattle.lists.specs.Lists.{reversals, reversalsOf, carriedList, anyOutside, carryConditions, carryOf, Carrying}
+use Rattle.lists.specs.Carrying.{Working}
 use Rattle.lists.specs.declared.Answer.the-variants.{Done, Refused}
 use Rattle.lists.specs.declared.Counted.the-variants as counted
 use Rattle.lists.specs.declared.items.Listed.{Listed}
 use Rattle.lists.proofs.ItemForms.{both}
+use Rattle.lists.proofs.Reading.{RangedItems, list-ranged}
 
 -- a proper list, as a reader hands it on
 pub record Read (least most : ℕ) (z : List ℤ) (r : Listed) : Type 0 where
@@ -29,6 +32,7 @@ pub record Read (least most : ℕ) (z : List ℤ) (r : Listed) : Type 0 where
   pub high : length list ≤ most
   pub count : r .count ≡ length list
   pub front : take (length list) (r .items) ≡ list
+  pub eight : length (r .items) ≡ 8
 
 -- the items stand at the start of eight
 listed-front : (L : List Signed) → length L ≤ 8 → take (length L) (sets blank 0 L) ≡ L
@@ -53,6 +57,7 @@ module _ (least most : ℕ) (z : List ℤ) (r : Listed) (e : r ≡ listed least 
             high = hi;
             count = ap (λ (x : Listed). x .count) d ∙ (omega arith);
             front = ap (λ (x : Listed). take (length L) (x .items)) d ∙ listed-front L (omega arith);
+            eight = ap (λ (x : Listed). length (x .items)) d ∙ length-sets blank 0 L;
           }
 
   pub read-improper : r .proper ≡ false → proper least most (listOf z) ≡ false
@@ -63,6 +68,18 @@ module _ (least most : ℕ) (z : List ℤ) (r : Listed) (e : r ≡ listed least 
       go o f false g = g
       go none f true g = absurd (false≢true (ap (proper least most) (sym f) ∙ g))
       go (some L) f true g = absurd (true≢false (sym (ap₂ (λ (t : Bool) (o : Option (List Signed)). listedFrom blank 0 (cond t o none) .proper) g f) ∙ sym (ap (λ (x : Listed). x .proper) e) ∙ h))
+
+-- its items are in range
+pub read-working : (n : ℕ) (z : List ℤ) (r : Listed) → Read n n z r → Working 1000 n (r .items)
+read-working n z r h =
+    record {
+      eight = h .eight;
+      ranged = λ i p q.
+      let e = list-ranged z in
+      let l : length (h .list) ≡ n = omega (arith, h .low, h .high) in
+      subst (SignedRanged 1000) (ap (λ (L : List Signed). getD L (i - 1) zeroSigned) (sym (h .front)) ∙ getD-take (length (h .list)) (r .items) (i - 1) zeroSigned (omega arith))
+      (subst RangedItems (h .formed) (list-ranged z) (i - 1) (omega arith));
+    }
 
 -- ---- a count of reversals
 module _ (z : List ℤ) where

@@ -12,11 +12,13 @@ use lib.Dec.{leb}
 use lib.IntN.{ℤ, pos}
 use lib.ListN.{length, getD, drop, set, drop-of-length-le}
 use lib.Seq.{drop-cons, sets}
+use Rattle.number.specs.Signed.{zeroSigned, SignedRanged}
 use Rattle.number.specs.declared.signed.Signed.{Signed}
 use Rattle.lists.specs.Items.{itemOf, joined, listOf, listed, listedFrom, blank}
 use Rattle.lists.specs.declared.items.Item.{Item}
 use Rattle.lists.specs.declared.items.Item.the-variants.{Value, Malformed}
 use Rattle.lists.specs.declared.items.Listed.{Listed}
+use Rattle.lists.proofs.ItemForms.{RangedItem, item-ranged}
 
 -- item k of a row of numbers
 abbrev pub itemIn : List ℤ → ℕ → Item
@@ -77,6 +79,27 @@ list-numbered (s ∷ m ∷ x ∷ z) = go (itemOf s m x) (listOf z) (list-numbere
     go (Value a) (some L) h = omega arith
     go (Value a) none h = tt
     go Malformed o h = tt
+
+-- the items of a well-formed row are in range
+abbrev pub RangedItems : Option (List Signed) → Type 0
+RangedItems (some L) = (k : ℕ) → k < length L → SignedRanged 1000 (getD L k zeroSigned)
+RangedItems none = Unit {0}
+
+ranged-cons : (a : Signed) (L : List Signed) → SignedRanged 1000 a → RangedItems (some L) → RangedItems (some (a ∷ L))
+ranged-cons a L u h zero p = u
+ranged-cons a L u h (suc k) p = h k (omega arith)
+
+pub list-ranged : (z : List ℤ) → RangedItems (listOf z)
+unfolding listOf
+list-ranged [] = λ k h. absurd (omega arith)
+list-ranged (s ∷ []) = tt
+list-ranged (s ∷ m ∷ []) = tt
+list-ranged (s ∷ m ∷ x ∷ z) = go (itemOf s m x) (listOf z) (item-ranged s m x) (list-ranged z)
+  where
+    go : (i : Item) (o : Option (List Signed)) → RangedItem i → RangedItems o → RangedItems (joined i o)
+    go (Value a) (some L) u h = ranged-cons a L u h
+    go (Value a) none u h = tt
+    go Malformed o u h = tt
 
 -- ---- the tests of a list's length: n is a third of the numbers
 module _ (least most : ℕ) (z : List ℤ) where

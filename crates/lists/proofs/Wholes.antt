@@ -1,5 +1,6 @@
 -- Laws of whole numbers with a sign, as the code steps through them: their signs (`below-zero`, `not-negative`), a negative number without its sign (`Flipped`,
--- `flipped`), a sign put on (`minus-fits`, `minus-is`), and kept exponents (`biased-negative`, `biased-plain`, `unbiased-below`, `unbiased-above`).
+-- `flipped`), a sign put on (`minus-fits`, `minus-is`), and kept exponents (`biased-negative`, `biased-plain`, `biased-near`,
+-- `unbiased-below`, `unbiased-above`, `biased-unbiased`).
 use mathlib.Core.Path.{_≡_, refl, sym, ap, _∙_}
 use mathlib.Core.Bool.{Bool, true, false, true≢false, false≢true}
 use mathlib.Core.List.{List}
@@ -69,6 +70,10 @@ biased-negative (negsuc n) h = refl
 pub biased-plain : (e : ℤ) → isNegative e ≡ false → bias + natAbs e ≡ biased e
 biased-plain (pos n) h = refl
 biased-plain (negsuc n) h = absurd (true≢false h)
+
+pub biased-near : (e : ℤ) → natAbs e ≤ 1000 → (bias ≤ biased e + 1000) × (biased e ≤ bias + 1000)
+biased-near (pos n) h = (omega arith, omega arith)
+biased-near (negsuc n) h = (omega arith, omega arith)
 
 pub unbiased-below : (x : ℕ) → x < bias → negℤ (pos (bias - x)) ≡ unbiased x
 unbiased-below x h =
