@@ -1,5 +1,5 @@
 -- Laws of carrying: no letter (`carries-none`), one word after another (`carries-then`), fewer letters (`carries-more`), and a letter E or Et (`carries-raise`,
--- `carries-lower`), with how far it takes the exponents (`added-reach`).
+-- `carries-lower`).
 use mathlib.Core.Path.{_≡_, refl, sym, ap, ap₂, _∙_, subst}
 use mathlib.Core.Bool.{Bool, true, false, cond}
 use mathlib.Core.List.{List, [], _∷_, _++_}
@@ -15,12 +15,13 @@ use Rattle.number.specs.declared.Number.{Number}
 use Rattle.number.specs.declared.signed.Signed.{Signed}
 use Rattle.number.proofs.Reach.{ranged-stored}
 use Rattle.number.proofs.Signs.{signed-product-comm}
-use Rattle.number.proofs.SignedReach.{signed-ranged-more, signed-ranged-plain, signed-ranged-sum, signed-ranged-product}
+use Rattle.number.proofs.SignedReach.{signed-ranged-more, signed-ranged-plain}
 use Rattle.words.specs.Word.{Word, E, Et}
 use Rattle.words.specs.Walk.{carry, carryLetter}
 use Rattle.words.proofs.Walks.{carry-append}
 use Rattle.lists.specs.Lists.{vectorOf}
 use Rattle.lists.specs.Carrying.{Agree, Working, Carries, letterReach, workingReach}
+use Rattle.lists.proofs.LetterReach.{added-reach}
 use Rattle.lists.proofs.Vectors.{working-more, vector-here, vector-other}
 
 module _ {n : ℕ} where
@@ -37,14 +38,6 @@ module _ {n : ℕ} where
 
   pub carries-more : {k l : ℕ} {W : Word Signed} {v u : List Signed} → k ≤ l → Carries n k W v u → Carries n l W v u
   carries-more h c = record { agrees = c .agrees; working = λ r g w. working-more (omega arith) (c .working r (omega arith) w) }
-
--- w times item o, and that added to item a
-module _ {r : ℕ} {x y : Signed} {w : Number} (far : r ≤ workingReach) (u : SignedRanged r x) (v : SignedRanged r y) (s : Stored w) where
-  pub product-reach : SignedRanged (r + 1033) (signedProduct y (plain w))
-  product-reach = signed-ranged-more (omega arith) (signed-ranged-product v (signed-ranged-plain (ranged-stored s)) (omega arith))
-
-  pub added-reach : SignedRanged (r + letterReach) (signedSum x (signedProduct y (plain w)))
-  added-reach = signed-ranged-more (omega arith) (signed-ranged-sum (signed-ranged-more (omega arith) u) product-reach (omega arith))
 
 module _ (n a o : ℕ) (w : Number) (v : List Signed) (few : n ≤ 8) (eight : length v ≡ 8) (to-low : 1 ≤ a) (to-high : a ≤ n) (from-low : 1 ≤ o) (from-high : o ≤ n) (s : Stored w) where
   abbrev added : List Signed
@@ -68,7 +61,7 @@ module _ (n a o : ℕ) (w : Number) (v : List Signed) (few : n ≤ 8) (eight : l
       record {
         eight = length-set v (a - 1) _ ∙ eight;
         ranged = λ i p q. elim (ℕ-discrete i a) [
-          | yes e ↦ subst (SignedRanged (r + 1 * letterReach)) (sym (added-here i e)) (signed-ranged-more (omega arith) (added-reach (omega arith) (W .ranged a to-low to-high) (W .ranged o from-low from-high) s))
+          | yes e ↦ subst (SignedRanged (r + 1 * letterReach)) (sym (added-here i e)) (signed-ranged-more (omega arith) (added-reach (omega arith) (W .ranged o from-low from-high) (signed-ranged-plain (ranged-stored s)) (W .ranged a to-low to-high)))
           | no e ↦ subst (SignedRanged (r + 1 * letterReach)) (sym (added-other i p e)) (signed-ranged-more (omega arith) (W .ranged i p q))
         ];
       }

@@ -4,7 +4,9 @@ pub mod Reading
 pub mod Fronts
 pub mod Vectors
 pub mod Outcomes
+pub mod LetterReach
 pub mod Carried
 pub mod Staged
 pub mod Scaled
 pub mod FirstItems
+pub mod RoundTrip

@@ -1,13 +1,14 @@
 -- What the list calls answer, by what their tests find: a list as it was read (`Read`, `read-proper`, `read-improper`, `read-working`), the answers to a count of reversals
--- (`reversals-counted`, `reversals-refused`) and to a carry (`carry-improper`, `carry-outside`, `carry-short`, `carry-done`).
+-- (`reversals-counted`, `reversals-refused`) and to a carry (`carry-improper`, `carry-outside`, `carry-short`, `carry-done`;
+-- `Accepted`, `carry-accepted`).
 use mathlib.Core.Path.{_≡_, refl, sym, ap, ap₂, _∙_, subst}
 use mathlib.Core.Bool.{Bool, true, false, not, cond, _&&_, true≢false, false≢true}
 use mathlib.Core.List.{List, [], _∷_, _++_}
 use mathlib.Core.Option.{Option, none, some}
 use Prim.Native.Nat.{ℕ, zero, suc, _+_, _-_, _*_, _≤_, _<_}
 use native.Mathlib.Omega.{arith}
-use borrow.Author.Tests.{leb-true, le-leb, lt-ltb, le-ltb}
-use lib.Dec.{leb}
+use borrow.Author.Tests.{leb-true, le-leb, lt-ltb, le-ltb, ltb-true, ltb-false}
+use lib.Dec.{leb, ltb}
 use lib.IntN.{ℤ}
 use lib.ListN.{length, take, getD}
 use lib.Seq.{sets, sets-eq, length-sets, take-append-le, take-all, getD-take}
@@ -112,3 +113,32 @@ module _ (n : ℕ) (b : Factors Number) (z out : List ℤ) where
     pub carry-done : anyOutside (carriedList n b L) ≡ false → 3 * n ≤ length out → carryOf n b z out ≡ record { answer = Done; out = sets out 0 (listNumbers (carriedList n b L)) }
     unfolding carryOf carryConditions
     carry-done g h = simp (e, exactly, g, le-ltb (length out) (3 * n) h)
+
+-- ---- an accepted carry
+pub record Accepted (n : ℕ) (b : Factors Number) (z out : List ℤ) : Type 0 where
+  pub list : List Signed
+  pub formed : listOf z ≡ some list
+  pub exact : length list ≡ n
+  pub inside : anyOutside (carriedList n b list) ≡ false
+  pub room : 3 * n ≤ length out
+
+pub carry-accepted : (n : ℕ) (b : Factors Number) (z out : List ℤ) → carryOf n b z out .answer ≡ Done → Accepted n b z out
+carry-accepted n b z out h = go (listOf z) refl (proper n n (listOf z)) refl
+  where
+    refused : (k : ℕ) → carryOf n b z out ≡ record { answer = Refused k; out = out } → Accepted n b z out
+    refused k e =
+        let f : Refused k ≡ Done = sym (ap (λ (x : Carrying). x .answer) e) ∙ h in
+        let w : _≡_ {A = ℕ} 0 1 = cc in
+        absurd (omega arith)
+
+    later : (L : List Signed) → listOf z ≡ some L → length L ≡ n → (s t : Bool) → anyOutside (carriedList n b L) ≡ s → ltb (length out) (3 * n) ≡ t → Accepted n b z out
+    later L e f true t p q = refused 14 (carry-outside n b z out L e f p)
+    later L e f false true p q = refused 10 (carry-short n b z out L e f p (ltb-true (length out) (3 * n) q))
+    later L e f false false p q = record { list = L; formed = e; exact = f; inside = p; room = ltb-false (length out) (3 * n) q }
+
+    go : (o : Option (List Signed)) → listOf z ≡ o → (t : Bool) → proper n n (listOf z) ≡ t → Accepted n b z out
+    go o e false f = refused 9 (carry-improper n b z out f)
+    go none e true f = absurd (false≢true (ap (proper n n) (sym e) ∙ f))
+    go (some L) e true f =
+        let p = both (leb n (length L)) (leb (length L) n) (ap (proper n n) (sym e) ∙ f) in
+        later L e (omega (arith, leb-true n (length L) (p .0), leb-true (length L) n (p .1))) _ _ refl refl

@@ -8,7 +8,8 @@ use lib.ListN.{length, getD, set, length-set}
 use Rattle.number.specs.Signed.{plain, zeroSigned, signedProduct, SignedRanged}
 use Rattle.number.specs.declared.Number.{Number}
 use Rattle.number.specs.declared.signed.Signed.{Signed}
-use Rattle.number.proofs.SignedReach.{signed-ranged-more}
+use Rattle.number.proofs.Reach.{ranged-stored}
+use Rattle.number.proofs.SignedReach.{signed-ranged-more, signed-ranged-plain}
 use Rattle.words.specs.Word.{Factors}
 use Rattle.words.specs.Walk.{carry, carryLetter}
 use Rattle.lists.specs.Lists.{vectorOf}
@@ -16,7 +17,7 @@ use Rattle.lists.specs.Table.{StoredFactors}
 use Rattle.lists.specs.Carrying.{Carries, diagonalOf}
 use Rattle.lists.proofs.Fronts.{read-any}
 use Rattle.lists.proofs.Vectors.{vector-here, vector-other}
-use Rattle.lists.proofs.Carried.{product-reach}
+use Rattle.lists.proofs.LetterReach.{product-reach}
 
 pub record Scaled (k : ℕ) (b : Factors Number) (v u : List Signed) : Type 0 where
   pub eight : length u ≡ 8
@@ -61,6 +62,6 @@ module _ {b : Factors Number} {v : List Signed} where
         working = λ r h w. record {
           eight = s .eight;
           ranged = λ i p q. subst (SignedRanged (r + 8 * 1064)) (sym (s .done i p q))
-          (signed-ranged-more (omega arith) (product-reach (omega arith) (w .ranged i p q) (w .ranged i p q) (f .stored i i p q p q)));
+          (signed-ranged-more (omega arith) (product-reach (omega arith) (w .ranged i p q) (signed-ranged-plain (ranged-stored (f .stored i i p q p q)))));
         };
       }

@@ -1,6 +1,6 @@
 -- Laws of whole numbers with a sign, as the code steps through them: their signs (`below-zero`, `not-negative`), a negative number without its sign (`Flipped`,
 -- `flipped`), a sign put on (`minus-fits`, `minus-is`), and kept exponents (`biased-negative`, `biased-plain`, `biased-near`,
--- `unbiased-below`, `unbiased-above`, `biased-unbiased`).
+-- `unbiased-below`, `unbiased-above`, `unbiased-near`, `biased-unbiased`).
 use mathlib.Core.Path.{_≡_, refl, sym, ap, _∙_}
 use mathlib.Core.Bool.{Bool, true, false, true≢false, false≢true}
 use mathlib.Core.List.{List}
@@ -87,5 +87,12 @@ pub biased-unbiased : (x : ℕ) → biased (unbiased x) ≡ x
 biased-unbiased x = go (decLt x bias)
   where
     go : Dec (x < bias) → biased (unbiased x) ≡ x
+    go (yes h) = simp (lt-ltb x bias h) (omega arith)
+    go (no h) = let l : bias ≤ x = omega arith in simp (le-ltb x bias l) (omega arith)
+
+pub unbiased-near : (x : ℕ) → bias ≤ x + 1000 → x ≤ bias + 1000 → natAbs (unbiased x) ≤ 1000
+unbiased-near x p q = go (decLt x bias)
+  where
+    go : Dec (x < bias) → natAbs (unbiased x) ≤ 1000
     go (yes h) = simp (lt-ltb x bias h) (omega arith)
     go (no h) = let l : bias ≤ x = omega arith in simp (le-ltb x bias l) (omega arith)
