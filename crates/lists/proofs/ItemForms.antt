@@ -66,10 +66,13 @@ module _ (s m e : ℤ) where
 
   pub item-malformed : (natAbs s ≡ 0 → natAbs m ≡ 0 → natAbs e ≡ 0 → ⊥) → (Storable → ⊥) → itemOf s m e ≡ Malformed
   unfolding itemOf allZero
-  item-malformed p q = simp (unless allZero (λ h.
-      let a = both (eqb (natAbs s) 0) _ h in
-      let b = both (eqb (natAbs m) 0) _ (a .1) in
-      p (eqb-true _ _ (a .0)) (eqb-true _ _ (b .0)) (eqb-true _ _ (b .1))), unless (storable s m e) (λ h. q (storable-facts h)))
+  item-malformed p q = simp (
+    unless allZero (λ h.
+        let a = both (eqb (natAbs s) 0) _ h in
+        let b = both (eqb (natAbs m) 0) _ (a .1) in
+        p (eqb-true _ _ (a .0)) (eqb-true _ _ (b .0)) (eqb-true _ _ (b .1))),
+    unless (storable s m e) (λ h. q (storable-facts h)),
+  )
 
 -- a well-formed item is in range
 abbrev pub RangedItem : Item → Type 0

@@ -10,3 +10,4 @@ pub mod Staged
 pub mod Scaled
 pub mod FirstItems
 pub mod RoundTrip
+pub mod Examples

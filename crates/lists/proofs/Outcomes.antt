@@ -76,10 +76,10 @@ read-working n z r h =
     record {
       eight = h .eight;
       ranged = λ i p q.
-      let e = list-ranged z in
-      let l : length (h .list) ≡ n = omega (arith, h .low, h .high) in
-      subst (SignedRanged 1000) (ap (λ (L : List Signed). getD L (i - 1) zeroSigned) (sym (h .front)) ∙ getD-take (length (h .list)) (r .items) (i - 1) zeroSigned (omega arith))
-      (subst RangedItems (h .formed) (list-ranged z) (i - 1) (omega arith));
+          let e = list-ranged z in
+          let l : length (h .list) ≡ n = omega (arith, h .low, h .high) in
+          subst (SignedRanged 1000) (ap (λ (L : List Signed). getD L (i - 1) zeroSigned) (sym (h .front)) ∙ getD-take (length (h .list)) (r .items) (i - 1) zeroSigned (omega arith))
+          (subst RangedItems (h .formed) (list-ranged z) (i - 1) (omega arith));
     }
 
 -- ---- a count of reversals

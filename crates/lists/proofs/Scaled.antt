@@ -62,6 +62,6 @@ module _ {b : Factors Number} {v : List Signed} where
         working = λ r h w. record {
           eight = s .eight;
           ranged = λ i p q. subst (SignedRanged (r + 8 * 1064)) (sym (s .done i p q))
-          (signed-ranged-more (omega arith) (product-reach (omega arith) (w .ranged i p q) (signed-ranged-plain (ranged-stored (f .stored i i p q p q)))));
+              (signed-ranged-more (omega arith) (product-reach (omega arith) (w .ranged i p q) (signed-ranged-plain (ranged-stored (f .stored i i p q p q)))));
         };
       }

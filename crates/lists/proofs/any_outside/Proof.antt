@@ -52,8 +52,7 @@ loop-less c = search needs
 loop-again : tie.Need-loop-again Inv-loop μ-loop
 loop-again c =
     let b = c .before .before .before .before in
-    let g : length (b .before .args .t1) ≡ 8 = search needs in
-    (
+    let g : length (b .before .args .t1) ≡ 8 = search needs in (
       omega (arith, c .before .before .before .loop-test .taken),
       b .loop .inv .1 ∙ outside-later (b .before .args .t1) (b .before .args .n) (b .loop .k) unset (c .before .before .before .loop-test .taken) (omega (arith, b .before .pre)) (sym (c .before .outside .ensures) ∙ c .if1 .left),
     )

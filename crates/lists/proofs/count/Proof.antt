@@ -59,8 +59,7 @@ loop-again : tie.Need-loop-again Inv-loop μ-loop
 loop-again c =
     let b = c .before .before .before in
     let h : b .loop .k < b .before .before .args .n = c .before .before .loop-test .taken in
-    let g : length (b .before .before .args .t1) ≡ 8 = search needs in
-    (
+    let g : length (b .before .before .args .t1) ≡ 8 = search needs in (
       omega arith,
       omega (arith, turned c, b .loop .inv .1),
       count-next (b .before .before .args .t1) (b .before .before .args .n) (b .loop .k) unset h (omega (arith, b .before .before .pre)) _ (b .loop .found) (c .turn .result) (b .loop .last) (c .turn .ensures) (b .loop .inv .2),

@@ -73,8 +73,7 @@ added-requires c κs =
     let a = b .before .args in
     let h : b .loop .c < a .i = c .before .loop-test .taken in
     let p = b .before .pre .0 in
-    let w = held b in
-    (
+    let w = held b in (
       (omega arith, omega arith, omega arith, omega arith),
       (
         signed-ranged-more (omega arith) (w .ranged (a .n - a .i + 1 + b .loop .c - 1) (omega arith) (omega arith)),
@@ -97,12 +96,11 @@ loop-again c =
     let b = c .before .before .before in
     let a = b .before .args in
     let h : b .loop .c < a .i = c .before .before .loop-test .taken in
-    let p = b .before .pre .0 in
-    (
+    let p = b .before .pre .0 in (
       omega arith,
       above-next (a .n) (factorsOf (a .b)) (a .i) (p .1) (b .loop .c) h (b .loop .inv .1) (c .before .factor .result) (c .before .factor .ensures)
-      (subst (Carries (a .n) 1 (Et (a .n - a .i + 1 + b .loop .c) (plain (c .before .factor .result)) ∷ []) (b .loop .u)) (sym (c .added .ensures))
-      (carries-lower (a .n) (a .n - a .i + 1 + b .loop .c) (c .before .factor .result) (b .loop .u) (p .2) (held b .eight) (omega arith) (omega arith) (stored (c .before)))),
+          (subst (Carries (a .n) 1 (Et (a .n - a .i + 1 + b .loop .c) (plain (c .before .factor .result)) ∷ []) (b .loop .u)) (sym (c .added .ensures))
+          (carries-lower (a .n) (a .n - a .i + 1 + b .loop .c) (c .before .factor .result) (b .loop .u) (p .2) (held b .eight) (omega arith) (omega arith) (stored (c .before)))),
     )
 
 -- src/carrying.rt:35:1

@@ -64,8 +64,7 @@ times-requires c κs =
 -- src/carrying.rt:22:17
 add-requires : tie.Need-add-requires
 add-requires c κs =
-    let b = c .before .before .before in
-    (
+    let b = c .before .before .before in (
       subst (SignedRanged reach) (sym (to-is b)) (signed-ranged-more (omega arith) (b .pre .1 .0)),
       subst (SignedRanged reach) (sym (product-is c)) (signed-ranged-more (omega arith) (product-reach (omega arith) (b .pre .1 .1) (signed-ranged-plain (ranged-stored (b .pre .1 .2))))),
     )

@@ -68,8 +68,7 @@ added-requires c κs =
     let a = b .before .args in
     let h : 0 < b .loop .c = c .before .loop-test .taken in
     let p = b .before .pre .0 in
-    let w = held b in
-    (
+    let w = held b in (
       (omega arith, omega arith, omega arith, omega arith),
       (
         signed-ranged-more (omega arith) (w .ranged (a .n - a .i + b .loop .c) (omega arith) (omega arith)),
@@ -92,12 +91,11 @@ loop-again c =
     let b = c .before .before .before in
     let a = b .before .args in
     let h : 0 < b .loop .c = c .before .before .loop-test .taken in
-    let p = b .before .pre .0 in
-    (
+    let p = b .before .pre .0 in (
       omega arith,
       below-next (a .n) (factorsOf (a .b)) (a .i) (p .1) (b .loop .c) h (b .loop .inv .0) (b .loop .inv .1) (c .before .factor .result) (c .before .factor .ensures)
-      (subst (Carries (a .n) 1 (E (a .n - a .i + b .loop .c) (plain (c .before .factor .result)) ∷ []) (b .loop .u)) (sym (c .added .ensures))
-      (carries-raise (a .n) (a .n - a .i + b .loop .c) (c .before .factor .result) (b .loop .u) (p .2) (held b .eight) (omega arith) (omega arith) (stored (c .before)))),
+          (subst (Carries (a .n) 1 (E (a .n - a .i + b .loop .c) (plain (c .before .factor .result)) ∷ []) (b .loop .u)) (sym (c .added .ensures))
+          (carries-raise (a .n) (a .n - a .i + b .loop .c) (c .before .factor .result) (b .loop .u) (p .2) (held b .eight) (omega arith) (omega arith) (stored (c .before)))),
     )
 
 -- src/carrying.rt:53:1

@@ -54,8 +54,7 @@ times-requires c κs =
     let b = c .before .before .before in
     let a = b .before .args in
     let h : b .loop .k < a .n = c .before .before .loop-test .taken in
-    let p = b .before .pre in
-    (
+    let p = b .before .pre in (
       subst (SignedRanged reach) (sym (scaled-old (b .loop .inv .1) (omega arith) unset)) (signed-ranged-more (omega arith) (p .1 .0 .ranged (b .loop .k + 1) (omega arith) (omega arith))),
       subst (Ranged reach) (sym (c .factor .ensures)) (ranged-more (omega arith) (ranged-stored (p .1 .1 .stored (b .loop .k + 1) (b .loop .k + 1) (omega arith) (omega arith) (omega arith) (omega arith)))),
     )
@@ -81,11 +80,10 @@ loop-again : tie.Need-loop-again Inv-loop μ-loop
 loop-again c =
     let b = c .before .before .before .before in
     let a = b .before .args in
-    let h : b .loop .k < a .n = c .before .before .before .loop-test .taken in
-    (
+    let h : b .loop .k < a .n = c .before .before .before .loop-test .taken in (
       omega arith,
       scaled-next (b .loop .inv .1) (omega (arith, b .before .pre .0)) (c .times .result)
-      (c .times .ensures ∙ ap₂ (λ (x : Signed) (w : Number). signedProduct x (plain w)) (scaled-old (b .loop .inv .1) (omega (arith, b .before .pre .0)) unset) (c .before .factor .ensures)),
+          (c .times .ensures ∙ ap₂ (λ (x : Signed) (w : Number). signedProduct x (plain w)) (scaled-old (b .loop .inv .1) (omega (arith, b .before .pre .0)) unset) (c .before .factor .ensures)),
     )
 
 -- src/carrying.rt:71:1

@@ -80,8 +80,7 @@ unfolding ascending
 loop2-holds c =
     let b = c .before .before in
     let a = b .before .args in
-    let e : 0 ≡ a .n - b .loop .i = omega (arith, c .before .loop-test .left) in
-    (
+    let e : 0 ≡ a .n - b .loop .i = omega (arith, c .before .loop-test .left) in (
       b .loop .inv .0,
       b .loop .inv .1,
       subst (λ (k : ℕ). Carries (a .n) (8 * k) (ascending (b .loop .i) k (stageBelow (a .n) (factorsOf (a .b)))) (c .diagonal .result) (c .diagonal .result)) e (carries-none (c .diagonal .result)),
@@ -95,8 +94,7 @@ sub-i c = search needs
 below-requires : tie.Need-below-requires Inv-loop μ-loop Inv-loop2 μ-loop2
 below-requires c κs =
     let b = c .before in
-    let p = b .before .before .before .before .pre in
-    (
+    let p = b .before .before .before .before .pre in (
       (omega (arith, c .loop2-test .taken), omega (arith, b .loop2 .inv .0, b .loop2 .inv .1), p .1),
       (working-more (omega (arith, b .loop2 .inv .1, b .before .before .before .loop .inv .1)) (after-diagonal b), p .3),
     )
@@ -109,8 +107,7 @@ loop2-less c = search needs
 loop2-again : tie.Need-loop2-again Inv-loop μ-loop Inv-loop2 μ-loop2
 loop2-again c =
     let b = c .before .before in
-    let a = b .before .before .before .before .args in
-    (
+    let a = b .before .before .before .before .args in (
       omega (arith, c .before .loop2-test .taken),
       omega (arith, b .loop2 .inv .1),
       stages-below-next (a .n) (factorsOf (a .b)) (b .loop2 .i) (c .before .loop2-test .taken) (b .loop2 .inv .1) (b .loop2 .inv .2) (c .below .ensures),

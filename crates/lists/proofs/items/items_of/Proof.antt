@@ -74,11 +74,10 @@ loop-less c = search needs
 -- src/items.rt:125:5
 loop-again : tie.Need-loop-again Inv-loop μ-loop
 loop-again c =
-    let b = c .before .before .before .before .before in
-    (
+    let b = c .before .before .before .before .before in (
       omega (arith, c .before .before .before .before .loop-test .taken),
       b .loop .inv .1 ∙ listed-value (now (b .before .before .args .items)) (b .loop .v) (b .loop .k) (c .before .item .given .0 .0) (omega (arith, b .before .before .pre .1, c .before .before .before .before .loop-test .taken))
-      (sym (c .before .before .before .item-at .ensures) ∙ c .before .item .given .1),
+          (sym (c .before .before .before .item-at .ensures) ∙ c .before .item .given .1),
     )
 
 -- src/items.rt:119:1

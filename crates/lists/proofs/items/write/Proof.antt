@@ -41,8 +41,7 @@ mul-put c = search needs
 put-requires : tie.Need-put-requires Inv-loop μ-loop
 put-requires c κs =
     let b = c .before .before .before in
-    let h : b .loop .k < b .before .args .n = c .before .before .loop-test .taken in
-    (
+    let h : b .loop .k < b .before .args .n = c .before .before .loop-test .taken in (
       ranged-front (b .before .args .t1) (b .before .args .n) (b .loop .k) unset h (b .before .pre .0) (b .before .pre .1),
       omega (arith, b .loop .inv .1, b .before .pre .2),
     )
@@ -59,8 +58,7 @@ loop-less c = search needs
 loop-again : tie.Need-loop-again Inv-loop μ-loop
 loop-again c =
     let b = c .before .before .before .before .before in
-    let h : b .loop .k < b .before .args .n = c .before .before .before .before .loop-test .taken in
-    (
+    let h : b .loop .k < b .before .args .n = c .before .before .before .before .loop-test .taken in (
       omega arith,
       c .before .put .kept .1 .0 ∙ b .loop .inv .1,
       b .loop .inv .2 ∙ write-next (b .before .args .t1) (b .before .args .n) (b .loop .k) unset h (omega (arith, b .before .pre .0, b .before .pre .1 .eight)) (b .loop .out) _ (c .before .put .ensures),
