@@ -2,10 +2,10 @@
 -- (`reversals-counted`, `reversals-refused`) and to a carry (`carry-improper`, `carry-outside`, `carry-short`, `carry-done`;
 -- `Accepted`, `carry-accepted`).
 use mathlib.Core.Path.{_≡_, refl, sym, ap, ap₂, _∙_, subst}
-use mathlib.Core.Bool.{Bool, true, false, not, cond, _&&_, true≢false, false≢true}
-use mathlib.Core.List.{List, [], _∷_, _++_}
+use mathlib.Core.Bool.{Bool, true, false, cond, _&&_, true≢false, false≢true}
+use mathlib.Core.List.{List}
 use mathlib.Core.Option.{Option, none, some}
-use Prim.Native.Nat.{ℕ, zero, suc, _+_, _-_, _*_, _≤_, _<_}
+use Prim.Native.Nat.{ℕ, _-_, _*_, _≤_, _<_}
 use native.Mathlib.Omega.{arith}
 use borrow.Author.Tests.{leb-true, le-leb, lt-ltb, le-ltb, ltb-true, ltb-false}
 use lib.Dec.{leb, ltb}
@@ -17,7 +17,7 @@ use Rattle.number.specs.declared.Number.{Number}
 use Rattle.number.specs.declared.signed.Signed.{Signed}
 use Rattle.words.specs.Word.{Factors}
 use Rattle.lists.specs.Items.{blank, listOf, listNumbers, proper, listed, listedFrom}
-use Rattle.lists.specs.Lists.{reversals, reversalsOf, carriedList, anyOutside, carryConditions, carryOf, Carrying}
+use Rattle.lists.specs.Lists.{reversals, reversalsOf, carriedList, anyOutside, carryConditions, carryOf, Outcome}
 use Rattle.lists.specs.Carrying.{Working}
 use Rattle.lists.specs.declared.Answer.the-variants.{Done, Refused}
 use Rattle.lists.specs.declared.Counted.the-variants as counted
@@ -127,7 +127,7 @@ carry-accepted n b z out h = go (listOf z) refl (proper n n (listOf z)) refl
   where
     refused : (k : ℕ) → carryOf n b z out ≡ record { answer = Refused k; out = out } → Accepted n b z out
     refused k e =
-        let f : Refused k ≡ Done = sym (ap (λ (x : Carrying). x .answer) e) ∙ h in
+        let f : Refused k ≡ Done = sym (ap (λ (x : Outcome). x .answer) e) ∙ h in
         let w : _≡_ {A = ℕ} 0 1 = cc in
         absurd (omega arith)
 

@@ -1,6 +1,6 @@
 -- Laws of reading a list: one item and the rest (`list-next`), what a reader has then (`listed-value`, `listed-malformed`, `listed-end`), and how many numbers
 -- a list has (`list-numbered`), by which its length is judged (`listed-spare`, `listed-few`, `listed-many`, `listed-proper`).
-use mathlib.Core.Path.{_≡_, refl, sym, ap, ap₂, _∙_, subst}
+use mathlib.Core.Path.{_≡_, refl, ap, ap₂, _∙_}
 use mathlib.Core.Bool.{Bool, true, false, _&&_, cond, true≢false}
 use mathlib.Core.Logic.{_⊎_, inl, inr}
 use mathlib.Core.List.{List, [], _∷_}

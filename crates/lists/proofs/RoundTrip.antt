@@ -1,23 +1,23 @@
 -- What is written reads back: an item that is zero or stored (`item-back`), a list of such (`list-back`), and what a carry writes (`carry-back`).
 use mathlib.Core.Path.{_≡_, refl, sym, ap, ap₂, _∙_, subst}
-use mathlib.Core.Bool.{Bool, true, false, not, cond, _&&_, _||_, true≢false, false≢true}
-use mathlib.Core.List.{List, [], _∷_, _++_}
+use mathlib.Core.Bool.{Bool, true, false, not, cond, _&&_, _||_, true≢false}
+use mathlib.Core.List.{List, [], _∷_}
 use mathlib.Core.Logic.{_⊎_, inl, inr}
-use mathlib.Core.Option.{Option, none, some, Option·getD}
+use mathlib.Core.Option.{some, Option·getD}
 use Prim.Native.Nat.{ℕ, zero, suc, _+_, _-_, _*_, _≤_, _<_}
 use native.Mathlib.Omega.{arith}
 use borrow.Author.Tests.{ne-eqb, not-false}
 use lib.IntN.{ℤ, pos, negsuc, natAbs}
 use lib.ListN.{length, getD, take}
 use lib.Seq.{sets, sets-eq, take-append-le, take-all}
-use Rattle.number.specs.Number.{bias, Stored, inRange}
+use Rattle.number.specs.Number.{Stored, inRange}
 use Rattle.number.specs.Signed.{zeroSigned, SignedRanged}
 use Rattle.number.specs.declared.Number.{Number}
 use Rattle.number.specs.declared.signed.Signed.{Signed}
 use Rattle.number.proofs.Reach.{in-range-stored}
 use Rattle.words.specs.Word.{Factors}
-use Rattle.lists.specs.Items.{isNegative, isZero, unbiased, itemOf, joined, listOf, signOf, itemNumbers, listNumbers}
-use Rattle.lists.specs.Lists.{vectorOf, carried, carriedList, outside, anyOutside, itemsOf, carryOf, Carrying}
+use Rattle.lists.specs.Items.{isNegative, unbiased, itemOf, joined, listOf, signOf, listNumbers}
+use Rattle.lists.specs.Lists.{vectorOf, carried, carriedList, outside, anyOutside, itemsOf, carryOf, Outcome}
 use Rattle.lists.specs.Table.{StoredFactors}
 use Rattle.lists.specs.Carrying.{workingReach}
 use Rattle.lists.specs.declared.Answer.the-variants.{Done}
@@ -119,7 +119,7 @@ module _ (n : ℕ) (b : Factors Number) (low : 1 ≤ n) (high : n ≤ 8) (s : St
       let a = carry-accepted n b z out h in
       let L : List Signed = carriedList n b (a .list) in
       let m : length (listNumbers L) ≡ 3 * n = numbers-length L ∙ ap (λ k. 3 * k) (first-length n (carried n b (vectorOf (a .list)))) in
-      ap (λ (x : Carrying). listOf (take (3 * n) (x .out))) (carry-done n b z out (a .list) (a .formed) (a .exact) (a .inside) (a .room))
+      ap (λ (x : Outcome). listOf (take (3 * n) (x .out))) (carry-done n b z out (a .list) (a .formed) (a .exact) (a .inside) (a .room))
       ∙ ap listOf (written-front out (listNumbers L) (3 * n) m (a .room))
       ∙ list-back L (carried-formed (a .list) (a .formed) (a .exact) (a .inside))
       ∙ ap (λ o. some (carriedList n b (Option·getD o []))) (sym (a .formed))

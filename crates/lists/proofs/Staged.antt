@@ -1,6 +1,6 @@
 -- The word of a matrix in the order in which items are carried through it: the letters of a stage (`above-next`, `above-all`, `below-next`, `below-all`), the stages
 -- of letters Et (`stages-above-next`) and of letters E (`stages-below-next`), and the whole word (`carries-word`).
-use mathlib.Core.Path.{_≡_, refl, sym, ap, ap₂, _∙_, subst}
+use mathlib.Core.Path.{_≡_, sym, ap, ap₂, _∙_, subst}
 use mathlib.Core.List.{List, [], _∷_, _++_}
 use Prim.Native.Nat.{ℕ, suc, _+_, _-_, _*_, _≤_, _<_}
 use native.Mathlib.Omega.{arith}

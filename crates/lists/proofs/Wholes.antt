@@ -1,8 +1,8 @@
 -- Laws of whole numbers with a sign, as the code steps through them: their signs (`below-zero`, `not-negative`), a negative number without its sign (`Flipped`,
 -- `flipped`), a sign put on (`minus-fits`, `minus-is`), and kept exponents (`biased-negative`, `biased-plain`, `biased-near`,
 -- `unbiased-below`, `unbiased-above`, `unbiased-near`, `biased-unbiased`).
-use mathlib.Core.Path.{_≡_, refl, sym, ap, _∙_}
-use mathlib.Core.Bool.{Bool, true, false, true≢false, false≢true}
+use mathlib.Core.Path.{_≡_, refl, ap, _∙_}
+use mathlib.Core.Bool.{true, false, true≢false, false≢true}
 use mathlib.Core.List.{List}
 use Prim.Native.Nat.{ℕ, zero, suc, _+_, _-_, _<_, _≤_, _^_}
 use native.Mathlib.Decide.{decLt}

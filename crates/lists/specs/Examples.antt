@@ -1,12 +1,12 @@
 -- Worked examples of lists, as rows of one table: document 01's P12, and the conditions around it.
 use mathlib.Core.List.{List, [], _∷_, _++_}
-use Prim.Native.Nat.{ℕ, _^_}
+use Prim.Native.Nat.{_^_}
 use lib.IntN.{ℤ, pos, negsuc}
 use Rattle.number.specs.Number.{oneNumber}
-use Rattle.number.specs.Examples.{Row, row}
+use Rattle.number.specs.Examples.{Row, row, up}
 use Rattle.number.specs.declared.Number.{Number}
 use Rattle.words.specs.Word.{Factors}
-use Rattle.lists.specs.Lists.{Carrying, carryOf, reversalsOf}
+use Rattle.lists.specs.Lists.{carryOf, reversalsOf}
 use Rattle.lists.specs.declared.Answer.the-variants.{Done, Refused}
 use Rattle.lists.specs.declared.Counted.the-variants as counted
 
@@ -34,7 +34,7 @@ listTable =
     ∷ row (carryOf 2 ones plusOne lent) (record { answer = Refused 9; out = lent })  -- one item for two rows
     ∷ row (carryOf 1 ones (negsuc 0 ∷ nothing) lent) (record { answer = Refused 9; out = lent })  -- four numbers
     ∷ row (carryOf 1 ones (negsuc 0 ∷ pos 0 ∷ pos 0 ∷ []) lent) (record { answer = Refused 9; out = lent })  -- a negative zero
-    ∷ row (carryOf 1 (λ i j. record { m = 2 ^ 31; x = 4195304 }) (pos 1 ∷ pos (2 ^ 31) ∷ pos 0 ∷ []) []) (record { answer = Refused 14; out = [] })  -- 2 ^ 31 × 2 ^ 1031; no room either
+    ∷ row (carryOf 1 (λ i j. up (2 ^ 31) 1000) (pos 1 ∷ pos (2 ^ 31) ∷ pos 0 ∷ []) []) (record { answer = Refused 14; out = [] })  -- carried to exponent 1031, with no room either
     ∷ row (reversalsOf (plusOne ++ minusOne ++ plusOne)) (counted.Reversals 2)
     ∷ row (reversalsOf (plusOne ++ nothing ++ minusOne)) (counted.Reversals 0)  -- neighbours only
     ∷ row (reversalsOf []) (counted.Refused 9)

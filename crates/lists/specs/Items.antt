@@ -3,12 +3,12 @@
 use mathlib.Core.Bool.{Bool, true, false, not, cond, _&&_}
 use mathlib.Core.List.{List, [], _∷_, _++_}
 use mathlib.Core.Option.{Option, none, some}
-use Prim.Native.Nat.{ℕ, suc, _+_, _-_, _*_, _^_}
+use Prim.Native.Nat.{ℕ, suc, _+_, _-_, _^_}
 use lib.Dec.{eqb, leb, ltb}
 use lib.IntN.{ℤ, pos, negsuc, natAbs, subℕ}
 use lib.ListN.{length, replicate}
 use lib.Seq.{sets}
-use Rattle.number.specs.Number.{bias, zeroNumber}
+use Rattle.number.specs.Number.{bias}
 use Rattle.number.specs.Signed.{zeroSigned}
 use Rattle.number.specs.declared.signed.Signed.{Signed}
 use Rattle.lists.specs.declared.items.Item.{Item}
@@ -37,6 +37,7 @@ itemOf s m e =
     cond (eqb (natAbs s) 0 && (eqb (natAbs m) 0 && eqb (natAbs e) 0)) (Value zeroSigned)
     (cond (storable s m e) (Value (record { negative = isNegative s; size = record { m = natAbs m; x = biased e } })) Malformed)
 
+-- an item before the others
 abbrev pub joined : Item → Option (List Signed) → Option (List Signed)
 joined (Value a) (some L) = some (a ∷ L)
 joined (Value a) none = none
@@ -49,10 +50,10 @@ listOf (s ∷ []) = none
 listOf (s ∷ m ∷ []) = none
 listOf (s ∷ m ∷ e ∷ z) = joined (itemOf s m e) (listOf z)
 
+-- and back
 abbrev pub isZero : Signed → Bool
 isZero a = eqb (a .size .m) 0
 
--- and back
 abbrev pub signOf : Signed → ℤ
 signOf a = cond (isZero a) (pos 0) (cond (a .negative) (negsuc 0) (pos 1))
 

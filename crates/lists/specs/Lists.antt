@@ -1,9 +1,9 @@
 -- The list calls (document 01, "Shelf calls" and its tables of refusals): what a carry and a count of reversals answer and write (`carryOf`, `reversalsOf`).
-use mathlib.Core.Bool.{Bool, true, false, not, cond, xor, _&&_, _||_}
+use mathlib.Core.Bool.{Bool, false, not, cond, xor, _&&_, _||_}
 use mathlib.Core.List.{List, [], _∷_}
 use mathlib.Core.Option.{Option, none, some, Option·getD}
-use Prim.Native.Nat.{ℕ, _+_, _-_, _*_, _≤_}
-use lib.Dec.{eqb, leb, ltb}
+use Prim.Native.Nat.{ℕ, _+_, _-_, _*_}
+use lib.Dec.{ltb}
 use lib.IntN.{ℤ}
 use lib.ListN.{length, getD}
 use lib.Seq.{sets}
@@ -24,10 +24,11 @@ use Rattle.lists.specs.declared.Counted.the-variants as counted
 unfoldable pub opposite : Signed → Signed → Bool
 opposite a b = not (isZero a) && (not (isZero b) && xor (a .negative) (b .negative))
 
--- the reversals of a list behind an item: neighbours of opposite sign
+-- 1 for a reversal, 0 for none
 abbrev pub turn : Signed → Signed → ℕ
 turn a b = cond (opposite a b) 1 0
 
+-- the reversals of a list behind an item: each item is set against its neighbour before it
 unfoldable pub reversalsBehind : Signed → List Signed → ℕ
 reversalsBehind a [] = 0
 reversalsBehind a (b ∷ L) = turn a b + reversalsBehind b L
@@ -82,15 +83,15 @@ carryConditions n b items out =
 
 -- ---- the calls
 -- what a carry answers, and what the lent output then holds: the carried items in its first 3 n numbers, and nothing else changed; a refusal changes nothing
-pub record Carrying : Type 0 where
+pub record Outcome : Type 0 where
   pub answer : Answer
   pub out : List ℤ
 
-abbrev pub carryBy : List Signed → List ℤ → Option ℕ → Carrying
+abbrev pub carryBy : List Signed → List ℤ → Option ℕ → Outcome
 carryBy L out none = record { answer = Done; out = sets out 0 (listNumbers L) }
 carryBy L out (some k) = record { answer = Refused k; out = out }
 
-unfoldable pub carryOf : ℕ → Factors Number → (items out : List ℤ) → Carrying
+unfoldable pub carryOf : ℕ → Factors Number → (items out : List ℤ) → Outcome
 carryOf n b items out = carryBy (carriedList n b (itemsOf items)) out (refusal (carryConditions n b items out))
 
 abbrev pub reversalsBy : List Signed → Option ℕ → Counted

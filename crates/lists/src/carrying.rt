@@ -6,7 +6,7 @@ ghost use Rattle.number.specs.Number.{Stored, reach};
 ghost use Rattle.number.specs.Signed.{plain, signedSum, signedProduct, SignedRanged};
 ghost use Rattle.lists.specs.Lists.{vectorOf, carriedList};
 ghost use Rattle.lists.specs.Table.{factorsOf, StoredFactors};
-ghost use Rattle.lists.specs.Carrying.{Working, Carries, letterReach, workingReach, stageReach, stageAbove, stageBelow, diagonalOf};
+ghost use Rattle.lists.specs.Carrying.{Working, Carries, workingReach, stageReach, stageAbove, stageBelow, diagonalOf};
 use number::Number;
 use number::signed::Signed;
 

@@ -1,7 +1,7 @@
 // List items: read from three whole numbers, and written as three.
 ghost use mathlib.Core.Path.{_≡_};
 ghost use mathlib.Core.Option.{none};
-ghost use Prim.Native.Nat.{_+_, _*_, _≤_, _<_};
+ghost use Prim.Native.Nat.{_+_, _*_, _^_, _≤_, _<_};
 ghost use lib.IntN.{pos, natAbs};
 ghost use lib.ListN.{length, getD, take};
 ghost use lib.Seq.{sets};
@@ -40,7 +40,7 @@ fn biased(e: i64) -> u64
 }
 
 fn unbiased(x: u64) -> i64
-    requires { ⌜ x < 8388608 ⌝ }
+    requires { ⌜ x < 2 ^ 23 ⌝ }
     ensures { λ r. ⌜ r ≡ unbiased x ⌝ }
 {
     if x < BIAS {

@@ -1,15 +1,13 @@
+-- `any_outside` meets its contract. The invariant: no item before k is outside.
 use borrow.Author.Needs.{needs}
 use mathlib.Core.Path.{_≡_, refl, sym, ap, _∙_}
-use Prim.Native.Nat.{ℕ, _+_, _-_, _≤_, _<_}
+use Prim.Native.Nat.{_-_, _≤_}
 use native.Mathlib.Omega.{arith}
 use lib.ListN.{length, drop, take}
-use Rattle.lists.proofs.Fronts.{unset, outside-here, outside-later, front-end}
 use Rattle.lists.specs.Lists.{anyOutside}
+use Rattle.lists.proofs.Fronts.{unset, outside-here, outside-later, front-end}
 use Rattle.lists.proofs.any_outside.Statement.{statement}
 use Rattle.lists.proofs.any_outside.Tie as tie
-use Rattle.lists.proofs.any_outside.Reads as reads
-use Rattle.lists.proofs.any_outside.Lts as lts
-use Rattle.lists.proofs.outside.Reads as outside-reads
 
 abbrev Inv-loop : tie.InvT-loop
 Inv-loop n v k₀ k = (k ≤ n) × (anyOutside (take n v) ≡ anyOutside (drop k (take n v)))
@@ -17,38 +15,30 @@ Inv-loop n v k₀ k = (k ≤ n) × (anyOutside (take n v) ≡ anyOutside (drop k
 abbrev μ-loop : tie.MeasureT-loop
 μ-loop n v k₀ k = n - k
 
--- src/lib.rt:95:5
 loop-holds : tie.Need-loop-holds Inv-loop μ-loop
 loop-holds c = (omega arith, refl)
 
--- src/lib.rt:96:17
 mul-a : tie.Need-mul-a Inv-loop μ-loop
 mul-a c = search needs
 
--- src/lib.rt:96:17
 array-copy-out-a : tie.Need-array-copy-out-a Inv-loop μ-loop
 array-copy-out-a c = search needs
 
--- src/lib.rt:97:12
 outside-requires : tie.Need-outside-requires Inv-loop μ-loop
 outside-requires c κs = search needs
 
--- src/lib.rt:98:13
 returns : tie.Need-returns Inv-loop μ-loop
 returns c =
     let b = c .before .before .before .before in
     let g : length (b .before .args .t1) ≡ 8 = search needs in
     sym (b .loop .inv .1 ∙ outside-here (b .before .args .t1) (b .before .args .n) (b .loop .k) unset (c .before .before .before .loop-test .taken) (omega (arith, b .before .pre)) (sym (c .before .outside .ensures) ∙ c .if1 .taken))
 
--- src/lib.rt:100:9
 add-k : tie.Need-add-k Inv-loop μ-loop
 add-k c = search needs
 
--- src/lib.rt:95:5
 loop-less : tie.Need-loop-less Inv-loop μ-loop
 loop-less c = search needs
 
--- src/lib.rt:95:5
 loop-again : tie.Need-loop-again Inv-loop μ-loop
 loop-again c =
     let b = c .before .before .before .before in
@@ -57,7 +47,6 @@ loop-again c =
       b .loop .inv .1 ∙ outside-later (b .before .args .t1) (b .before .args .n) (b .loop .k) unset (c .before .before .before .loop-test .taken) (omega (arith, b .before .pre)) (sym (c .before .outside .ensures) ∙ c .if1 .left),
     )
 
--- src/lib.rt:90:1
 returns-2 : tie.Need-returns-2 Inv-loop μ-loop
 unfolding anyOutside
 returns-2 c =

@@ -1,20 +1,15 @@
+-- `outside` meets its contract.
 use borrow.Author.Tests.{eq-eqb, ne-eqb}
 use borrow.Author.Needs.{needs}
 use Rattle.lists.proofs.outside.Statement.{statement}
 use Rattle.lists.proofs.outside.Tie as tie
-use Rattle.lists.proofs.outside.Reads as reads
-use Rattle.lists.proofs.outside.Lts as lts
-use Rattle.number.proofs.Number.in_range.Reads as in-range-reads
 
--- src/lib.rt:84:9
 returns : tie.Need-returns
 returns c = simp (eq-eqb _ 0 (c .if1 .taken))
 
--- src/lib.rt:86:6
 in-range-requires : tie.Need-in-range-requires
 in-range-requires c κs = search needs
 
--- src/lib.rt:79:1
 returns-2 : tie.Need-returns-2
 returns-2 c = simp (ne-eqb _ 0 (c .before .if1 .left), c .in-range .ensures)
 

@@ -1,4 +1,6 @@
-use mathlib.Core.Path.{_≡_, sym, ap, _∙_}
+-- `reversals` meets its contract.
+use borrow.Author.Needs.{needs}
+use mathlib.Core.Path.{sym, ap, _∙_}
 use Prim.Native.Nat.{ℕ}
 use native.Mathlib.Omega.{arith}
 use denote.Ref.{now}
@@ -6,33 +8,24 @@ use lib.ListN.{take}
 use Rattle.lists.specs.Lists.{reversals}
 use Rattle.lists.specs.declared.Counted.the-variants.{Reversals}
 use Rattle.lists.proofs.Outcomes.{Read, read-proper, read-improper, reversals-counted, reversals-refused}
-use borrow.Author.Needs.{needs}
 use Rattle.lists.proofs.reversals.Statement.{statement}
 use Rattle.lists.proofs.reversals.Tie as tie
-use Rattle.lists.proofs.reversals.Reads as reads
-use Rattle.lists.proofs.reversals.Lts as lts
-use Rattle.lists.proofs.count.Reads as count-reads
-use Rattle.lists.proofs.items.read.Reads as read-reads
 
--- src/lib.rt:70:9
 read-requires : tie.Need-read-requires
 read-requires c κs = search needs
 
 proper : (c : tie.Then1) → Read 1 8 (now (c .before .before .args .items)) (c .before .read .result)
 proper c = read-proper 1 8 _ _ (c .before .read .ensures) (omega arith) (c .if1 .taken)
 
--- src/lib.rt:73:35
 count-requires : tie.Need-count-requires
 count-requires c κs = let p = proper (c .before) in omega (arith, p .count, p .high)
 
--- src/lib.rt:73:9
 returns : tie.Need-returns
 returns c =
     let p = proper (c .before .before) in
     ap Reversals (c .count .ensures ∙ ap reversals (ap (λ (n : ℕ). take n (c .before .before .before .read .result .items)) (p .count) ∙ p .front))
     ∙ sym (reversals-counted _ (p .list) (p .formed) (p .low) (p .high))
 
--- src/lib.rt:67:1
 returns-2 : tie.Need-returns-2
 returns-2 c = sym (reversals-refused _ (read-improper 1 8 _ _ (c .before .read .ensures) (c .if1 .left)))
 

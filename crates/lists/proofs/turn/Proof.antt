@@ -1,37 +1,30 @@
-use mathlib.Core.Bool.{xor}
+-- `turn` meets its contract.
 use borrow.Author.Tests.{eq-eqb, ne-eqb}
+use mathlib.Core.Bool.{xor}
 use Rattle.lists.specs.Lists.{opposite}
 use Rattle.lists.proofs.turn.Statement.{statement}
 use Rattle.lists.proofs.turn.Tie as tie
-use Rattle.lists.proofs.turn.Reads as reads
-use Rattle.lists.proofs.turn.Lts as lts
 
--- src/lib.rt:33:9
 returns : tie.Need-returns
 unfolding opposite xor
 returns c = simp (eq-eqb _ 0 (c .if1 .taken))
 
--- src/lib.rt:36:9
 returns-2 : tie.Need-returns-2
 unfolding opposite xor
 returns-2 c = simp (ne-eqb _ 0 (c .before .before .if1 .left), eq-eqb _ 0 (c .if2 .taken))
 
--- src/lib.rt:40:13
 returns-3 : tie.Need-returns-3
 unfolding opposite xor
 returns-3 c = simp (ne-eqb _ 0 (c .before .before .before .before .if1 .left), ne-eqb _ 0 (c .before .before .if2 .left), c .before .if3 .taken, c .if4 .taken)
 
--- src/lib.rt:42:9
 returns-4 : tie.Need-returns-4
 unfolding opposite xor
 returns-4 c = simp (ne-eqb _ 0 (c .before .before .before .before .if1 .left), ne-eqb _ 0 (c .before .before .if2 .left), c .before .if3 .taken, c .if4 .left)
 
--- src/lib.rt:45:9
 returns-5 : tie.Need-returns-5
 unfolding opposite xor
 returns-5 c = simp (ne-eqb _ 0 (c .before .before .before .before .if1 .left), ne-eqb _ 0 (c .before .before .if2 .left), c .before .if3 .left, c .if5 .taken)
 
--- src/lib.rt:27:1
 returns-6 : tie.Need-returns-6
 unfolding opposite xor
 returns-6 c = simp (ne-eqb _ 0 (c .before .before .before .before .if1 .left), ne-eqb _ 0 (c .before .before .if2 .left), c .before .if3 .left, c .if5 .left)

@@ -1,23 +1,20 @@
+-- `above` meets its contract. The invariant: the items are carried through the c rightmost letters of the stage.
 use borrow.Author.Needs.{needs}
 use mathlib.Core.Path.{_≡_, sym, subst}
-use mathlib.Core.List.{List, [], _∷_}
+use mathlib.Core.List.{[], _∷_}
 use Prim.Native.Nat.{ℕ, _+_, _-_, _*_, _≤_, _<_}
 use native.Mathlib.Omega.{arith}
 use Rattle.number.specs.Number.{Stored}
 use Rattle.number.specs.Signed.{plain, SignedRanged}
-use Rattle.number.specs.declared.signed.Signed.{Signed}
 use Rattle.number.proofs.SignedReach.{signed-ranged-more}
 use Rattle.words.specs.Word.{Et, descending}
+use Rattle.lists.specs.Lists.{vectorOf}
 use Rattle.lists.specs.Table.{factorsOf}
-use Rattle.lists.specs.Carrying.{Working, Carries, letterReach, stageReach, letterAbove}
+use Rattle.lists.specs.Carrying.{Working, Carries, letterReach, workingReach, stageReach, letterAbove}
 use Rattle.lists.proofs.Carried.{carries-none, carries-lower}
 use Rattle.lists.proofs.Staged.{above-next, above-all}
 use Rattle.lists.proofs.carrying.above.Statement.{statement}
 use Rattle.lists.proofs.carrying.above.Tie as tie
-use Rattle.lists.proofs.carrying.above.Reads as reads
-use Rattle.lists.proofs.carrying.above.Lts as lts
-use Rattle.lists.proofs.carrying.added.Reads as added-reads
-use Rattle.lists.proofs.carrying.factor.Reads as factor-reads
 
 abbrev Inv-loop : tie.InvT-loop
 Inv-loop b n i u₀ c₀ u c = (c ≤ i) × Carries n c (descending (n - i + c) c (letterAbove n (factorsOf b) i)) u₀ u
@@ -25,28 +22,22 @@ Inv-loop b n i u₀ c₀ u c = (c ≤ i) × Carries n c (descending (n - i + c) 
 abbrev μ-loop : tie.MeasureT-loop
 μ-loop b n i u₀ c₀ u c = i - c
 
--- src/carrying.rt:42:5
 loop-holds : tie.Need-loop-holds Inv-loop μ-loop
 unfolding descending
 loop-holds c = (omega arith, carries-none (c .args .v))
 
--- src/carrying.rt:43:17
 sub-j : tie.Need-sub-j Inv-loop μ-loop
 sub-j c = search needs
 
--- src/carrying.rt:43:17
 add-j : tie.Need-add-j Inv-loop μ-loop
 add-j c = search needs
 
--- src/carrying.rt:43:17
 add-j-2 : tie.Need-add-j-2 Inv-loop μ-loop
 add-j-2 c = search needs
 
--- src/carrying.rt:44:27
 add-factor : tie.Need-add-factor Inv-loop μ-loop
 add-factor c = search needs
 
--- src/carrying.rt:44:13
 factor-requires : tie.Need-factor-requires Inv-loop μ-loop
 factor-requires c κs = search needs
 
@@ -62,35 +53,26 @@ stored c =
     let p = b .before .pre .0 in
     subst Stored (sym (c .factor .ensures)) (b .before .pre .1 .1 .stored (b .loop .c + 1) (a .n - a .i + 1 + b .loop .c) (omega arith) (omega arith) (omega arith) (omega arith))
 
--- src/carrying.rt:45:26
 sub-added : tie.Need-sub-added Inv-loop μ-loop
 sub-added c = search needs
 
--- src/carrying.rt:45:13
 added-requires : tie.Need-added-requires Inv-loop μ-loop
 added-requires c κs =
     let b = c .before .before in
     let a = b .before .args in
     let h : b .loop .c < a .i = c .before .loop-test .taken in
     let p = b .before .pre .0 in
-    let w = held b in (
-      (omega arith, omega arith, omega arith, omega arith),
-      (
-        signed-ranged-more (omega arith) (w .ranged (a .n - a .i + 1 + b .loop .c - 1) (omega arith) (omega arith)),
-        signed-ranged-more (omega arith) (w .ranged (a .n - a .i + 1 + b .loop .c) (omega arith) (omega arith)),
-        stored c,
-      ),
-    )
+    let j : ℕ = a .n - a .i + 1 + b .loop .c in
+    let lower : SignedRanged workingReach (vectorOf (b .loop .u) (j - 1)) = signed-ranged-more (omega arith) (held b .ranged (j - 1) (omega arith) (omega arith)) in
+    let upper : SignedRanged workingReach (vectorOf (b .loop .u) j) = signed-ranged-more (omega arith) (held b .ranged j (omega arith) (omega arith)) in
+    ((omega arith, omega arith, omega arith, omega arith), ((search), (search), stored c))
 
--- src/carrying.rt:47:9
 add-c : tie.Need-add-c Inv-loop μ-loop
 add-c c = search needs
 
--- src/carrying.rt:42:5
 loop-less : tie.Need-loop-less Inv-loop μ-loop
 loop-less c = search needs
 
--- src/carrying.rt:42:5
 loop-again : tie.Need-loop-again Inv-loop μ-loop
 loop-again c =
     let b = c .before .before .before in
@@ -103,7 +85,6 @@ loop-again c =
           (carries-lower (a .n) (a .n - a .i + 1 + b .loop .c) (c .before .factor .result) (b .loop .u) (p .2) (held b .eight) (omega arith) (omega arith) (stored (c .before)))),
     )
 
--- src/carrying.rt:35:1
 returns : tie.Need-returns Inv-loop μ-loop
 returns c =
     let b = c .before in

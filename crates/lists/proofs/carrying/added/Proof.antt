@@ -1,3 +1,5 @@
+-- `added` meets its contract.
+use borrow.Author.Needs.{needs}
 use mathlib.Core.Path.{_≡_, sym, ap, ap₂, _∙_, subst}
 use Prim.Native.Nat.{_-_}
 use native.Mathlib.Omega.{arith}
@@ -10,35 +12,24 @@ use Rattle.number.proofs.SignedReach.{signed-ranged-more, signed-ranged-plain}
 use Rattle.lists.specs.Lists.{vectorOf}
 use Rattle.lists.proofs.Fronts.{unset, read-any}
 use Rattle.lists.proofs.LetterReach.{product-reach}
-use borrow.Author.Needs.{needs}
 use Rattle.lists.proofs.carrying.added.Statement.{statement}
 use Rattle.lists.proofs.carrying.added.Tie as tie
-use Rattle.lists.proofs.carrying.added.Reads as reads
-use Rattle.lists.proofs.carrying.added.Lts as lts
-use Rattle.number.proofs.signed.Signed.add.Reads as add-reads
-use Rattle.number.proofs.signed.Signed.times.Reads as times-reads
 
--- src/carrying.rt:20:15
 sub-x : tie.Need-sub-x
 sub-x c = search needs
 
--- src/carrying.rt:20:13
 mul-x : tie.Need-mul-x
 mul-x c = search needs
 
--- src/carrying.rt:20:13
 array-copy-out-x : tie.Need-array-copy-out-x
 array-copy-out-x c = search needs
 
--- src/carrying.rt:21:15
 sub-y : tie.Need-sub-y
 sub-y c = search needs
 
--- src/carrying.rt:21:13
 mul-y : tie.Need-mul-y
 mul-y c = search needs
 
--- src/carrying.rt:21:13
 array-copy-out-y : tie.Need-array-copy-out-y
 array-copy-out-y c = search needs
 
@@ -61,7 +52,6 @@ times-requires c κs =
     let b = c .before .before in
     (subst (SignedRanged reach) (sym (from-is b)) (signed-ranged-more (omega arith) (b .pre .1 .1)), ranged-more (omega arith) (ranged-stored (b .pre .1 .2)))
 
--- src/carrying.rt:22:17
 add-requires : tie.Need-add-requires
 add-requires c κs =
     let b = c .before .before .before in (
@@ -69,19 +59,15 @@ add-requires c κs =
       subst (SignedRanged reach) (sym (product-is c)) (signed-ranged-more (omega arith) (product-reach (omega arith) (b .pre .1 .1) (signed-ranged-plain (ranged-stored (b .pre .1 .2))))),
     )
 
--- src/carrying.rt:22:7
 sub-u : tie.Need-sub-u
 sub-u c = search needs
 
--- src/carrying.rt:22:5
 mul-u : tie.Need-mul-u
 mul-u c = search needs
 
--- src/carrying.rt:22:5
 array-set-from-u : tie.Need-array-set-from-u
 array-set-from-u c = search needs
 
--- src/carrying.rt:14:1
 returns : tie.Need-returns
 returns c =
     let b = c .before .before .before .before in

@@ -1,23 +1,20 @@
+-- `below` meets its contract. The invariant: the items are carried through all but the c leftmost letters of the stage.
 use borrow.Author.Needs.{needs}
 use mathlib.Core.Path.{_≡_, sym, subst}
-use mathlib.Core.List.{List, [], _∷_}
+use mathlib.Core.List.{[], _∷_}
 use Prim.Native.Nat.{ℕ, _+_, _-_, _*_, _≤_, _<_}
 use native.Mathlib.Omega.{arith}
 use Rattle.number.specs.Number.{Stored}
 use Rattle.number.specs.Signed.{plain, SignedRanged}
-use Rattle.number.specs.declared.signed.Signed.{Signed}
 use Rattle.number.proofs.SignedReach.{signed-ranged-more}
 use Rattle.words.specs.Word.{E, ascending}
+use Rattle.lists.specs.Lists.{vectorOf}
 use Rattle.lists.specs.Table.{factorsOf}
-use Rattle.lists.specs.Carrying.{Working, Carries, letterReach, stageReach, letterBelow}
+use Rattle.lists.specs.Carrying.{Working, Carries, letterReach, workingReach, stageReach, letterBelow}
 use Rattle.lists.proofs.Carried.{carries-none, carries-raise}
 use Rattle.lists.proofs.Staged.{below-next, below-all}
 use Rattle.lists.proofs.carrying.below.Statement.{statement}
 use Rattle.lists.proofs.carrying.below.Tie as tie
-use Rattle.lists.proofs.carrying.below.Reads as reads
-use Rattle.lists.proofs.carrying.below.Lts as lts
-use Rattle.lists.proofs.carrying.added.Reads as added-reads
-use Rattle.lists.proofs.carrying.factor.Reads as factor-reads
 
 abbrev Inv-loop : tie.InvT-loop
 Inv-loop b n i u₀ c₀ u c = (c ≤ i) × Carries n (i - c) (ascending (n - i + c + 1) (i - c) (letterBelow n (factorsOf b) i)) u₀ u
@@ -25,7 +22,6 @@ Inv-loop b n i u₀ c₀ u c = (c ≤ i) × Carries n (i - c) (ascending (n - i 
 abbrev μ-loop : tie.MeasureT-loop
 μ-loop b n i u₀ c₀ u c = c
 
--- src/carrying.rt:60:5
 loop-holds : tie.Need-loop-holds Inv-loop μ-loop
 unfolding ascending
 loop-holds c =
@@ -33,19 +29,15 @@ loop-holds c =
     let e : 0 ≡ a .i - a .i = omega arith in
     (omega arith, subst (λ (k : ℕ). Carries (a .n) k (ascending (a .n - a .i + a .i + 1) k (letterBelow (a .n) (factorsOf (a .b)) (a .i))) (a .v) (a .v)) e (carries-none (a .v)))
 
--- src/carrying.rt:61:17
 sub-j : tie.Need-sub-j Inv-loop μ-loop
 sub-j c = search needs
 
--- src/carrying.rt:61:17
 add-j : tie.Need-add-j Inv-loop μ-loop
 add-j c = search needs
 
--- src/carrying.rt:62:13
 factor-requires : tie.Need-factor-requires Inv-loop μ-loop
 factor-requires c κs = search needs
 
--- src/carrying.rt:63:29
 -- the items so far, and the factor read
 held : (c : tie.At-loop Inv-loop μ-loop) → Working (stageReach + (c .before .args .i - c .loop .c) * letterReach) (c .before .args .n) (c .loop .u)
 held c = c .loop .inv .1 .working stageReach (omega (arith, c .loop .inv .0, c .before .pre .0)) (c .before .pre .1 .0)
@@ -61,31 +53,23 @@ stored c =
 sub-added : tie.Need-sub-added Inv-loop μ-loop
 sub-added c = search needs
 
--- src/carrying.rt:63:13
 added-requires : tie.Need-added-requires Inv-loop μ-loop
 added-requires c κs =
     let b = c .before .before in
     let a = b .before .args in
     let h : 0 < b .loop .c = c .before .loop-test .taken in
     let p = b .before .pre .0 in
-    let w = held b in (
-      (omega arith, omega arith, omega arith, omega arith),
-      (
-        signed-ranged-more (omega arith) (w .ranged (a .n - a .i + b .loop .c) (omega arith) (omega arith)),
-        signed-ranged-more (omega arith) (w .ranged (a .n - a .i + b .loop .c - 1) (omega arith) (omega arith)),
-        stored c,
-      ),
-    )
+    let j : ℕ = a .n - a .i + b .loop .c in
+    let lower : SignedRanged workingReach (vectorOf (b .loop .u) (j - 1)) = signed-ranged-more (omega arith) (held b .ranged (j - 1) (omega arith) (omega arith)) in
+    let upper : SignedRanged workingReach (vectorOf (b .loop .u) j) = signed-ranged-more (omega arith) (held b .ranged j (omega arith) (omega arith)) in
+    ((omega arith, omega arith, omega arith, omega arith), ((search), (search), stored c))
 
--- src/carrying.rt:65:9
 sub-c : tie.Need-sub-c Inv-loop μ-loop
 sub-c c = search needs
 
--- src/carrying.rt:60:5
 loop-less : tie.Need-loop-less Inv-loop μ-loop
 loop-less c = search needs
 
--- src/carrying.rt:60:5
 loop-again : tie.Need-loop-again Inv-loop μ-loop
 loop-again c =
     let b = c .before .before .before in
@@ -98,7 +82,6 @@ loop-again c =
           (carries-raise (a .n) (a .n - a .i + b .loop .c) (c .before .factor .result) (b .loop .u) (p .2) (held b .eight) (omega arith) (omega arith) (stored (c .before)))),
     )
 
--- src/carrying.rt:53:1
 returns : tie.Need-returns Inv-loop μ-loop
 returns c =
     let b = c .before in

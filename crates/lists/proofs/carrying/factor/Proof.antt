@@ -1,37 +1,29 @@
+-- `factor` meets its contract.
+use borrow.Author.Needs.{needs}
 use mathlib.Core.Path.{_≡_}
 use lib.ListN.{length}
 use Rattle.lists.proofs.Vectors.{factor-is}
-use borrow.Author.Needs.{needs}
 use Rattle.lists.proofs.carrying.factor.Statement.{statement}
 use Rattle.lists.proofs.carrying.factor.Tie as tie
-use Rattle.lists.proofs.carrying.factor.Reads as reads
-use Rattle.lists.proofs.carrying.factor.Lts as lts
 
--- src/carrying.rt:18:8
 sub-result : tie.Need-sub-result
 sub-result c = search needs
 
--- src/carrying.rt:18:7
 mul-result : tie.Need-mul-result
 mul-result c = search needs
 
--- src/carrying.rt:18:22
 sub-result-2 : tie.Need-sub-result-2
 sub-result-2 c = search needs
 
--- src/carrying.rt:18:7
 add-result : tie.Need-add-result
 add-result c = search needs
 
--- src/carrying.rt:18:5
 mul-result-2 : tie.Need-mul-result-2
 mul-result-2 c = search needs
 
--- src/carrying.rt:18:5
 array-copy-out-result : tie.Need-array-copy-out-result
 array-copy-out-result c = search needs
 
--- src/carrying.rt:14:1
 returns : tie.Need-returns
 returns c =
     let b = c .before in

@@ -1,6 +1,7 @@
+-- `through` meets its contract. The invariants: the items are carried through the stages 1 to i - 1 of the letters Et; then, behind D, through the stages from i on of the letters E.
 use borrow.Author.Needs.{needs}
 use mathlib.Core.Path.{_≡_, subst}
-use Prim.Native.Nat.{ℕ, _+_, _-_, _*_, _≤_, _<_}
+use Prim.Native.Nat.{ℕ, _+_, _-_, _*_, _≤_}
 use native.Mathlib.Omega.{arith}
 use Rattle.words.specs.Word.{ascending, descending}
 use Rattle.lists.specs.Table.{factorsOf}
@@ -11,11 +12,6 @@ use Rattle.lists.proofs.Staged.{stagesAbove, stagesBelow, stages-above-
 use Rattle.lists.proofs.FirstItems.{carries-list}
 use Rattle.lists.proofs.carrying.through.Statement.{statement}
 use Rattle.lists.proofs.carrying.through.Tie as tie
-use Rattle.lists.proofs.carrying.through.Reads as reads
-use Rattle.lists.proofs.carrying.through.Lts as lts
-use Rattle.lists.proofs.carrying.above.Reads as above-reads
-use Rattle.lists.proofs.carrying.below.Reads as below-reads
-use Rattle.lists.proofs.carrying.diagonal.Reads as diagonal-reads
 
 abbrev Inv-loop : tie.InvT-loop
 Inv-loop b n u₀ i₀ u i = (1 ≤ i) × (i ≤ n) × Carries n (8 * (i - 1)) (stagesAbove n (factorsOf b) (i - 1)) u₀ u
@@ -29,12 +25,10 @@ Inv-loop2 b n u₀ i₀ u i = (1 ≤ i) × (i ≤ n) × Carries n (8 * (n - i)) 
 abbrev μ-loop2 : tie.MeasureT-loop2
 μ-loop2 b n u₀ i₀ u i = i
 
--- src/carrying.rt:87:5
 loop-holds : tie.Need-loop-holds Inv-loop μ-loop Inv-loop2 μ-loop2
 unfolding descending
 loop-holds c = (omega arith, c .pre .0, carries-none (c .args .v))
 
--- src/carrying.rt:88:13
 -- how far the exponents are before D, and after it
 before-diagonal : (c : tie.At-loop Inv-loop μ-loop Inv-loop2 μ-loop2) → Working (1000 + 8 * (c .loop .i - 1) * letterReach) (c .before .args .n) (c .loop .u)
 before-diagonal c = c .loop .inv .2 .working 1000 (omega (arith, c .loop .inv .1, c .before .pre .1)) (c .before .pre .2)
@@ -53,28 +47,23 @@ above-requires c κs =
     let p = b .before .pre in
     ((b .loop .inv .0, c .loop-test .taken, p .1), (working-more (omega (arith, b .loop .inv .1)) (before-diagonal b), p .3))
 
--- src/carrying.rt:90:9
 add-i : tie.Need-add-i Inv-loop μ-loop Inv-loop2 μ-loop2
 add-i c = search needs
 
--- src/carrying.rt:87:5
 loop-less : tie.Need-loop-less Inv-loop μ-loop Inv-loop2 μ-loop2
 loop-less c = search needs
 
--- src/carrying.rt:87:5
 loop-again : tie.Need-loop-again Inv-loop μ-loop Inv-loop2 μ-loop2
 loop-again c =
     let b = c .before .before in
     (omega arith, omega (arith, c .before .loop-test .taken), stages-above-next (b .before .args .n) (factorsOf (b .before .args .b)) (b .loop .i) (b .loop .inv .0) (b .loop .inv .2) (c .above .ensures))
 
--- src/carrying.rt:92:9
 diagonal-requires : tie.Need-diagonal-requires Inv-loop μ-loop Inv-loop2 μ-loop2
 diagonal-requires c κs =
     let b = c .before in
     let p = b .before .pre in
     (p .1, (working-more (omega (arith, b .loop .inv .1)) (before-diagonal b), p .3))
 
--- src/carrying.rt:94:5
 loop2-holds : tie.Need-loop2-holds Inv-loop μ-loop Inv-loop2 μ-loop2
 unfolding ascending
 loop2-holds c =
@@ -86,11 +75,9 @@ loop2-holds c =
       subst (λ (k : ℕ). Carries (a .n) (8 * k) (ascending (b .loop .i) k (stageBelow (a .n) (factorsOf (a .b)))) (c .diagonal .result) (c .diagonal .result)) e (carries-none (c .diagonal .result)),
     )
 
--- src/carrying.rt:95:9
 sub-i : tie.Need-sub-i Inv-loop μ-loop Inv-loop2 μ-loop2
 sub-i c = search needs
 
--- src/carrying.rt:96:13
 below-requires : tie.Need-below-requires Inv-loop μ-loop Inv-loop2 μ-loop2
 below-requires c κs =
     let b = c .before in
@@ -99,11 +86,9 @@ below-requires c κs =
       (working-more (omega (arith, b .loop2 .inv .1, b .before .before .before .loop .inv .1)) (after-diagonal b), p .3),
     )
 
--- src/carrying.rt:94:5
 loop2-less : tie.Need-loop2-less Inv-loop μ-loop Inv-loop2 μ-loop2
 loop2-less c = search needs
 
--- src/carrying.rt:94:5
 loop2-again : tie.Need-loop2-again Inv-loop μ-loop Inv-loop2 μ-loop2
 loop2-again c =
     let b = c .before .before in
@@ -113,7 +98,6 @@ loop2-again c =
       stages-below-next (a .n) (factorsOf (a .b)) (b .loop2 .i) (c .before .loop2-test .taken) (b .loop2 .inv .1) (b .loop2 .inv .2) (c .below .ensures),
     )
 
--- src/carrying.rt:80:1
 returns : tie.Need-returns Inv-loop μ-loop Inv-loop2 μ-loop2
 returns c =
     let b = c .before in

@@ -1,19 +1,15 @@
+-- `improper` meets its contract.
+use borrow.Author.Needs.{needs}
 use mathlib.Core.Path.{ap}
 use mathlib.Core.Bool.{false}
 use mathlib.Core.List.{List}
 use Rattle.number.specs.declared.signed.Signed.{Signed}
-use borrow.Author.Needs.{needs}
 use Rattle.lists.proofs.items.improper.Statement.{statement}
 use Rattle.lists.proofs.items.improper.Tie as tie
-use Rattle.lists.proofs.items.improper.Reads as reads
-use Rattle.lists.proofs.items.improper.Lts as lts
-use Rattle.lists.proofs.items.blank.Reads as blank-reads
 
--- src/items.rt:114:16
 blank-requires : tie.Need-blank-requires
 blank-requires c κs = search needs
 
--- src/items.rt:108:1
 returns : tie.Need-returns
 returns c = ap (λ (v : List Signed). record { proper = false; count = 0; items = v }) (c .blank .ensures)
 

@@ -1,62 +1,47 @@
+-- `item_at` meets its contract.
+use borrow.Author.Needs.{needs}
 use Prim.Native.Nat.{_+_, _*_}
 use denote.Ref.{now}
 use Rattle.lists.proofs.Wholes.{read-is}
-use borrow.Author.Needs.{needs}
 use Rattle.lists.proofs.items.item_at.Statement.{statement}
 use Rattle.lists.proofs.items.item_at.Tie as tie
-use Rattle.lists.proofs.items.item_at.Reads as reads
-use Rattle.lists.proofs.items.item_at.Lts as lts
-use Rattle.lists.proofs.items.item_of.Reads as item-of-reads
 
--- src/items.rt:92:19
 mul-s : tie.Need-mul-s
 mul-s c = search needs
 
--- src/items.rt:92:13
 mul-s-2 : tie.Need-mul-s-2
 mul-s-2 c = search needs
 
--- src/items.rt:92:13
 shared-slice-copy-out-s : tie.Need-shared-slice-copy-out-s
 shared-slice-copy-out-s c = search needs
 
--- src/items.rt:93:19
 mul-m : tie.Need-mul-m
 mul-m c = search needs
 
--- src/items.rt:93:19
 add-m : tie.Need-add-m
 add-m c = search needs
 
--- src/items.rt:93:13
 mul-m-2 : tie.Need-mul-m-2
 mul-m-2 c = search needs
 
--- src/items.rt:93:13
 shared-slice-copy-out-m : tie.Need-shared-slice-copy-out-m
 shared-slice-copy-out-m c = search needs
 
--- src/items.rt:94:19
 mul-e : tie.Need-mul-e
 mul-e c = search needs
 
--- src/items.rt:94:19
 add-e : tie.Need-add-e
 add-e c = search needs
 
--- src/items.rt:94:13
 mul-e-2 : tie.Need-mul-e-2
 mul-e-2 c = search needs
 
--- src/items.rt:94:13
 shared-slice-copy-out-e : tie.Need-shared-slice-copy-out-e
 shared-slice-copy-out-e c = search needs
 
--- src/items.rt:95:5
 item-of-requires : tie.Need-item-of-requires
 item-of-requires c κs = search needs
 
--- src/items.rt:88:1
 returns : tie.Need-returns
 returns c =
     let a = c .before .before .before .before .args in

@@ -1,22 +1,15 @@
+-- `item_of` meets its contract: each test that fails leaves three numbers that are neither zero nor storable.
 use borrow.Author.Needs.{needs}
-use mathlib.Core.Path.{_≡_, sym, ap, ap₂, _∙_}
-use mathlib.Core.Bool.{Bool, true≢false}
-use Prim.Native.Nat.{ℕ}
+use mathlib.Core.Path.{_≡_, sym, ap, _∙_}
+use mathlib.Core.Bool.{true≢false}
 use native.Mathlib.Omega.{arith}
 use lib.IntN.{natAbs}
 use mir.Facts.{toZ-ofZ}
-use Rattle.number.specs.declared.signed.Signed.{Signed}
 use Rattle.lists.specs.Items.{isNegative, biased}
 use Rattle.lists.specs.declared.items.Item.the-variants.{Value}
 use Rattle.lists.proofs.ItemForms.{Storable, item-zero, item-value, item-malformed}
 use Rattle.lists.proofs.items.item_of.Statement.{statement}
 use Rattle.lists.proofs.items.item_of.Tie as tie
-use Rattle.lists.proofs.items.item_of.Reads as reads
-use Rattle.lists.proofs.items.item_of.Lts as lts
-use Rattle.lists.proofs.items.biased.Reads as biased-reads
-use Rattle.lists.proofs.whole.is_negative.Reads as is-negative-reads
-use Rattle.lists.proofs.whole.magnitude.Reads as magnitude-reads
-use Rattle.number.proofs.signed.Signed.zero.Reads as zero-reads
 
 -- what the three magnitudes are
 record Parts (c : tie.After-magnitude3) : Type 0 where

@@ -1,21 +1,17 @@
+-- `items_of` meets its contract. The invariant: the whole list is what the rest of the numbers gives, put behind the k items read.
 use borrow.Author.Needs.{needs}
-use mathlib.Core.Path.{_≡_, refl, sym, ap, _∙_}
+use mathlib.Core.Path.{_≡_, sym, ap, _∙_}
 use mathlib.Core.Bool.{true}
 use mathlib.Core.List.{List}
-use Prim.Native.Nat.{ℕ, _+_, _-_, _*_, _≤_, _<_}
+use Prim.Native.Nat.{ℕ, _-_, _*_, _≤_}
 use native.Mathlib.Omega.{arith}
 use denote.Ref.{now}
-use lib.ListN.{length, drop}
+use lib.ListN.{drop}
 use Rattle.number.specs.declared.signed.Signed.{Signed}
 use Rattle.lists.specs.Items.{blank, listOf, listedFrom}
 use Rattle.lists.proofs.Reading.{listed-value, listed-malformed, listed-end}
 use Rattle.lists.proofs.items.items_of.Statement.{statement}
 use Rattle.lists.proofs.items.items_of.Tie as tie
-use Rattle.lists.proofs.items.items_of.Reads as reads
-use Rattle.lists.proofs.items.items_of.Lts as lts
-use Rattle.lists.proofs.items.blank.Reads as blank-reads
-use Rattle.lists.proofs.items.improper.Reads as improper-reads
-use Rattle.lists.proofs.items.item_at.Reads as item-at-reads
 
 abbrev Inv-loop : tie.InvT-loop
 Inv-loop items n v₀ k₀ v k = (k ≤ n) × (listedFrom blank 0 (listOf items) ≡ listedFrom v k (listOf (drop (3 * k) items)))
@@ -23,39 +19,30 @@ Inv-loop items n v₀ k₀ v k = (k ≤ n) × (listedFrom blank 0 (listOf items)
 abbrev μ-loop : tie.MeasureT-loop
 μ-loop items n v₀ k₀ v k = n - k
 
--- src/items.rt:123:17
 blank-requires : tie.Need-blank-requires Inv-loop μ-loop
 blank-requires c κs = search needs
 
--- src/items.rt:125:5
 loop-holds : tie.Need-loop-holds Inv-loop μ-loop
 loop-holds c = (omega arith, ap (λ (v : List Signed). listedFrom v 0 (listOf (now (c .before .args .items)))) (sym (c .blank .ensures)))
 
--- src/items.rt:126:13
 item-at-requires : tie.Need-item-at-requires Inv-loop μ-loop
 item-at-requires c κs = search needs
 
--- src/items.rt:128:25
 enum-known-item : tie.Need-enum-known-item Inv-loop μ-loop
 enum-known-item c = search needs
 
--- src/items.rt:129:17
 mul-v : tie.Need-mul-v Inv-loop μ-loop
 mul-v c = search needs
 
--- src/items.rt:129:17
 array-set-from-v : tie.Need-array-set-from-v Inv-loop μ-loop
 array-set-from-v c = search needs
 
--- src/items.rt:132:17
 enum-told : tie.Need-enum-told Inv-loop μ-loop
 enum-told c = search needs
 
--- src/items.rt:132:17
 improper-requires : tie.Need-improper-requires Inv-loop μ-loop
 improper-requires c κs = search needs
 
--- src/items.rt:132:17
 returns : tie.Need-returns Inv-loop μ-loop
 returns c =
     let b = c .before .before .before .before .before in
@@ -63,15 +50,12 @@ returns c =
     ∙ sym (b .loop .inv .1 ∙ listed-malformed (now (b .before .before .args .items)) (b .loop .v) (b .loop .k) (omega (arith, b .before .before .pre .1, c .before .before .before .before .loop-test .taken))
     (sym (c .before .before .before .item-at .ensures) ∙ c .before .enum-told .given .1))
 
--- src/items.rt:135:9
 add-k : tie.Need-add-k Inv-loop μ-loop
 add-k c = search needs
 
--- src/items.rt:125:5
 loop-less : tie.Need-loop-less Inv-loop μ-loop
 loop-less c = search needs
 
--- src/items.rt:125:5
 loop-again : tie.Need-loop-again Inv-loop μ-loop
 loop-again c =
     let b = c .before .before .before .before .before in (
@@ -80,7 +64,6 @@ loop-again c =
           (sym (c .before .before .before .item-at .ensures) ∙ c .before .item .given .1),
     )
 
--- src/items.rt:119:1
 returns-2 : tie.Need-returns-2 Inv-loop μ-loop
 returns-2 c =
     let b = c .before in

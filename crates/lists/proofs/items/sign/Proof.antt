@@ -1,26 +1,20 @@
+-- `sign` meets its contract.
 use borrow.Author.Tests.{eq-eqb, ne-eqb}
+use borrow.Author.Needs.{needs}
 use mathlib.Core.Path.{_∙_}
 use Rattle.lists.proofs.Wholes.{held-is}
-use borrow.Author.Needs.{needs}
 use Rattle.lists.proofs.items.sign.Statement.{statement}
 use Rattle.lists.proofs.items.sign.Tie as tie
-use Rattle.lists.proofs.items.sign.Reads as reads
-use Rattle.lists.proofs.items.sign.Lts as lts
-use Rattle.lists.proofs.whole.minus.Reads as minus-reads
 
--- src/items.rt:132:9
 returns : tie.Need-returns
 returns c = simp (eq-eqb _ _ (c .if1 .taken))
 
--- src/items.rt:135:9
 minus-requires : tie.Need-minus-requires
 minus-requires c κs = search needs
 
--- src/items.rt:135:9
 returns-2 : tie.Need-returns-2
 returns-2 c = held-is (record { sfits = c .minus .ok }) (c .minus .ensures) ∙ simp (ne-eqb _ _ (c .before .before .if1 .left), c .before .if2 .taken)
 
--- src/items.rt:127:1
 returns-3 : tie.Need-returns-3
 returns-3 c = simp (ne-eqb _ _ (c .before .if1 .left), c .if2 .left)
 

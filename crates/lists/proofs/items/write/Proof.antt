@@ -1,19 +1,17 @@
+-- `write` meets its contract. The invariant: all items written at the start are the rest of them written behind the k that stand there.
 use borrow.Author.Needs.{needs}
-use mathlib.Core.Path.{_≡_, refl, sym, ap, _∙_}
-use Prim.Native.Nat.{ℕ, _+_, _-_, _*_, _≤_, _<_}
-use native.Mathlib.Omega.{arith}
+use mathlib.Core.Path.{_≡_, sym, ap, _∙_}
 use mathlib.Core.List.{List}
+use Prim.Native.Nat.{_-_, _*_, _≤_, _<_}
+use native.Mathlib.Omega.{arith}
 use lib.ListN.{length, drop, take}
+use lib.Seq.{sets}
 use Rattle.number.specs.declared.signed.Signed.{Signed}
+use Rattle.lists.specs.Items.{listNumbers}
 use Rattle.lists.proofs.Fronts.{unset, front-end, write-next}
 use Rattle.lists.proofs.Vectors.{ranged-front}
-use lib.Seq.{sets}
-use Rattle.lists.specs.Items.{listNumbers}
 use Rattle.lists.proofs.items.write.Statement.{statement}
 use Rattle.lists.proofs.items.write.Tie as tie
-use Rattle.lists.proofs.items.write.Reads as reads
-use Rattle.lists.proofs.items.write.Lts as lts
-use Rattle.lists.proofs.items.put.Reads as put-reads
 
 abbrev Inv-loop : tie.InvT-loop
 Inv-loop n out₀ v k₀ out k = (k ≤ n) × (length out ≡ length out₀) × (sets out₀ 0 (listNumbers (take n v)) ≡ sets out (3 * k) (listNumbers (drop k (take n v))))
@@ -21,23 +19,18 @@ Inv-loop n out₀ v k₀ out k = (k ≤ n) × (length out ≡ length out₀) × 
 abbrev μ-loop : tie.MeasureT-loop
 μ-loop n out₀ v k₀ out k = n - k
 
--- src/items.rt:195:5
 loop-holds : tie.Need-loop-holds Inv-loop μ-loop
 loop-holds c = search needs
 
--- src/items.rt:196:17
 mul-a : tie.Need-mul-a Inv-loop μ-loop
 mul-a c = search needs
 
--- src/items.rt:196:17
 array-copy-out-a : tie.Need-array-copy-out-a Inv-loop μ-loop
 array-copy-out-a c = search needs
 
--- src/items.rt:197:21
 mul-put : tie.Need-mul-put Inv-loop μ-loop
 mul-put c = search needs
 
--- src/items.rt:197:9
 put-requires : tie.Need-put-requires Inv-loop μ-loop
 put-requires c κs =
     let b = c .before .before .before in
@@ -46,15 +39,12 @@ put-requires c κs =
       omega (arith, b .loop .inv .1, b .before .pre .2),
     )
 
--- src/items.rt:198:9
 add-k : tie.Need-add-k Inv-loop μ-loop
 add-k c = search needs
 
--- src/items.rt:195:5
 loop-less : tie.Need-loop-less Inv-loop μ-loop
 loop-less c = search needs
 
--- src/items.rt:195:5
 loop-again : tie.Need-loop-again Inv-loop μ-loop
 loop-again c =
     let b = c .before .before .before .before .before in
@@ -64,11 +54,9 @@ loop-again c =
       b .loop .inv .2 ∙ write-next (b .before .args .t1) (b .before .args .n) (b .loop .k) unset h (omega (arith, b .before .pre .0, b .before .pre .1 .eight)) (b .loop .out) _ (c .before .put .ensures),
     )
 
--- src/items.rt:190:1
 same-length : tie.Need-same-length Inv-loop μ-loop
 same-length c = c .before .loop .inv .1
 
--- src/items.rt:190:1
 returns : tie.Need-returns Inv-loop μ-loop
 unfolding listNumbers
 returns c =

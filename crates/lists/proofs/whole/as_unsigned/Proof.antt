@@ -1,3 +1,4 @@
+-- `as_unsigned` meets its contract.
 use borrow.Author.Needs.{needs}
 use mir.Facts.{toZ-ofZ, fits-natAbs}
 use mir.Syntax.{w64}

@@ -1,3 +1,4 @@
+-- `is_negative` meets its contract.
 use mir.Facts.{toZ-ofZ}
 use Rattle.lists.proofs.Wholes.{below-zero}
 use Rattle.lists.proofs.whole.is_negative.Statement.{statement}

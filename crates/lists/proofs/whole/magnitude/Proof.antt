@@ -1,3 +1,4 @@
+-- `magnitude` meets its contract. A negative number is raised by one before its sign is turned.
 use borrow.Author.Needs.{needs}
 use mathlib.Core.Path.{_≡_, sym, _∙_}
 use mathlib.Core.Bool.{true}

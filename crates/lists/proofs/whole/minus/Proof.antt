@@ -1,3 +1,4 @@
+-- `minus` meets its contract.
 use borrow.Author.Needs.{needs}
 use mathlib.Core.Path.{_≡_, _∙_}
 use lib.IntN.{pos}
@@ -6,10 +7,6 @@ use mir.Val.{toZ, ofZ}
 use Rattle.lists.proofs.Wholes.{held-is, minus-fits, minus-is}
 use Rattle.lists.proofs.whole.minus.Statement.{statement}
 use Rattle.lists.proofs.whole.minus.Tie as tie
-use Rattle.lists.proofs.whole.minus.Reads as reads
-use Rattle.lists.proofs.whole.minus.Lts as lts
-use Rattle.lists.proofs.whole.difference.Reads as difference-reads
-use Rattle.lists.proofs.whole.plus.Reads as plus-reads
 
 number : (c : tie.After-plus) → toZ w64 (ofZ w64 (c .plus .result)) ≡ pos (c .before .args .n)
 number c = held-is (record { sfits = c .plus .ok }) (c .plus .ensures)

@@ -1,3 +1,4 @@
+-- `plus` meets its contract.
 use borrow.Author.Needs.{needs}
 use borrow.Author.Tests.{lt-ltb}
 use Rattle.lists.proofs.whole.plus.Statement.{statement}
