@@ -15,9 +15,9 @@ use Rattle.number.proofs.Signs.{signed-product-comm}
 use Rattle.number.proofs.SignedReach.{signed-ranged-more, signed-ranged-plain, signed-ranged-sum, signed-ranged-product}
 use Rattle.words.specs.Word.{Factors, Letter, E, Et, D, Dinv, Word, word}
 use Rattle.words.specs.Walk.{carry, carryLetter}
-use Rattle.words.proofs.Alike.{each-word, each-all}
 use Rattle.words.proofs.Counts.{word-cost}
 use Rattle.words.proofs.Related.{total, letterCost}
+use Rattle.words.proofs.Stages.{word-all}
 use Rattle.words.proofs.Walks.{All}
 use Rattle.lists.specs.Lists.{carried}
 use Rattle.lists.specs.Table.{StoredFactors}
@@ -76,10 +76,10 @@ carried-reach n b v low high s h i l m =
     let W : Word Signed = word n (λ i j. plain (b i j)) in
     let stored : (i j : ℕ) → 1 ≤ i → i ≤ n → 1 ≤ j → j ≤ n → SignedRanged 1000 (plain (b i j)) = λ i j p q t u. signed-ranged-plain (ranged-stored (s .stored i j p q t u)) in
     let letters : All (StoredLetter n) W =
-    each-all (StoredLetter n) W (each-word (λ x y. StoredLetter n x) n (λ i j. plain (b i j)) (λ i j. plain (b i j))
-    (λ i j p q t. (omega arith, t, stored j i (omega arith) t p (omega arith)))
+    word-all (StoredLetter n) n (λ i j. plain (b i j))
+    (λ i j p q t. (omega arith, t, stored i j (omega arith) t p (omega arith)))
     (λ i p q. stored i i p q p q)
-    (λ i j p q t. (omega arith, t, stored i j p (omega arith) (omega arith) t))) in
+    (λ i j p q t. (omega arith, t, stored j i p (omega arith) (omega arith) t)) in
     let cost : reachOf W ≡ letterReach * (n * n - n) + letterReach = word-cost letterReach letterReach n (λ i j. plain (b i j)) low in
     let few : n * n ≤ 8 * 8 = mul-le-mul high high in
     signed-ranged-more (omega arith) (carry-reach n 1000 v h W letters (omega arith) i l m)
