@@ -1,0 +1,12 @@
+pub mod Closest
+pub mod Rounding
+pub mod Exact
+pub mod Zero
+pub mod Order
+pub mod Signs
+pub mod Reach
+pub mod SignedReach
+pub mod Value
+pub mod Error
+pub mod Nearest
+pub mod Examples

@@ -2,8 +2,8 @@
 -- A number with mantissa m and exponent e is kept as m and x = e + bias, so that all is said in whole numbers.
 use Prim.Native.Nat.{ℕ, _+_, _-_, _*_, _/_, _^_, _≤_, _<_, min}
 use mathlib.Core.Path.{_≡_}
-use mathlib.Core.Bool.{cond}
-use lib.Dec.{eqb}
+use mathlib.Core.Bool.{Bool, cond, _&&_}
+use lib.Dec.{eqb, leb}
 use lib.Pow.{pow-pos}
 use lib.Ieee.{size}
 use lib.Ieee.Nearest.{closest}
@@ -72,3 +72,7 @@ pub record Stored (a : Number) : Type 0 where
 -- the exponents that the operations take: six sources of eight rows stay below 1.7 million
 abbrev pub reach : ℕ
 reach = 2 ^ 21 - 64
+
+-- an exponent from -1000 to 1000
+unfoldable pub inRange : Number → Bool
+inRange a = leb bias (a .x + 1000) && leb (a .x) (bias + 1000)

@@ -1,7 +1,227 @@
 // Numbers of 32 binary digits: add, multiply and divide give the exact result rounded once, to nearest, ties to even.
+// Each operation brings its exact result to the form n / d at an exponent x; `round` alone rounds.
+ghost use mathlib.Core.Path.{_≡_};
+ghost use mathlib.Core.Bool.{false};
+ghost use Prim.Native.Nat.{ℕ, _+_, _-_, _*_, _^_, _≤_, _<_};
+ghost use lib.Dec.{eqb};
+ghost use Rattle.number.specs.Number.{zeroNumber, oneNumber, carried, round, sumOf, productOf, quotientOf, Ranged, reach, inRange};
+ghost use Rattle.number.specs.Signed.{below, differenceOf};
 
-// m times 2 to the power x - 4194304. Zero has m 0 and x 4194304.
+pub mod signed; // signed.rt: numbers with a sign
+
+// The exponent 0.
+const BIAS: u64 = 4194304;
+
+// m times 2 to the power x - BIAS. Zero has m 0 and x BIAS.
 pub struct Number {
     pub m: u64,
     pub x: u64,
+}
+
+// A mantissa that was rounded up to 2^32 is 2^31 one exponent higher.
+fn carried(m: u64, x: u64) -> Number
+    requires { ⌜ x < 2 ^ 62 ⌝ }
+    ensures { λ r. ⌜ r ≡ carried m x ⌝ }
+{
+    if m == 0x1_0000_0000 {
+        return Number {
+            m: 0x8000_0000,
+            x: x + 1,
+        };
+    }
+    Number { m, x }
+}
+
+// The one rounding: n / d, of 32 digits before the point, to the nearest whole number, at a tie to the even one.
+fn round(n: u64, d: u64, x: u64) -> Number
+    requires { ⌜ (0 < d) × (d ≤ 2 ^ 62) × (2 ^ 31 * d ≤ n) × (n < 2 ^ 32 * d) × (x < 2 ^ 62) ⌝ }
+    ensures { λ r. ⌜ r ≡ round n d x ⌝ }
+{
+    let q = n / d;
+    let t = n % d * 2;
+    if d < t {
+        return carried(q + 1, x);
+    }
+    if t == d {
+        return carried(q + q % 2, x);
+    }
+    carried(q, x)
+}
+
+fn power(k: u64) -> u64
+    requires { ⌜ k < 64 ⌝ }
+    ensures { λ r. ⌜ r ≡ 2 ^ k ⌝ }
+{
+    1u64 << k
+}
+
+// A whole number at exponent x: digits past the 32nd are left behind the point, zeros are joined to fewer.
+fn whole(n: u64, x: u64) -> Number
+    requires { ⌜ (0 < n) × (32 ≤ x) × (x < 2 ^ 61) ⌝ }
+    ensures { λ r. ⌜ r ≡ round n 1 x ⌝ }
+{
+    let z = u64::leading_zeros(n) as u64;
+    if z < 32 {
+        return round(n, power(32 - z), x + (32 - z));
+    }
+    round(n * power(z - 32), 1, x - (z - 32))
+}
+
+// a / b at exponent x. The mantissas are compared first, so that the quotient has 32 digits before the point.
+fn quotient(a: u64, b: u64, x: u64) -> Number
+    requires { ⌜ (2 ^ 31 ≤ a) × (a < 2 ^ 32) × (2 ^ 31 ≤ b) × (b < 2 ^ 32) × (32 ≤ x) × (x < 2 ^ 61) ⌝ }
+    ensures { λ r. ⌜ r ≡ round a b x ⌝ }
+{
+    if a >= b {
+        return round(a * 0x8000_0000, b, x - 31);
+    }
+    round(a * 0x1_0000_0000, b, x - 32)
+}
+
+// The sum, where the second exponent is not above the first. Up to 32 places apart it fits a word.
+// From 33 on the second number is less than half a unit of the first's last place; a quarter stands for it.
+fn sum(a: u64, i: u64, b: u64, j: u64) -> Number
+    requires { ⌜ (2 ^ 31 ≤ a) × (a < 2 ^ 32) × (b < 2 ^ 32) × (j ≤ i) × (32 ≤ j) × (i < 2 ^ 61) ⌝ }
+    ensures { λ r. ⌜ r ≡ round (a * 2 ^ (i - j) + b) 1 j ⌝ }
+{
+    let k = i - j;
+    if 32 < k {
+        return whole(a * 4 + 1, i - 2);
+    }
+    whole(a * power(k) + b, j)
+}
+
+// The difference, where the second number is the smaller and its exponent not above the first's.
+// From 33 places on the second is less than half a unit of the first's last place; an eighth stands for it. But below 2^31 units are
+// half as large: there 33 places are worked in full, 2^64 less the second number.
+fn difference(a: u64, i: u64, b: u64, j: u64) -> Number
+    requires { ⌜ (2 ^ 31 ≤ a) × (a < 2 ^ 32) × (0 < b) × (b < 2 ^ 32) × (j ≤ i) × (35 ≤ j) × (i < 2 ^ 61) × (b < a * 2 ^ (i - j)) ⌝ }
+    ensures { λ r. ⌜ r ≡ round (a * 2 ^ (i - j) - b) 1 j ⌝ }
+{
+    let k = i - j;
+    if k < 33 {
+        return whole(a * power(k) - b, j);
+    }
+    if k == 33 {
+        if a == 0x8000_0000 {
+            return whole(u64::MAX - b + 1, j);
+        }
+    }
+    whole(a * 8 - 1, i - 3)
+}
+
+impl Number {
+    pub fn zero() -> Number
+        ensures { λ r. ⌜ r ≡ zeroNumber ⌝ }
+    {
+        Number { m: 0, x: BIAS }
+    }
+
+    pub fn one() -> Number
+        ensures { λ r. ⌜ r ≡ oneNumber ⌝ }
+    {
+        Number {
+            m: 0x8000_0000,
+            x: BIAS - 31,
+        }
+    }
+
+    pub fn is_zero(self) -> bool
+        ensures { λ r. ⌜ r ≡ eqb (self .m) 0 ⌝ }
+    {
+        self.m == 0
+    }
+
+    // Whether the exponent may be stored: from -1000 to 1000.
+    pub fn in_range(self) -> bool
+        ensures { λ r. ⌜ r ≡ inRange self ⌝ }
+    {
+        if self.x < BIAS - 1000 {
+            return false;
+        }
+        self.x <= BIAS + 1000
+    }
+
+    pub fn add(self, other: Number) -> Number
+        requires { ⌜ Ranged reach self × Ranged reach other ⌝ }
+        ensures { λ r. ⌜ r ≡ sumOf self other ⌝ }
+    {
+        if self.m == 0 {
+            return other;
+        }
+        if other.m == 0 {
+            return self;
+        }
+        if self.x < other.x {
+            return sum(other.m, other.x, self.m, self.x);
+        }
+        sum(self.m, self.x, other.m, other.x)
+    }
+
+    pub fn mul(self, other: Number) -> Number
+        requires { ⌜ Ranged reach self × Ranged reach other ⌝ }
+        ensures { λ r. ⌜ r ≡ productOf self other ⌝ }
+    {
+        if self.m == 0 {
+            return self;
+        }
+        if other.m == 0 {
+            return other;
+        }
+        whole(self.m * other.m, self.x + other.x - BIAS)
+    }
+
+    pub fn div(self, other: Number) -> Number
+        requires { ⌜ Ranged reach self × Ranged reach other × (0 < other .m) ⌝ }
+        ensures { λ r. ⌜ r ≡ quotientOf self other ⌝ }
+    {
+        if self.m == 0 {
+            return self;
+        }
+        quotient(self.m, other.m, self.x + BIAS - other.x)
+    }
+
+    // This number plus w times b, the product rounded first.
+    pub fn add_product(self, w: Number, b: Number) -> Number
+        requires { ⌜ Ranged reach self × Ranged reach w × Ranged reach b × Ranged reach (productOf w b) ⌝ }
+        ensures { λ r. ⌜ r ≡ sumOf self (productOf w b) ⌝ }
+    {
+        self.add(w.mul(b))
+    }
+
+    // Whether this number is less than the other.
+    pub fn below(self, other: Number) -> bool
+        requires { ⌜ Ranged reach self × Ranged reach other ⌝ }
+        ensures { λ r. ⌜ r ≡ below self other ⌝ }
+    {
+        if other.m == 0 {
+            return false;
+        }
+        if self.m == 0 {
+            return true;
+        }
+        if self.x < other.x {
+            return true;
+        }
+        if other.x < self.x {
+            return false;
+        }
+        self.m < other.m
+    }
+
+    // This number less one that is not larger. A difference of equals is zero.
+    pub fn sub(self, other: Number) -> Number
+        requires { ⌜ Ranged reach self × Ranged reach other × (below self other ≡ false) ⌝ }
+        ensures { λ r. ⌜ r ≡ differenceOf self other ⌝ }
+    {
+        if other.m == 0 {
+            return self;
+        }
+        if self.x == other.x {
+            if self.m == other.m {
+                return Number { m: 0, x: BIAS };
+            }
+        }
+        difference(self.m, self.x, other.m, other.x)
+    }
 }

@@ -1,0 +1,66 @@
+-- Positions of masks among the masks with equally many rows: the list of all of them (positions, position-is), below 70 (position-below), no two alike (position-injective).
+use mathlib.Core.Path.{_≡_, refl, sym, ap, _∙_}
+use mathlib.Core.Bool.{Bool}
+use mathlib.Core.List.{List, [], _∷_}
+use Prim.Native.Nat.{ℕ, zero, suc, _+_, _≤_, _<_}
+use native.Mathlib.Decide.{decLt, le-ind}
+use native.Mathlib.Nat.{le-refl, le-of-suc-le-suc, not-suc-le-zero, add-zero, zero-add, add-suc, suc-add}
+use native.Mathlib.Omega.{arith}
+use borrow.Author.Tests.{eq-eqb}
+use lib.Dec.{T, leb, leb→le}
+use lib.ListN.{getD}
+use Rattle.rowset.specs.Mask.{maskHas, countTo, maskCount, countBelow, positionOf}
+use Rattle.rowset.proofs.Finite.{all, all-at}
+use Rattle.rowset.proofs.Counts.{countTo-le}
+
+-- the positions of the masks i, i + 1, .. : c of them
+abbrev pub positions : ℕ → ℕ → List ℕ
+positions i zero = []
+positions i (suc c) = positionOf i ∷ positions (suc i) c
+
+positions-at : (i c k : ℕ) → k < c → getD (positions i c) k 0 ≡ positionOf (i + k)
+positions-at i zero k h = absurd (not-suc-le-zero h)
+positions-at i (suc c) zero h = ap positionOf (sym (add-zero i))
+positions-at i (suc c) (suc k) h = positions-at (suc i) c k (le-of-suc-le-suc h) ∙ ap positionOf (suc-add i k ∙ sym (add-suc i k))
+
+-- the rule at each entry
+pub position-is : (n s : ℕ) → s < n → getD (positions 0 n) s 0 ≡ positionOf s
+position-is n s h = positions-at 0 n s h ∙ ap positionOf (zero-add s)
+
+-- NO TWO ALIKE
+below-mono : (k s t : ℕ) → s ≤ t → countBelow k s ≤ countBelow k t
+unfolding countBelow
+below-mono k s t h = le-ind (λ m. countBelow k s ≤ countBelow k m) (le-refl _) (λ m l i. omega arith) t h
+
+below-suc : (s : ℕ) → countBelow (maskCount s) (suc s) ≡ suc (positionOf s)
+unfolding countBelow positionOf
+below-suc s = rw (eq-eqb (maskCount s) (maskCount s) refl) (omega arith)
+
+position-before : (s t : ℕ) → maskCount s ≡ maskCount t → s < t → positionOf s < positionOf t
+unfolding positionOf
+position-before s t e h =
+    let m = below-mono (maskCount s) (suc s) t h in
+    let b = below-suc s in
+    rw (← e) (omega arith)
+
+pub position-injective : (s t : ℕ) → maskCount s ≡ maskCount t → positionOf s ≡ positionOf t → s ≡ t
+position-injective s t e p = go (decLt s t) (decLt t s)
+  where
+    go : Dec (s < t) → Dec (t < s) → s ≡ t
+    go (yes l) d = absurd (omega (arith, position-before s t e l))
+    go (no l) (yes g) = absurd (omega (arith, position-before t s (sym e) g))
+    go (no l) (no g) = omega arith
+
+-- BELOW 70: no more sets of four rows, of eight, are there
+few : ℕ → Bool
+few k = leb (countBelow k 256) 70
+
+few-all : T (all 9 few)
+unfolding few countBelow maskCount countTo maskHas
+few-all = tt
+
+pub position-below : (s : ℕ) → s < 256 → positionOf s < 70
+unfolding few maskCount
+position-below s h =
+    let f : countBelow (maskCount s) 256 ≤ 70 = leb→le _ _ (all-at 9 few few-all (maskCount s) (omega (arith, countTo-le 8 s))) in
+    omega (arith, below-suc s, below-mono (maskCount s) (suc s) 256 h)
