@@ -1,0 +1,5 @@
+pub mod Order
+pub mod Changed
+pub mod Held
+pub mod Sweep
+pub mod Moves

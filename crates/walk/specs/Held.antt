@@ -7,12 +7,13 @@ use lib.ListN.{getD, length, set, replicate}
 use Rattle.number.specs.Number.{rounded, zeroNumber, oneNumber, Ranged}
 use Rattle.number.specs.declared.Number.{Number}
 use Rattle.rowset.specs.Mask.{maskOf, positionOf}
+use Rattle.walk.specs.Steps.{absent}
 use Rattle.words.specs.RowSet.{RowSet, count}
 use Rattle.words.specs.Walk.{State}
 
 -- the number held for the set with mask s
 unfoldable pub heldAt : List Number → ℕ → Number
-heldAt v s = getD v (positionOf s) zeroNumber
+heldAt v s = getD v (positionOf s) absent
 
 abbrev pub stateOf : List Number → State rounded
 stateOf v S = heldAt v (maskOf S)

@@ -24,8 +24,12 @@ wayOf Transposed = words.transposed
 abbrev pub placeOf : ℕ → ℕ → ℕ
 placeOf i j = (i - 1) * 8 + (j - 1)
 
+-- what a read past the end of an array would give: none is made
+abbrev pub absent : Number
+absent = record { m = 0; x = 0 }
+
 unfoldable pub factorsOf : List Number → Factors Number
-factorsOf b i j = getD b (placeOf i j) zeroNumber
+factorsOf b i j = getD b (placeOf i j) absent
 
 abbrev pub stepOf : Step → words.Step Number
 stepOf s = words.step (wayOf (s .way)) (factorsOf (s .factors))
@@ -67,7 +71,7 @@ backwards Transposed = false
 
 -- the entries of D that eight numbers hold, that of row 1 first
 unfoldable pub entriesOf : List Number → ℕ → Number
-entriesOf d i = getD d (i - 1) zeroNumber
+entriesOf d i = getD d (i - 1) absent
 
 pub record StoredEntries (n : ℕ) (d : List Number) : Type 0 where
   pub stored : (i : ℕ) → 1 ≤ i → i ≤ n → Stored (entriesOf d i)
