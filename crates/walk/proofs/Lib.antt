@@ -3,3 +3,7 @@ pub mod Changed
 pub mod Held
 pub mod Sweep
 pub mod Moves
+pub mod Scaling
+pub mod Diagonals
+pub mod Spelling
+pub mod Stages

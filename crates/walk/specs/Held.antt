@@ -32,5 +32,5 @@ abbrev pub letterReach : ℕ
 letterReach = 500000
 
 -- 1 at j, 0 elsewhere
-abbrev pub startOf : ℕ → List Number
+unfoldable pub startOf : ℕ → List Number
 startOf j = set (replicate 70 zeroNumber) (positionOf j) oneNumber

@@ -76,6 +76,11 @@ entriesOf d i = getD d (i - 1) absent
 pub record StoredEntries (n : ℕ) (d : List Number) : Type 0 where
   pub stored : (i : ℕ) → 1 ≤ i → i ≤ n → Stored (entriesOf d i)
 
--- d holds the entries of D of n rows with factors b: those of the diagonal, backwards for the converse
+-- where the entry of row i stands: on the diagonal, backwards for the converse
+abbrev pub entryPlace : ℕ → Bool → ℕ → ℕ
+entryPlace n true i = placeOf (n + 1 - i) (n + 1 - i)
+entryPlace n false i = placeOf i i
+
+-- d holds the entries of D of n rows with factors b
 pub record Entries (n : ℕ) (way : Way) (b d : List Number) : Type 0 where
-  pub entry : (i : ℕ) → 1 ≤ i → i ≤ n → entriesOf d i ≡ cond (backwards way) (factorsOf b (n + 1 - i) (n + 1 - i)) (factorsOf b i i)
+  pub entry : (i : ℕ) → 1 ≤ i → i ≤ n → entriesOf d i ≡ getD b (entryPlace n (backwards way) i) absent

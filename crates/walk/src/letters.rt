@@ -44,7 +44,7 @@ fn cell_at(n: usize, t: usize) -> Cell
 
 // Letter t of the plain word, where that is not D.
 fn plain_at(n: usize, t: usize) -> Move
-    requires { ⌜ (1 ≤ n) × (n ≤ 8) × (t < middle n + middle n + 1) × (t ≡ middle n → ⊥) ⌝ }
+    requires { ⌜ (1 ≤ n) × (n ≤ 8) × (t < 2 * middle n + 1) × (t ≡ middle n → ⊥) ⌝ }
     ensures { λ r. ⌜ r ≡ moveAt n Way.Plain t ⌝ }
 {
     let h = middle(n);
@@ -56,7 +56,7 @@ fn plain_at(n: usize, t: usize) -> Move
             at: (x.row - 1) * 8 + (x.column - 1),
         };
     }
-    let x = cell_at(n, h + h - t);
+    let x = cell_at(n, 2 * h - t);
     Move {
         to: x.row - 1,
         from: x.row,
@@ -66,7 +66,7 @@ fn plain_at(n: usize, t: usize) -> Move
 
 // Letter t of the word of a step taken this way, where that is not D.
 pub fn move_at(n: usize, way: Way, t: usize) -> Move
-    requires { ⌜ (1 ≤ n) × (n ≤ 8) × (t < middle n + middle n + 1) × (t ≡ middle n → ⊥) ⌝ }
+    requires { ⌜ (1 ≤ n) × (n ≤ 8) × (t < 2 * middle n + 1) × (t ≡ middle n → ⊥) ⌝ }
     ensures { λ r. ⌜ r ≡ moveAt n way t ⌝ }
     ensures { λ r. ⌜ MoveWithin n r ⌝ }
 {

@@ -1,6 +1,7 @@
 // Minors (document 01, "The rounded rule"): a number for every set of k rows is held, and the letters of a word are applied from right to left.
 ghost use mathlib.Core.Path.{_≡_};
-ghost use Prim.Native.Nat.{_+_, _*_, _^_, _≤_, _<_};
+ghost use mathlib.Core.Bool.{cond};
+ghost use Prim.Native.Nat.{_+_, _-_, _*_, _^_, _≤_, _<_};
 ghost use lib.ListN.{getD, take};
 ghost use Rattle.number.specs.Number.{rounded, zeroNumber, Ranged, Stored};
 ghost use Rattle.rowset.specs.Mask.{maskCount};
@@ -97,8 +98,10 @@ fn divides(way: Way) -> bool
     ensures { λ r. ⌜ r ≡ divides way ⌝ }
 {
     match way {
+        Way::Plain => false,
         Way::Inverted => true,
-        _ => false,
+        Way::Conversed => false,
+        Way::Transposed => false,
     }
 }
 
@@ -106,9 +109,20 @@ fn backwards(way: Way) -> bool
     ensures { λ r. ⌜ r ≡ backwards way ⌝ }
 {
     match way {
+        Way::Plain => false,
+        Way::Inverted => false,
         Way::Conversed => true,
-        _ => false,
+        Way::Transposed => false,
     }
+}
+
+// The row that the entry of row i + 1 of D comes from, counted from 0.
+fn entry_row(n: usize, i: usize, back: bool) -> usize
+    requires { ⌜ i < n ⌝ }
+    ensures { λ r. ⌜ r ≡ cond back (n - 1 - i) i ⌝ }
+    ensures { λ r. ⌜ r < n ⌝ }
+{
+    if back { n - 1 - i } else { i }
 }
 
 // The entries of D, those of row 1 first; in the converse they are read backwards.
@@ -120,15 +134,14 @@ fn entries(b: [Number; 64], n: usize, way: Way) -> [Number; 8]
     let mut d = [zero; 8];
     let back = backwards(way);
     for i in 0..n {
-        let j = if back { n - 1 - i } else { i };
-        d[i] = b[j * 9];
+        d[i] = b[entry_row(n, i, back) * 9];
     }
     d
 }
 
 // Letter t of the step's word.
 fn act(v: [Number; 70], n: usize, k: usize, s: Step, t: usize) -> [Number; 70]
-    requires { ⌜ (1 ≤ k) × (k ≤ n) × (n ≤ 8) × (t < middle n + middle n + 1) ⌝ }
+    requires { ⌜ (1 ≤ k) × (k ≤ n) × (n ≤ 8) × (t < 2 * middle n + 1) ⌝ }
     requires { ⌜ Working letterReach n k (stateOf v) × StoredStep n (stepOf s) ⌝ }
     ensures { λ r. ⌜ Agree n k (stateOf r) (act rounded (letterAt n s t) (stateOf v)) ⌝ }
 {

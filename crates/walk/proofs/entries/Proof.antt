@@ -1,71 +1,61 @@
+-- `entries` meets its contract. The invariant: the first i entries are collected.
+use borrow.Author.Needs.{needs}
+use mathlib.Core.Path.{refl}
+use Prim.Native.Nat.{_-_, _≤_}
+use native.Mathlib.Omega.{arith}
+use Rattle.walk.proofs.Diagonals.{Filled, filled-none, filled-next, filled-entries}
 use Rattle.walk.proofs.entries.Statement.{statement}
 use Rattle.walk.proofs.entries.Tie as tie
 use Rattle.walk.proofs.entries.Reads as reads
 use Rattle.walk.proofs.entries.Lts as lts
 use Rattle.number.proofs.Number.zero.Reads as zero-reads
 use Rattle.walk.proofs.backwards.Reads as backwards-reads
+use Rattle.walk.proofs.entry_row.Reads as entry-row-reads
 
 abbrev Inv-loop : tie.InvT-loop
-Inv-loop n b d₀ back i₀ d i = ?
+Inv-loop n b d₀ back i₀ d i = (i ≤ n) × Filled n back b d i
 
 abbrev μ-loop : tie.MeasureT-loop
-μ-loop n b d₀ back i₀ d i = ?
+μ-loop n b d₀ back i₀ d i = n - i
 
--- src/lib.rt:119:9
 zero-requires : tie.Need-zero-requires Inv-loop μ-loop
-zero-requires c κs = ?
+zero-requires c κs = search needs
 
--- src/lib.rt:121:9
 backwards-requires : tie.Need-backwards-requires Inv-loop μ-loop
-backwards-requires c κs = ?
+backwards-requires c κs = search needs
 
--- src/lib.rt:122:5
 loop-holds : tie.Need-loop-holds Inv-loop μ-loop
-loop-holds c = ?
+loop-holds c = (search needs, filled-none refl)
 
--- src/lib.rt:123:27
-sub-j : tie.Need-sub-j Inv-loop μ-loop
-sub-j c = ?
+entry-row-requires : tie.Need-entry-row-requires Inv-loop μ-loop
+entry-row-requires c κs = search needs
 
--- src/lib.rt:123:27
-sub-j-2 : tie.Need-sub-j-2 Inv-loop μ-loop
-sub-j-2 c = ?
-
--- src/lib.rt:124:18
 mul-d : tie.Need-mul-d Inv-loop μ-loop
-mul-d c = ?
+mul-d c = search needs
 
--- src/lib.rt:124:16
 mul-d-2 : tie.Need-mul-d-2 Inv-loop μ-loop
-mul-d-2 c = ?
+mul-d-2 c = search needs
 
--- src/lib.rt:124:16
 array-copy-out-d : tie.Need-array-copy-out-d Inv-loop μ-loop
-array-copy-out-d c = ?
+array-copy-out-d c = search needs
 
--- src/lib.rt:124:9
 mul-d-3 : tie.Need-mul-d-3 Inv-loop μ-loop
-mul-d-3 c = ?
+mul-d-3 c = search needs
 
--- src/lib.rt:124:9
 array-set-from-d : tie.Need-array-set-from-d Inv-loop μ-loop
-array-set-from-d c = ?
+array-set-from-d c = search needs
 
--- src/lib.rt:122:9
 add-i : tie.Need-add-i Inv-loop μ-loop
-add-i c = ?
+add-i c = search needs
 
--- src/lib.rt:122:5
 loop-less : tie.Need-loop-less Inv-loop μ-loop
-loop-less c = ?
+loop-less c = search needs
 
--- src/lib.rt:122:5
 loop-again : tie.Need-loop-again Inv-loop μ-loop
-loop-again c = ?
+loop-again c = (omega arith, filled-next (c .before .before .before .loop .inv .1) (omega arith) _ _ (c .before .entry-row .ensures .0) refl)
 
--- src/lib.rt:115:1
 returns : tie.Need-returns Inv-loop μ-loop
-returns c = ?
+returns c = filled-entries (c .before .loop .inv .1) (omega arith) _ (c .before .before .backwards .ensures)
 
 pub entries-spec : {M : Type 1} → statement M
 entries-spec =
@@ -76,8 +66,7 @@ entries-spec =
     zero-requires
     backwards-requires
     loop-holds
-    sub-j
-    sub-j-2
+    entry-row-requires
     mul-d
     mul-d-2
     array-copy-out-d

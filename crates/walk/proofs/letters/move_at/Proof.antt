@@ -1,3 +1,12 @@
+-- `move_at` meets its contract: each way by the plain word.
+use mathlib.Core.Path.{_≡_, sym, ap, ap₂, _∙_, subst}
+use Prim.Native.Nat.{ℕ, _+_, _-_, _*_, _≤_, _<_}
+use native.Mathlib.Omega.{arith}
+use Rattle.walk.specs.declared.Way.{Way}
+use Rattle.walk.specs.declared.Way.the-variants.{Plain, Inverted, Conversed, Transposed}
+use Rattle.walk.specs.declared.letters.Move.{Move}
+use Rattle.walk.specs.Letters.{middle, moveAt, MoveWithin}
+use Rattle.walk.proofs.Spelling.{mirrored, crossed, move-within, inverse-move, converse-move, transpose-move}
 use borrow.Author.Needs.{needs}
 use Rattle.walk.proofs.letters.move_at.Statement.{statement}
 use Rattle.walk.proofs.letters.move_at.Tie as tie
@@ -6,85 +15,96 @@ use Rattle.walk.proofs.letters.move_at.Lts as lts
 use Rattle.walk.proofs.letters.middle.Reads as middle-reads
 use Rattle.walk.proofs.letters.plain_at.Reads as plain-at-reads
 
--- src/letters.rt:73:20
 middle-requires : tie.Need-middle-requires
 middle-requires c κs = search needs
 
--- src/letters.rt:73:16
 mul-back : tie.Need-mul-back
 mul-back c = search needs
 
--- src/letters.rt:73:16
 sub-back : tie.Need-sub-back
 sub-back c = search needs
 
--- src/letters.rt:75:23
 enum-told : tie.Need-enum-told
 enum-told c = search needs
 
--- src/letters.rt:75:23
 plain-at-requires : tie.Need-plain-at-requires
 plain-at-requires c κs = search needs
 
--- src/letters.rt:76:26
 enum-told-2 : tie.Need-enum-told-2
 enum-told-2 c = search needs
 
--- src/letters.rt:76:26
 plain-at-requires-2 : tie.Need-plain-at-requires-2
 plain-at-requires-2 c κs = search needs
 
--- src/letters.rt:78:17
 enum-told-3 : tie.Need-enum-told-3
 enum-told-3 c = search needs
 
--- src/letters.rt:78:17
 plain-at-requires-3 : tie.Need-plain-at-requires-3
 plain-at-requires-3 c κs = search needs
 
--- src/letters.rt:80:21
 add-t11 : tie.Need-add-t11
 add-t11 c = search needs
 
--- src/letters.rt:80:21
 sub-t12 : tie.Need-sub-t12
-sub-t12 c = ?
+sub-t12 c =
+    let b = c .before .before .before .before .before in
+    let w = move-within (b .args .n) Plain (search needs) (search needs) (b .args .t) (search needs) (b .pre .3) in
+    omega (arith, ap (λ (m : Move). m .to) (c .before .plain-at3 .ensures), w .rows .to-high)
 
--- src/letters.rt:81:23
 add-t13 : tie.Need-add-t13
 add-t13 c = search needs
 
--- src/letters.rt:81:23
 sub-t14 : tie.Need-sub-t14
-sub-t14 c = ?
+sub-t14 c =
+    let b = c .before .before .before .before .before .before in
+    let w = move-within (b .args .n) Plain (search needs) (search needs) (b .args .t) (search needs) (b .pre .3) in
+    omega (arith, ap (λ (m : Move). m .from) (c .before .before .plain-at3 .ensures), w .rows .from-high)
 
--- src/letters.rt:86:17
 enum-told-4 : tie.Need-enum-told-4
 enum-told-4 c = search needs
 
--- src/letters.rt:86:17
 plain-at-requires-4 : tie.Need-plain-at-requires-4
 plain-at-requires-4 c κs = search needs
 
--- src/letters.rt:87:17
 plain-at-requires-5 : tie.Need-plain-at-requires-5
 plain-at-requires-5 c κs = search needs
 
--- src/letters.rt:68:1
+-- the letter is the one asked for, so it lies within
+answered : (n : ℕ) (way : Way) (t : ℕ) (m : Move) → 1 ≤ n → n ≤ 8 → t < 2 * middle n + 1 → (t ≡ middle n → ⊥) → m ≡ moveAt n way t → (m ≡ moveAt n way t) × MoveWithin n m
+answered n way t m ln hn l e q = (q, subst (MoveWithin n) (sym q) (move-within n way ln hn t l e))
+
 returns : tie.Need-returns
-returns c = ?
+returns c =
+    let b = c .before .before .before .before in
+    let a = b .args in
+    answered (a .n) (a .way) (a .t) _ (search needs) (search needs) (search needs) (b .pre .3)
+    (c .plain-at .ensures ∙ ap (λ (w : Way). moveAt (a .n) w (a .t)) (sym (c .before .enum-told .given .1)))
 
--- src/letters.rt:68:1
 returns-2 : tie.Need-returns-2
-returns-2 c = ?
+returns-2 c =
+    let b = c .before .before .before .before in
+    let a = b .args in
+    let q = ap (λ (h : ℕ). moveAt (a .n) Plain (2 * h - a .t)) (c .before .before .before .middle .ensures .0) in
+    answered (a .n) (a .way) (a .t) _ (search needs) (search needs) (search needs) (b .pre .3)
+    (c .plain-at2 .ensures ∙ q ∙ sym (inverse-move (a .n) (search needs) (search needs) (a .t) (search needs) (b .pre .3))
+    ∙ ap (λ (w : Way). moveAt (a .n) w (a .t)) (sym (c .before .enum-told2 .given .1)))
 
--- src/letters.rt:68:1
 returns-3 : tie.Need-returns-3
-returns-3 c = ?
+returns-3 c =
+    let b = c .before .before .before .before .before .before in
+    let a = b .args in
+    answered (a .n) (a .way) (a .t) _ (search needs) (search needs) (search needs) (b .pre .3)
+    (ap (mirrored (a .n)) (c .before .before .plain-at3 .ensures) ∙ sym (converse-move (a .n) (search needs) (search needs) (a .t) (search needs) (b .pre .3))
+    ∙ ap (λ (w : Way). moveAt (a .n) w (a .t)) (sym (c .before .before .before .enum-told3 .given .1)))
 
--- src/letters.rt:68:1
 returns-4 : tie.Need-returns-4
-returns-4 c = ?
+returns-4 c =
+    let b = c .before .before .before .before .before in
+    let a = b .args in
+    let q = ap (λ (h : ℕ). moveAt (a .n) Plain (2 * h - a .t)) (c .before .before .before .before .middle .ensures .0) in
+    answered (a .n) (a .way) (a .t) _ (search needs) (search needs) (search needs) (b .pre .3)
+    (ap₂ crossed (c .before .plain-at4 .ensures) (c .plain-at5 .ensures ∙ q) ∙ sym (transpose-move (a .n) (search needs) (search needs) (a .t) (search needs) (b .pre .3))
+    ∙ ap (λ (w : Way). moveAt (a .n) w (a .t)) (sym (c .before .before .enum-told4 .given .1)))
 
 pub move-at-spec : {M : Type 1} → statement M
 move-at-spec =
