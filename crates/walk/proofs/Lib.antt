@@ -7,3 +7,4 @@ pub mod Scaling
 pub mod Diagonals
 pub mod Spelling
 pub mod Stages
+pub mod Acts
