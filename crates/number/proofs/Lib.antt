@@ -10,3 +10,4 @@ pub mod Value
 pub mod Error
 pub mod Nearest
 pub mod Examples
+pub mod Unique

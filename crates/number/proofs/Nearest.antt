@@ -1,7 +1,6 @@
 -- The rounding as a property: of all numbers with 32 bits, at any exponent, none is nearer to the exact result, and a tie goes to the even mantissa.
 -- `round-nearest` for every rounding; `sum-nearest`, `product-nearest` and `quotient-nearest` for the operations, zero operands included.
 use mathlib.Core.Path.{_≡_, refl, sym, ap, ap₂, _∙_, subst}
-use mathlib.Core.Logic.{_≢_}
 use Prim.Native.Nat.{ℕ, zero, suc, _+_, _-_, _*_, _%_, _^_, _≤_, _<_}
 use native.Mathlib.Nat.{zero-mul, mul-pos, mul-le-mul-right, mul-lt-mul-of-pos-right, le-of-mul-le-mul-right, eq-of-mul-eq-mul-right, le-antisymm, le-of-lt, not-le-of-lt}
 use native.Mathlib.Decide.{decLe}
@@ -54,7 +53,7 @@ module _ (s p e c : ℕ) (x q y : Fraction) (ps : 0 < s) (f : Over s x p) (g : O
   near-over : gap p e ≤ gap c e → AtLeastAsNear q x y
   near-over l = le-of-mul-le-mul-right (rw (left, right) (mul-le-mul-right (x .low * y .low * q .low) l)) ps
 
-  over-near : AtLeastAsNear q x y → gap p e ≤ gap c e
+  pub over-near : AtLeastAsNear q x y → gap p e ≤ gap c e
   over-near l =
       le-of-mul-le-mul-right {k = x .low * y .low * q .low} (rw (left, right) at (mul-le-mul-right s l)) (mul-pos (mul-pos (x .above-zero) (y .above-zero)) (q .above-zero))
 

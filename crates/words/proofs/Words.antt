@@ -1,115 +1,96 @@
--- Words whose letters correspond one by one (`Each P`): one set of laws for the word of a matrix, words joined, the inverse's and the converse's word, and the words of steps.
-use mathlib.Core.Path.{_≡_, refl, sym, ap, ap₂, _∙_, subst}
-use mathlib.Core.List.{List, [], _∷_, _++_}
-use Prim.Native.Nat.{ℕ, zero, suc, _+_, _-_, _*_, _≤_, _<_}
+-- Laws of words: loops (ascending-last); the transposed word, reversed with E and Et exchanged (transposedWord, transposed-append, transposed-transposed, transposed-ascending);
+-- and what holds of every letter (all-map, transposed-all, inverse-all, converse-all).
+use mathlib.Core.Path.{_≡_, refl, sym, ap, ap₂, _∙_}
+use mathlib.Core.List.{List, [], _∷_, _++_, append-nil, append-assoc}
+use Prim.Native.Nat.{ℕ, zero, suc, _+_, _-_}
 use native.Mathlib.Omega.{arith}
-use lib.ListN.{length}
-use Rattle.words.specs.Word.{Factors, Letter, E, Et, D, Dinv, Word, ascending, descending, forUp, forDown, word, inverseLetter, inverseWord, converseLetter, converseWord, exchanged}
-use Rattle.words.specs.Operation.{Way, plain, inverted, conversed, transposed, Step, step, stepWord, joinedWord}
-use Rattle.words.proofs.Walks.{All}
-use Rattle.words.proofs.Related.{Each, Letters}
+use Rattle.words.specs.Word.{Letter, E, Et, D, Dinv, Word, ascending, descending, inverseLetter, inverseWord, converseLetter, converseWord}
+use Rattle.words.proofs.Walks.{Rows, All, all-append}
 
-module _ {A B : Type 0} (P : Letter A → Letter B → Type 0) where
-  pub each-append : (U : Word A) (X : Word B) (U′ : Word A) (X′ : Word B) → Each P U X → Each P U′ X′ → Each P (U ++ U′) (X ++ X′)
-  each-append [] [] U′ X′ h g = g
-  each-append (x ∷ U) (y ∷ X) U′ X′ h g = (h .0, each-append U X U′ X′ (h .1) g)
-
-  each-ascending : (a c : ℕ) (f : ℕ → Word A) (g : ℕ → Word B) → ((i : ℕ) → a ≤ i → i < a + c → Each P (f i) (g i)) → Each P (ascending a c f) (ascending a c g)
+module _ {A : Type 0} where
+  pub ascending-last : (a c : ℕ) (f : ℕ → List A) → ascending a (suc c) f ≡ ascending a c f ++ f (a + c)
   unfolding ascending
-  each-ascending a zero f g h = tt
-  each-ascending a (suc c) f g h =
-      each-append (f a) (g a) _ _ (h a (omega arith) (omega arith)) (each-ascending (suc a) c f g (λ i x y. h i (omega arith) (omega arith)))
+  ascending-last a zero f = append-nil (f a) ∙ ap f (omega arith)
+  ascending-last a (suc c) f =
+      let e : suc a + c ≡ a + suc c = omega arith in
+      ap (λ L. f a ++ L) (ascending-last (suc a) c f) ∙ sym (append-assoc (f a) (ascending (suc a) c f) (f (suc a + c))) ∙ ap (λ k. f a ++ ascending (suc a) c f ++ f k) e
 
-  each-descending : (a c : ℕ) (f : ℕ → Word A) (g : ℕ → Word B) → c ≤ a → ((i : ℕ) → i ≤ a → a < i + c → Each P (f i) (g i)) → Each P (descending a c f) (descending a c g)
-  unfolding descending
-  each-descending a zero f g l h = tt
-  each-descending a (suc c) f g l h =
-      each-append (f a) (g a) _ _ (h a (omega arith) (omega arith)) (each-descending (a - 1) c f g (omega arith) (λ i x y. h i (omega arith) (omega arith)))
+module _ {A : Type 0} where
+  abbrev pub transposedLetter : Letter A → Letter A
+  transposedLetter (E j w) = Et j w
+  transposedLetter (Et j w) = E j w
+  transposedLetter (D e) = D e
+  transposedLetter (Dinv e) = Dinv e
 
-  single : (x : Letter A) (y : Letter B) → P x y → Each P (x ∷ []) (y ∷ [])
-  single x y h = (h, tt)
+  unfoldable pub transposedWord : Word A → Word A
+  transposedWord [] = []
+  transposedWord (l ∷ W) = transposedWord W ++ (transposedLetter l ∷ [])
 
-  -- the word of a matrix: E j with a factor below the diagonal, D, Et j with one above it
-  module _ (n : ℕ) (b : Factors A) (c : Factors B)
-      (below : (i j : ℕ) → 1 ≤ i → i < j → j ≤ n → P (E j (b j i)) (E j (c j i)))
-      (diagonal : P (D (λ i. b i i)) (D (λ i. c i i)))
-      (above : (i j : ℕ) → 1 ≤ i → i < j → j ≤ n → P (Et j (b i j)) (Et j (c i j))) where
-    pub each-word : Each P (word n b) (word n c)
-    unfolding word
-    each-word =
-        each-append (forUp 1 (n - 1) (λ i. forUp (n - i + 1) n (λ j. E j (b j (i + j - n)) ∷ []))) (forUp 1 (n - 1) (λ i. forUp (n - i + 1) n (λ j. E j (c j (i + j - n)) ∷ []))) _ _
-        (each-ascending 1 (suc (n - 1) - 1) _ _ (λ i x y. each-ascending (n - i + 1) (suc n - (n - i + 1)) _ _ (λ j z w.
-        single (E j (b j (i + j - n))) (E j (c j (i + j - n))) (below (i + j - n) j (omega arith) (omega arith) (omega arith))))) (
-          diagonal,
-          each-descending (n - 1) (suc (n - 1) - 1) _ _ (omega arith) (λ i x y. each-descending n (suc n - (n - i + 1)) _ _ (omega arith) (λ j z w.
-              single (Et j (b (i + j - n) j)) (Et j (c (i + j - n) j)) (above (i + j - n) j (omega arith) (omega arith) (omega arith)))),
-        )
+  pub transposed-append : (U W : Word A) → transposedWord (U ++ W) ≡ transposedWord W ++ transposedWord U
+  unfolding transposedWord
+  transposed-append [] W = sym (append-nil (transposedWord W))
+  transposed-append (l ∷ U) W = ap (λ L. L ++ (transposedLetter l ∷ [])) (transposed-append U W) ∙ append-assoc (transposedWord W) (transposedWord U) (transposedLetter l ∷ [])
 
-  pub each-inverse : ((x : Letter A) (y : Letter B) → P x y → P (inverseLetter x) (inverseLetter y)) → (U : Word A) (X : Word B) → Each P U X → Each P (inverseWord U) (inverseWord X)
+  pub transposedLetter-twice : (l : Letter A) → transposedLetter (transposedLetter l) ≡ l
+  transposedLetter-twice (E j w) = refl
+  transposedLetter-twice (Et j w) = refl
+  transposedLetter-twice (D e) = refl
+  transposedLetter-twice (Dinv e) = refl
+
+  pub transposed-transposed : (W : Word A) → transposedWord (transposedWord W) ≡ W
+  unfolding transposedWord
+  transposed-transposed [] = refl
+  transposed-transposed (l ∷ W) = transposed-append (transposedWord W) (transposedLetter l ∷ []) ∙ ap₂ (λ x L. x ∷ L) (transposedLetter-twice l) (transposed-transposed W)
+
+  -- a loop, from its end
+  pub transposed-ascending : (a c : ℕ) (f : ℕ → Word A) → transposedWord (ascending a c f) ≡ descending (a + c - 1) c (λ i. transposedWord (f i))
+  unfolding transposedWord ascending descending
+  transposed-ascending a zero f = refl
+  transposed-ascending a (suc c) f =
+      let e : a + c ≡ a + suc c - 1 = omega arith in
+      ap transposedWord (ascending-last a c f) ∙ transposed-append (ascending a c f) (f (a + c)) ∙ ap (λ L. transposedWord (f (a + c)) ++ L) (transposed-ascending a c f)
+      ∙ ap (λ k. descending k (suc c) (λ i. transposedWord (f i))) e
+
+-- EVERY LETTER: from a property P to a property Q
+module _ {A : Type 0} (P Q : Letter A → Type 0) where
+  pub all-map : ((l : Letter A) → P l → Q l) → (W : Word A) → All P W → All Q W
+  all-map f [] h = tt
+  all-map f (l ∷ W) h = (f l (h .0), all-map f W (h .1))
+
+  pub transposed-all : ((l : Letter A) → P l → Q (transposedLetter l)) → (W : Word A) → All P W → All Q (transposedWord W)
+  unfolding transposedWord
+  transposed-all f [] h = tt
+  transposed-all f (l ∷ W) h = all-append Q (transposedWord W) (transposedLetter l ∷ []) (transposed-all f W (h .1)) (f l (h .0), tt)
+
+  pub inverse-all : ((l : Letter A) → P l → Q (inverseLetter l)) → (W : Word A) → All P W → All Q (inverseWord W)
   unfolding inverseWord
-  each-inverse h [] [] g = tt
-  each-inverse h (x ∷ U) (y ∷ X) g = each-append (inverseWord U) (inverseWord X) _ _ (each-inverse h U X (g .1)) (h x y (g .0), tt)
+  inverse-all f [] h = tt
+  inverse-all f (l ∷ W) h = all-append Q (inverseWord W) (inverseLetter l ∷ []) (inverse-all f W (h .1)) (f l (h .0), tt)
 
-  pub each-converse : (n : ℕ) → ((x : Letter A) (y : Letter B) → P x y → P (converseLetter n x) (converseLetter n y)) → (U : Word A) (X : Word B) → Each P U X
-      → Each P (converseWord n U) (converseWord n X)
+  pub converse-all : (n : ℕ) → ((l : Letter A) → P l → Q (converseLetter n l)) → (W : Word A) → All P W → All Q (converseWord n W)
   unfolding converseWord
-  each-converse n h [] [] g = tt
-  each-converse n h (x ∷ U) (y ∷ X) g = (h x y (g .0), each-converse n h U X (g .1))
+  converse-all n f [] h = tt
+  converse-all n f (l ∷ W) h = (f l (h .0), converse-all n f W (h .1))
 
--- a word against itself
-pub each-all : {A : Type 0} (P : Letter A → Type 0) (W : Word A) → Each (λ x y. P x) W W → All P W
-each-all P [] h = tt
-each-all P (l ∷ W) h = (h .0, each-all P W (h .1))
+-- rows stay among 1 .. n
+module _ {A : Type 0} (n : ℕ) where
+  pub transposed-rows : (W : Word A) → All (Rows n) W → All (Rows n) (transposedWord W)
+  transposed-rows = transposed-all (Rows n) (Rows n) one
+    where
+      one : (l : Letter A) → Rows n l → Rows n (transposedLetter l)
+      one (E j w) h = h
+      one (Et j w) h = h
+      one (D e) h = h
+      one (Dinv e) h = h
 
--- THE WORDS OF STEPS whose factors are related, by P off the diagonal and by Q on it
-module _ {A B : Type 0} (P Q : A → B → Type 0) (n : ℕ) where
-  pub record Alike (b : Factors A) (c : Factors B) : Type 0 where
-    pub off : (i j : ℕ) → 1 ≤ i → i ≤ n → 1 ≤ j → j ≤ n → (i ≡ j → ⊥) → P (b i j) (c i j)
-    pub on : (i : ℕ) → 1 ≤ i → i ≤ n → Q (b i i) (c i i)
+  pub inverse-row : (l : Letter A) → Rows n l → Rows n (inverseLetter l)
+  inverse-row (E j w) h = h
+  inverse-row (Et j w) h = h
+  inverse-row (D e) h = h
+  inverse-row (Dinv e) h = h
 
-  alike-exchanged : (b : Factors A) (c : Factors B) → Alike b c → Alike (exchanged b) (exchanged c)
-  alike-exchanged b c h = record { off = λ i j p q r s e. h .off j i r s p q (λ f. e (sym f)); on = h .on }
-
-  letters-word : (b : Factors A) (c : Factors B) → Alike b c → Each (Letters P Q n) (word n b) (word n c)
-  letters-word b c h =
-      each-word (Letters P Q n) n b c
-      (λ i j x y z. (refl, h .off j i (omega arith) z x (omega arith) (λ e. omega arith)))
-      (λ i x y. h .on i x y)
-      (λ i j x y z. (refl, h .off i j x (omega arith) (omega arith) z (λ e. omega arith)))
-
-  letters-inverse : (x : Letter A) (y : Letter B) → Letters P Q n x y → Letters P Q n (inverseLetter x) (inverseLetter y)
-  letters-inverse (E j w) (E i v) h = h
-  letters-inverse (Et j w) (Et i v) h = h
-  letters-inverse (D e) (D f) h = h
-  letters-inverse (Dinv e) (Dinv f) h = h
-
-  letters-converse : (x : Letter A) (y : Letter B) → Letters P Q n x y → Letters P Q n (converseLetter n x) (converseLetter n y)
-  letters-converse (E j w) (E i v) h = (ap (λ k. n + 2 - k) (h .0), h .1)
-  letters-converse (Et j w) (Et i v) h = (ap (λ k. n + 2 - k) (h .0), h .1)
-  letters-converse (D e) (D f) h = λ i x y. h (n + 1 - i) (omega arith) (omega arith)
-  letters-converse (Dinv e) (Dinv f) h = λ i x y. h (n + 1 - i) (omega arith) (omega arith)
-
-  -- steps taken the same way, their sources alike
-  pub data AlikeStep : Step A → Step B → Type 0 where
-    alike : {w : Way} {b : Factors A} {c : Factors B} → Alike b c → AlikeStep (step w b) (step w c)
-
-  abbrev pub AlikeSteps : List (Step A) → List (Step B) → Type 0
-  AlikeSteps [] [] = Unit {0}
-  AlikeSteps [] (t ∷ M) = ⊥
-  AlikeSteps (s ∷ L) [] = ⊥
-  AlikeSteps (s ∷ L) (t ∷ M) = AlikeStep s t × AlikeSteps L M
-
-  letters-step : (s : Step A) (t : Step B) → AlikeStep s t → Each (Letters P Q n) (stepWord n s) (stepWord n t)
-  letters-step (step plain b) (step plain c) (alike h) = letters-word b c h
-  letters-step (step inverted b) (step inverted c) (alike h) = each-inverse (Letters P Q n) letters-inverse (word n b) (word n c) (letters-word b c h)
-  letters-step (step conversed b) (step conversed c) (alike h) = each-converse (Letters P Q n) n letters-converse (word n b) (word n c) (letters-word b c h)
-  letters-step (step transposed b) (step transposed c) (alike h) = letters-word (exchanged b) (exchanged c) (alike-exchanged b c h)
-
-  pub letters-joined : (L : List (Step A)) (M : List (Step B)) → AlikeSteps L M → Each (Letters P Q n) (joinedWord n L) (joinedWord n M)
-  unfolding joinedWord
-  letters-joined [] [] h = tt
-  letters-joined (s ∷ []) (t ∷ []) h = letters-step s t (h .0)
-  letters-joined (s ∷ []) (t ∷ t′ ∷ M) h = absurd (h .1)
-  letters-joined (s ∷ s′ ∷ L) (t ∷ []) h = absurd (h .1)
-  letters-joined (s ∷ s′ ∷ L) (t ∷ t′ ∷ M) h =
-      each-append (Letters P Q n) (stepWord n s) (stepWord n t) (joinedWord n (s′ ∷ L)) (joinedWord n (t′ ∷ M)) (letters-step s t (h .0)) (letters-joined (s′ ∷ L) (t′ ∷ M) (h .1))
+  pub converse-row : (l : Letter A) → Rows n l → Rows n (converseLetter n l)
+  converse-row (E j w) h = (omega (arith, h .1), omega (arith, h .0))
+  converse-row (Et j w) h = (omega (arith, h .1), omega (arith, h .0))
+  converse-row (D e) h = h
+  converse-row (Dinv e) h = h

@@ -81,10 +81,17 @@ module _ (K : Arithmetic) where
   abbrev pub result : ℕ → Operation Num → Factors Num
   result n o = refactored n (steps o) (keptRows n o) (keptColumns n o)
 
--- the same operation on other numbers
+-- the same factors, steps and operation in other numbers
 module _ {A B : Type 0} (f : A → B) where
   abbrev pub eachFactor : Factors A → Factors B
   eachFactor b i j = f (b i j)
+
+  abbrev pub eachStep : Step A → Step B
+  eachStep (step w b) = step w (eachFactor b)
+
+  abbrev pub eachSteps : List (Step A) → List (Step B)
+  eachSteps [] = []
+  eachSteps (s ∷ L) = eachStep s ∷ eachSteps L
 
   abbrev pub eachSource : Operation A → Operation B
   eachSource (product b c) = product (eachFactor b) (eachFactor c)

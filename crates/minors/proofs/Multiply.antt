@@ -1,0 +1,52 @@
+-- The letters of a word multiplied as matrices give the matrix that the word carries the unit vectors to (wordMatrix-carried), and joined steps multiply
+-- (joined-multiplied). The converse's word gives the matrix read backwards (wordMatrix-converse), exchanged factors its transpose (multiplied-exchanged).
+use mathlib.Core.Path.{refl, sym, ap, _∙_}
+use mathlib.Core.List.{List, [], _∷_}
+use Prim.Native.Nat.{ℕ, _+_ as _+ℕ_, _-_}
+use Rattle.fraction.specs.Ring.{CRing, Ordered}
+use Rattle.words.specs.Word.{Factors, Word, word, converseWord, exchanged}
+use Rattle.words.specs.Walk.{carry}
+use Rattle.words.specs.Operation.{Step, stepWord, joinedWord}
+use Rattle.words.proofs.Walks.{Rows, All}
+use Rattle.minors.specs.Matrix.{Equal, times, letterMatrix, wordMatrix, multiplied}
+use Rattle.minors.proofs.Determinant.{matrixOf}
+use Rattle.minors.proofs.Transpose.{transposedLetter, transposedWord, transposed-word}
+use Rattle.minors.proofs.Sums.{sum-equal}
+use Rattle.minors.proofs.Products.{identity-symmetric, times-equal, times-identity, times-transposed, times-reversed, wordMatrix-append}
+use Rattle.minors.proofs.LetterMatrices.{identity-reversed, letter-carry, letter-converse, letter-transposed}
+
+module _ (K : CRing) (O : Ordered K) where
+  open CRing K using (R, mul as _*_)
+
+  infixl 70 _*_
+  pub wordMatrix-carried : (n : ℕ) (W : Word R) → All (Rows n) W → Equal K n (wordMatrix K O n W) (matrixOf K O W)
+  unfolding wordMatrix matrixOf carry times
+  wordMatrix-carried n [] h i j x y = refl
+  wordMatrix-carried n (l ∷ W) h i j x y =
+      sum-equal K n _ _ (λ k z. ap (λ m. letterMatrix K O l i k * m) (wordMatrix-carried n W (h .1) k j z y))
+      ∙ letter-carry K O n l (h .0) (λ k. matrixOf K O W k j) i x
+
+  -- of two steps or more: the first step's matrix times the others'
+  pub joined-multiplied : (n : ℕ) (s t : Step R) (L : List (Step R))
+      → Equal K n (wordMatrix K O n (joinedWord n (s ∷ t ∷ L))) (times K n (wordMatrix K O n (stepWord n s)) (wordMatrix K O n (joinedWord n (t ∷ L))))
+  unfolding joinedWord
+  joined-multiplied n s t L = wordMatrix-append K O n (stepWord n s) (joinedWord n (t ∷ L))
+
+  pub wordMatrix-converse : (n : ℕ) (W : Word R) → All (Rows n) W → Equal K n (wordMatrix K O n (converseWord n W)) (λ i j. wordMatrix K O n W (n +ℕ 1 - i) (n +ℕ 1 - j))
+  unfolding wordMatrix converseWord
+  wordMatrix-converse n [] h = identity-reversed K n
+  wordMatrix-converse n (l ∷ W) h = λ i j x y.
+      times-equal K n _ _ _ _ (letter-converse K O n l (h .0)) (wordMatrix-converse n W (h .1)) i j x y
+      ∙ sym (times-reversed K n (letterMatrix K O l) (wordMatrix K O n W) i j)
+
+  pub wordMatrix-transposed : (n : ℕ) (W : Word R) → Equal K n (wordMatrix K O n (transposedWord W)) (λ i j. wordMatrix K O n W j i)
+  unfolding wordMatrix transposedWord
+  wordMatrix-transposed n [] i j x y = identity-symmetric K i j
+  wordMatrix-transposed n (l ∷ W) i j x y =
+      wordMatrix-append K O n (transposedWord W) (transposedLetter l ∷ []) i j x y
+      ∙ times-equal K n _ _ _ _ (wordMatrix-transposed n W)
+      (λ r c z w. times-identity K n _ r c z w ∙ letter-transposed K O l r c) i j x y
+      ∙ sym (times-transposed K n (letterMatrix K O l) (wordMatrix K O n W) i j)
+
+  pub multiplied-exchanged : (n : ℕ) (b : Factors R) → Equal K n (multiplied K O n (exchanged b)) (λ i j. multiplied K O n b j i)
+  multiplied-exchanged n b i j x y = ap (λ W. wordMatrix K O n W i j) (sym (transposed-word n b)) ∙ wordMatrix-transposed n (word n b) i j x y
