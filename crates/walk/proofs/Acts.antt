@@ -14,11 +14,13 @@ use Rattle.words.specs.Operation as words
 use Rattle.words.specs.Operation.{stepWord, joinedWord}
 use Rattle.words.specs.Walk.{State, moved, scaled, act}
 use Rattle.words.proofs.Related.{Each, Letters}
-use Rattle.words.proofs.Words.{Alike, AlikeStep, alike, AlikeSteps, letters-joined}
+use Rattle.words.proofs.Alike.{Alike, AlikeStep, alike, AlikeSteps, letters-joined}
+use Rattle.words.proofs.Exponents.{StoredStep}
 use Rattle.walk.specs.declared.Way.{Way}
 use Rattle.walk.specs.declared.Step.{Step}
 use Rattle.walk.specs.declared.letters.Move.{Move}
-use Rattle.walk.specs.Steps.{wayOf, placeOf, absent, factorsOf, stepOf, letterAt, StoredFactors, scaling, divides, backwards, entriesOf, entryPlace, Entries}
+use Rattle.walk.specs.Table.{cellOf, factorsOf}
+use Rattle.walk.specs.Steps.{wayOf, stepOf, letterAt, scaling, divides, backwards, entriesOf, entryPlace, Entries}
 use Rattle.walk.specs.Letters.{middle, placeWord, moveOf, moveAt}
 use Rattle.walk.specs.Held.{Agree}
 use Rattle.walk.proofs.Scaling.{scaled-entries}
@@ -35,16 +37,16 @@ each-at P (x ∷ U) (y ∷ X) h (suc t) l d e = each-at P U X (h .1) t (omega ar
 
 -- a stored factor, and the place where it stands
 abbrev pub At : List Number → Number → ℕ → Type 0
-At b x p = (x ≡ getD b p absent) × Stored x
+At b x p = (x ≡ getD b p zeroNumber) × Stored x
 
-module _ (n : ℕ) (s : Step) (stored : StoredFactors n (factorsOf (s .factors))) where
-  placed : Alike (At (s .factors)) (At (s .factors)) n (factorsOf (s .factors)) placeOf
+module _ (n : ℕ) (s : Step) (stored : StoredStep n (stepOf s)) where
+  placed : Alike (At (s .factors)) (At (s .factors)) n (factorsOf (s .factors)) cellOf
   unfolding factorsOf
-  placed = record { off = λ i j p q r t e. (refl, stored .stored i j p q r t); on = λ i p q. (refl, stored .stored i i p q p q) }
+  placed = record { off = λ i j p q r t e. (refl, stored i j (p, q) (r, t)); on = λ i p q. (refl, stored i i (p, q) (p, q)) }
 
   spelled : Each (Letters (At (s .factors)) (At (s .factors)) n) (stepWord n (stepOf s)) (placeWord n (s .way))
   unfolding joinedWord placeWord
-  spelled = letters-joined (At (s .factors)) (At (s .factors)) n (stepOf s ∷ []) (words.step (wayOf (s .way)) placeOf ∷ []) (alike placed, tt)
+  spelled = letters-joined (At (s .factors)) (At (s .factors)) n (stepOf s ∷ []) (words.step (wayOf (s .way)) cellOf ∷ []) (alike placed, tt)
 
   module _ (ln : 1 ≤ n) (hn : n ≤ 8) where
     pub step-length : length (stepWord n (stepOf s)) ≡ 2 * middle n + 1
@@ -57,7 +59,7 @@ module _ (n : ℕ) (s : Step) (stored : StoredFactors n (factorsOf (s .factors))
 module _ (n : ℕ) (b : List Number) (ω : State rounded) where
   -- E AND Et
   pub act-move : (y : Letter ℕ) (x : Letter Number) → Letters (At b) (At b) n x y → IsMove y
-      → act rounded x ω ≡ moved rounded (moveOf y .to) (moveOf y .from) (getD b (moveOf y .at) absent) ω
+      → act rounded x ω ≡ moved rounded (moveOf y .to) (moveOf y .from) (getD b (moveOf y .at) zeroNumber) ω
   unfolding act
   act-move (E i p) (E j w) h m = ap₂ (λ (k : ℕ) (v : Number). moved rounded k (k - 1) v ω) (h .0) (h .1 .0)
   act-move (Et i p) (Et j w) h m = ap₂ (λ (k : ℕ) (v : Number). moved rounded (k - 1) k v ω) (h .0) (h .1 .0)
@@ -65,7 +67,7 @@ module _ (n : ℕ) (b : List Number) (ω : State rounded) where
   -- D
   module _ (way : Way) (d : List Number) (F : Entries n way b d) where
     entry-is : (e : ℕ → Number) (f : ℕ → ℕ) → ((i : ℕ) → 1 ≤ i → i ≤ n → At b (e i) (f i)) → EntriesAt n way f → (i : ℕ) → 1 ≤ i → i ≤ n → e i ≡ entriesOf d i
-    entry-is e f h g i l u = h i l u .0 ∙ ap (λ (p : ℕ). getD b p absent) (g i l u) ∙ sym (F .entry i l u)
+    entry-is e f h g i l u = h i l u .0 ∙ ap (λ (p : ℕ). getD b p zeroNumber) (g i l u) ∙ sym (F .entry i l u)
 
     pub act-diagonal : (y : Letter ℕ) (x : Letter Number) → Letters (At b) (At b) n x y → IsDiagonal n way y → (S : RowSet) → length S ≡ n
         → act rounded x ω S ≡ scaled rounded (scaling (divides way)) (entriesOf d) S (ω S)
@@ -78,23 +80,23 @@ module _ (n : ℕ) (b : List Number) (ω : State rounded) where
         ∙ ap (λ (c : Bool). scaled rounded (scaling c) (entriesOf d) S (ω S)) (sym (g .0))
 
 -- the factor of a move is stored
-pub move-stored : (n : ℕ) (b : List Number) (y : Letter ℕ) (x : Letter Number) → Letters (At b) (At b) n x y → IsMove y → Stored (getD b (moveOf y .at) absent)
+pub move-stored : (n : ℕ) (b : List Number) (y : Letter ℕ) (x : Letter Number) → Letters (At b) (At b) n x y → IsMove y → Stored (getD b (moveOf y .at) zeroNumber)
 move-stored n b (E i p) (E j w) h m = subst Stored (h .1 .0) (h .1 .1)
 move-stored n b (Et i p) (Et j w) h m = subst Stored (h .1 .0) (h .1 .1)
 
 -- LETTER t OF A STEP
-module _ (n : ℕ) (s : Step) (stored : StoredFactors n (factorsOf (s .factors))) (ln : 1 ≤ n) (hn : n ≤ 8) (t : ℕ) (l : t < 2 * middle n + 1) where
-  module _ (e : t ≡ middle n → ⊥) (m : Move) (q : m ≡ moveAt n (s .way) t) where
-    pub letter-moved : (ω : State rounded) → act rounded (letterAt n s t) ω ≡ moved rounded (m .to) (m .from) (getD (s .factors) (m .at) absent) ω
+module _ (n : ℕ) (s : Step) (stored : StoredStep n (stepOf s)) (ln : 1 ≤ n) (hn : n ≤ 8) (t : ℕ) (l : t < 2 * middle n + 1) where
+  module _ (e : t ≡ middle n → ⊥) (m : Move) (q : m ≡ moveAt n (s .way) t) (w : Number) (f : w ≡ getD (s .factors) (m .at) zeroNumber) where
+    pub letter-moved : (ω : State rounded) → act rounded (letterAt n s t) ω ≡ moved rounded (m .to) (m .from) w ω
     unfolding moveAt
     letter-moved ω =
         act-move n (s .factors) ω _ (letterAt n s t) (letter-pair n s stored ln hn t l) (letter-move n (s .way) ln hn t l e)
-        ∙ ap (λ (x : Move). moved rounded (x .to) (x .from) (getD (s .factors) (x .at) absent) ω) (sym q)
+        ∙ ap (λ (x : Move). moved rounded (x .to) (x .from) (getD (s .factors) (x .at) zeroNumber) ω) (sym q) ∙ ap (λ (x : Number). moved rounded (m .to) (m .from) x ω) (sym f)
 
-    pub letter-stored : Stored (getD (s .factors) (m .at) absent)
+    pub letter-stored : Stored w
     unfolding moveAt
     letter-stored =
-        subst (λ (x : Move). Stored (getD (s .factors) (x .at) absent)) (sym q)
+        subst Stored (ap (λ (x : Move). getD (s .factors) (x .at) zeroNumber) (sym q) ∙ sym f)
         (move-stored n (s .factors) _ (letterAt n s t) (letter-pair n s stored ln hn t l) (letter-move n (s .way) ln hn t l e))
 
   pub letter-scaled : (k : ℕ) → t ≡ middle n → (d : List Number) → Entries n (s .way) (s .factors) d → (x : Bool) → x ≡ divides (s .way) → (ω : State rounded)

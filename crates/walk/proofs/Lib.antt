@@ -8,3 +8,4 @@ pub mod Diagonals
 pub mod Spelling
 pub mod Stages
 pub mod Acts
+pub mod Walking

@@ -18,7 +18,7 @@ use Rattle.rowset.proofs.Positions.{position-injective}
 use Rattle.words.specs.RowSet.{RowSet, has, replaced, ofMask}
 use Rattle.words.specs.Walk.{State, moved, movedIf}
 use Rattle.walk.specs.Sets.{adjacent, Neighbours, closedOf, ChangedAt}
-use Rattle.walk.specs.Steps.{absent}
+use Rattle.walk.specs.Table.{absent}
 use Rattle.walk.specs.Held.{heldAt, stateOf, Agree, Working, letterReach}
 use Rattle.walk.proofs.Order.{position-lt, position-within}
 use Rattle.walk.proofs.Changed.{changedOf, changed-below, closed-below, closed-count, closed-changed}

@@ -15,7 +15,8 @@ use Rattle.rowset.proofs.Positions.{position-injective}
 use Rattle.words.specs.RowSet.{RowSet, ofMask}
 use Rattle.words.specs.Walk.{State, scaled}
 use Rattle.walk.specs.Sets.{SetAt}
-use Rattle.walk.specs.Steps.{absent, scaling, entriesOf}
+use Rattle.walk.specs.Table.{absent}
+use Rattle.walk.specs.Steps.{scaling, entriesOf}
 use Rattle.walk.specs.Held.{heldAt, stateOf, Agree, Working, letterReach}
 use Rattle.walk.proofs.Order.{position-lt, position-within}
 use Rattle.walk.proofs.Held.{held-back, held-working, agree-masks}

@@ -17,7 +17,8 @@ use Rattle.walk.specs.declared.Way.the-variants.{Plain, Inverted, Conver
 use Rattle.walk.specs.declared.letters.Move.{Move}
 use Rattle.walk.specs.declared.letters.Cell.{Cell}
 use Rattle.walk.specs.Sets.{adjacent, Neighbours}
-use Rattle.walk.specs.Steps.{placeOf, divides, backwards, entryPlace}
+use Rattle.walk.specs.Table.{cellOf}
+use Rattle.walk.specs.Steps.{divides, backwards, entryPlace}
 use Rattle.walk.specs.Letters.{middle, placeWord, moveOf, moveAt, MoveWithin, CellAt}
 
 pub middle-few : (n : ℕ) → n ≤ 8 → n * (n - 1) ≤ 56
@@ -71,10 +72,10 @@ abbrev pub rowOf : ℕ → ℕ → ℕ → ℕ
 rowOf n t i = n + 1 + (t - i * (i - 1) / 2) - i
 
 abbrev pub lowerMove : ℕ → ℕ → Move
-lowerMove j c = record { to = j; from = j - 1; at = placeOf j c }
+lowerMove j c = record { to = j; from = j - 1; at = cellOf j c }
 
 abbrev pub upperMove : ℕ → ℕ → Move
-upperMove j c = record { to = j - 1; from = j; at = placeOf c j }
+upperMove j c = record { to = j - 1; from = j; at = cellOf c j }
 
 abbrev pub stageOf : ℕ → ℕ
 stageOf t = getD (staged 1 7) t 0

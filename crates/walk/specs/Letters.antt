@@ -6,7 +6,8 @@ use lib.ListN.{getD}
 use Rattle.words.specs.Word.{Letter, E, Et, D, Dinv, Word}
 use Rattle.words.specs.Operation.{step, stepWord}
 use Rattle.walk.specs.Sets.{Neighbours}
-use Rattle.walk.specs.Steps.{wayOf, placeOf}
+use Rattle.walk.specs.Steps.{wayOf}
+use Rattle.walk.specs.Table.{cellOf}
 use Rattle.walk.specs.declared.Way.{Way}
 use Rattle.walk.specs.declared.Way.the-variants.{Plain}
 use Rattle.walk.specs.declared.letters.Move.{Move}
@@ -18,7 +19,7 @@ middle n = n * (n - 1) / 2
 
 -- the word of a step whose factors are the places where they stand
 unfoldable pub placeWord : ℕ → Way → Word ℕ
-placeWord n way = stepWord n (step (wayOf way) placeOf)
+placeWord n way = stepWord n (step (wayOf way) cellOf)
 
 abbrev pub moveOf : Letter ℕ → Move
 moveOf (E j p) = record { to = j; from = j - 1; at = p }
@@ -36,8 +37,8 @@ pub record MoveWithin (n : ℕ) (m : Move) : Type 0 where
 
 -- letter t of the first half of a word is E j with the factor of row j and a column c; its fellow in the second half is Et j with that of row c and column j
 pub record CellAt (n t : ℕ) (x : Cell) : Type 0 where
-  pub below : moveAt n Plain t ≡ record { to = x .row; from = x .row - 1; at = placeOf (x .row) (x .column) }
-  pub above : moveAt n Plain (2 * middle n - t) ≡ record { to = x .row - 1; from = x .row; at = placeOf (x .column) (x .row) }
+  pub below : moveAt n Plain t ≡ record { to = x .row; from = x .row - 1; at = cellOf (x .row) (x .column) }
+  pub above : moveAt n Plain (2 * middle n - t) ≡ record { to = x .row - 1; from = x .row; at = cellOf (x .column) (x .row) }
   pub row-low : 2 ≤ x .row
   pub row-high : x .row ≤ 8
   pub column-low : 1 ≤ x .column

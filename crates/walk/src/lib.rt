@@ -8,10 +8,11 @@ ghost use Rattle.rowset.specs.Mask.{maskCount};
 ghost use Rattle.words.specs.RowSet.{ofMask};
 ghost use Rattle.words.specs.Walk.{oneAt, moved, scaled, act, walk, minor};
 ghost use Rattle.words.specs.Operation.{stepWord, joinedWord};
+ghost use Rattle.words.proofs.Exponents.{StoredStep, StoredSteps};
 ghost use Rattle.walk.specs.Sets.{Neighbours};
 ghost use Rattle.walk.specs.Letters.{middle};
 ghost use Rattle.walk.specs.Held.{stateOf, startOf, Agree, Working, letterReach, stepReach};
-ghost use Rattle.walk.specs.Steps.{scaling, entriesOf, StoredEntries, divides, backwards, Entries, stepOf, stepsOf, letterAt, StoredStep, StoredSteps};
+ghost use Rattle.walk.specs.Steps.{scaling, entriesOf, StoredEntries, divides, backwards, Entries, stepOf, stepsOf, letterAt};
 use number::Number;
 
 mod table;

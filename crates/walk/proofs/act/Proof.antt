@@ -1,10 +1,13 @@
 -- `act` meets its contract: D in the middle of the word, else a move.
 use mathlib.Core.Path.{_≡_, refl, sym, ap, ap₂, _∙_, subst}
 use native.Mathlib.Omega.{arith}
+use lib.ListN.{getD, length}
+use Rattle.number.specs.Number.{zeroNumber}
+use Rattle.walk.specs.Table.{absent}
 use Rattle.walk.specs.Letters.{middle}
 use Rattle.walk.specs.Held.{stateOf, Agree}
 use Rattle.walk.proofs.Held.{agree-trans}
-use Rattle.walk.proofs.Diagonals.{entries-stored}
+use Rattle.walk.proofs.Diagonals.{read-default, length-mapped, entries-stored}
 use Rattle.walk.proofs.Acts.{letter-moved, letter-stored, letter-scaled}
 use borrow.Author.Needs.{needs}
 use Rattle.walk.proofs.act.Statement.{statement}
@@ -53,20 +56,28 @@ mul-w c = search needs
 array-copy-out-w : tie.Need-array-copy-out-w
 array-copy-out-w c = search needs
 
+-- the letter's factor
+factor : (c : tie.After-w) → let s = c .before .before .before .before .before .args .s in
+    getD (s .factors) (c .before .move-at .result .at) absent ≡ getD (s .factors) (c .before .move-at .result .at) zeroNumber
+factor c =
+    let s = c .before .before .before .before .before .args .s in
+    let h : length (s .factors) ≡ 64 = search (needs, length-mapped) in
+    read-default (s .factors) (c .before .move-at .result .at) (omega (arith, c .before .move-at .ensures .1 .place))
+
 moved-requires : tie.Need-moved-requires
 moved-requires c κs =
     let b = c .before .before .before .before .before in
     let a = b .args in
     let m = c .before .move-at .ensures in
     ((search needs, search needs, search needs, m .1 .rows),
-     (b .pre .1 .0, letter-stored (a .n) (a .s) (b .pre .1 .1) (search needs) (search needs) (a .t) (search needs) (apart (c .before .before)) (c .before .move-at .result) (m .0)))
+     (b .pre .1 .0, letter-stored (a .n) (a .s) (b .pre .1 .1) (search needs) (search needs) (a .t) (search needs) (apart (c .before .before)) (c .before .move-at .result) (m .0) _ (factor c)))
 
 returns-2 : tie.Need-returns-2
 returns-2 c =
     let b = c .before .before .before .before .before .before in
     let a = b .args in
     let m = c .before .before .move-at in
-    let e = letter-moved (a .n) (a .s) (b .pre .1 .1) (search needs) (search needs) (a .t) (search needs) (apart (c .before .before .before)) (m .result) (m .ensures .0) (stateOf (a .v)) in
+    let e = letter-moved (a .n) (a .s) (b .pre .1 .1) (search needs) (search needs) (a .t) (search needs) (apart (c .before .before .before)) (m .result) (m .ensures .0) _ (factor (c .before)) (stateOf (a .v)) in
     subst (Agree (a .n) (a .k) (stateOf (c .moved .result))) (sym e) (c .moved .ensures)
 
 pub act-spec : {M : Type 1} → statement M

@@ -52,7 +52,7 @@ loop-less : tie.Need-loop-less Inv-loop μ-loop
 loop-less c = search needs
 
 loop-again : tie.Need-loop-again Inv-loop μ-loop
-loop-again c = (omega arith, filled-next (c .before .before .before .loop .inv .1) (omega arith) _ _ (c .before .entry-row .ensures .0) refl)
+loop-again c = (omega arith, filled-next (c .before .before .before .loop .inv .1) (omega arith) _ _ (search needs) (c .before .entry-row .ensures .0) refl)
 
 returns : tie.Need-returns Inv-loop μ-loop
 returns c = filled-entries (c .before .loop .inv .1) (omega arith) _ (c .before .before .backwards .ensures)
