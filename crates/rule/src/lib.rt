@@ -1,6 +1,8 @@
 // New factors (document 01, "The rounded rule"): each from minors of a joined word, worked afresh, by the formulas; the operations with their bounds.
 use number::Number;
-use walk::{Joined, Step, Way};
+use walk::Joined;
+use walk::Step;
+use walk::Way;
 
 // A joined word with the chosen rows and columns of its matrix.
 pub struct Chosen {

@@ -9,3 +9,4 @@ pub mod Spelling
 pub mod Stages
 pub mod Acts
 pub mod Walking
+pub mod Minors

@@ -59,7 +59,7 @@ module _ {b : Bool} {d : List Number} {s : ℕ} {x y : Number} {i : ℕ} (S : Sc
       record {
         is = r ∙ ap (λ (a : Number). scaling b a (entriesOf d (i + 1))) (S .is)
             ∙ subst (λ (k : ℕ). scaling b (scaled rounded (scaling b) (entriesOf d) (ofMask i s) x) (entriesOf d k) ≡ scaled rounded (scaling b) (entriesOf d) (ofMask k s) x)
-              (sym (add-one i)) (sym (scaled-has (scaling b) (entriesOf d) s x i (subst (λ (k : ℕ). maskHas k s ≡ true) (add-one i) h)));
+            (sym (add-one i)) (sym (scaled-has (scaling b) (entriesOf d) s x i (subst (λ (k : ℕ). maskHas k s ≡ true) (add-one i) h)));
         ranged = subst (Ranged (letterReach + 1033 * (i + 1))) (sym r) (ranged-more (omega arith) (scale-reach b (S .ranged) e (omega arith)));
       }
 
@@ -115,4 +115,4 @@ module _ (n k : ℕ) (b : Bool) (d v : List Number) where
     diagonal-all {u} S h =
         agree-masks n k u (λ S. scaled rounded (scaling b) (entriesOf d) S (stateOf v S)) ln
         (λ s l c. swept-all S (λ s l c m. omega (arith, position-lt k s (2 ^ n) c l)) (λ s l c m. absurd (false≢true (sym m))) s l c
-            ∙ ap (scaled rounded (scaling b) (entriesOf d) (ofMask n s)) (sym (held-back v n s l)))
+        ∙ ap (scaled rounded (scaling b) (entriesOf d) (ofMask n s)) (sym (held-back v n s l)))

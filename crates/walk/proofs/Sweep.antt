@@ -22,11 +22,11 @@ pub record Swept (n k : ℕ) (touched : ℕ → Bool) (rank : ℕ → ℕ) (new 
 pub below-256 : (n s : ℕ) → n ≤ 8 → s < 2 ^ n → s < 256
 below-256 n s l h = let p : 2 ^ n ≤ 2 ^ 8 = pow-mono l in omega arith
 
-held-same : (u : List Number) (s : ℕ) (x : Number) → s < 256 → length u ≡ 70 → heldAt (set u (positionOf s) x) s ≡ x
+pub held-same : (u : List Number) (s : ℕ) (x : Number) → s < 256 → length u ≡ 70 → heldAt (set u (positionOf s) x) s ≡ x
 unfolding heldAt
 held-same u s x h e = getD-set-same u (positionOf s) x absent (omega (arith, position-below s h))
 
-held-other : (u : List Number) (s t : ℕ) (x : Number) → maskCount t ≡ maskCount s → (t ≡ s → ⊥) → heldAt (set u (positionOf s) x) t ≡ heldAt u t
+pub held-other : (u : List Number) (s t : ℕ) (x : Number) → maskCount t ≡ maskCount s → (t ≡ s → ⊥) → heldAt (set u (positionOf s) x) t ≡ heldAt u t
 unfolding heldAt
 held-other u s t x c e = getD-set-other u (positionOf s) (positionOf t) x absent (λ p. e (position-injective t s c p))
 

@@ -4,8 +4,8 @@ ghost use mathlib.Core.Path.{_≡_};
 ghost use mathlib.Core.Bool.{true};
 ghost use Prim.Native.Nat.{_+_, _-_, _*_, _/_, _≤_, _<_};
 ghost use Rattle.walk.specs.Letters.{middle, moveAt, MoveWithin, CellAt};
-use crate::table::STAGE;
 use crate::Way;
+use crate::table::STAGE;
 
 // A letter E or Et: the row that is added to, the row that is read, and where its factor stands.
 pub struct Move {

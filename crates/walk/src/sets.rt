@@ -4,7 +4,9 @@ ghost use mathlib.Core.Bool.{true};
 ghost use Prim.Native.Nat.{_-_, _^_, _≤_, _<_, min};
 ghost use Rattle.rowset.specs.Mask.{countBelow};
 ghost use Rattle.walk.specs.Sets.{adjacent, partedOf, SetAt, ChangedAt};
-use crate::table::{FIRST, SETS, SETS_OF};
+use crate::table::FIRST;
+use crate::table::SETS;
+use crate::table::SETS_OF;
 
 // How many sets of k rows there are of n rows.
 pub fn sets_of(n: usize, k: usize) -> usize

@@ -260,17 +260,7 @@ pub const SETS: [u8; 256] = [
 ];
 
 // Where the masks of k rows begin.
-pub const FIRST: [u8; 9] = [
-    0,
-    1,
-    9,
-    37,
-    93,
-    163,
-    219,
-    247,
-    255,
-];
+pub const FIRST: [u8; 9] = [0, 1, 9, 37, 93, 163, 219, 247, 255];
 
 // How many sets of k rows are there of n rows, at n * 9 + k.
 pub const SETS_OF: [u8; 81] = [

@@ -68,9 +68,10 @@ moved-requires : tie.Need-moved-requires
 moved-requires c κs =
     let b = c .before .before .before .before .before in
     let a = b .args in
-    let m = c .before .move-at .ensures in
-    ((search needs, search needs, search needs, m .1 .rows),
-     (b .pre .1 .0, letter-stored (a .n) (a .s) (b .pre .1 .1) (search needs) (search needs) (a .t) (search needs) (apart (c .before .before)) (c .before .move-at .result) (m .0) _ (factor c)))
+    let m = c .before .move-at .ensures in (
+      (search needs, search needs, search needs, m .1 .rows),
+      (b .pre .1 .0, letter-stored (a .n) (a .s) (b .pre .1 .1) (search needs) (search needs) (a .t) (search needs) (apart (c .before .before)) (c .before .move-at .result) (m .0) _ (factor c)),
+    )
 
 returns-2 : tie.Need-returns-2
 returns-2 c =

@@ -66,10 +66,11 @@ loop-less c = search needs
 loop-again : tie.Need-loop-again Inv-loop μ-loop
 loop-again c =
     let b = c .before .before .before .before .before .before in
-    let a = b .args in
-    (omega arith,
-     diagonal-next (a .n) (a .k) (a .inverse) (a .d) (a .v) (search needs) (c .before .set-at .ensures) (counted (c .before .before .before)) (c .before .before .before .before .loop .inv .1)
-     _ _ (c .scaled .ensures) refl)
+    let a = b .args in (
+      omega arith,
+      diagonal-next (a .n) (a .k) (a .inverse) (a .d) (a .v) (search needs) (c .before .set-at .ensures) (counted (c .before .before .before)) (c .before .before .before .before .loop .inv .1)
+          _ _ (c .scaled .ensures) refl,
+    )
 
 returns : tie.Need-returns Inv-loop μ-loop
 returns c =

@@ -98,11 +98,12 @@ loop-again c =
     let a = b .args in
     let C = c .before .before .before .before .before .before .changed-at .ensures in
     let lp = counted (c .before .before .before .before .before .before .before) in
-    let S = c .before .before .before .before .before .before .before .before .loop .inv .1 in
-    (omega arith,
-     move-next (a .n) (a .k) (a .a) (a .o) (a .w) (a .v) (b .pre .0 .3) (search needs) (search needs) C lp S _ _ _
-     (c .before .before .before .before .before .position .ensures .0) (c .before .before .before .before .replaced .ensures .0) (c .before .before .before .position2 .ensures .0)
-     _ _ (c .add-product .ensures) refl)
+    let S = c .before .before .before .before .before .before .before .before .loop .inv .1 in (
+      omega arith,
+      move-next (a .n) (a .k) (a .a) (a .o) (a .w) (a .v) (b .pre .0 .3) (search needs) (search needs) C lp S _ _ _
+          (c .before .before .before .before .before .position .ensures .0) (c .before .before .before .before .replaced .ensures .0) (c .before .before .before .position2 .ensures .0)
+          _ _ (c .add-product .ensures) refl,
+    )
 
 returns : tie.Need-returns Inv-loop μ-loop
 returns c =

@@ -39,9 +39,10 @@ array-copy-out-e c = search needs
 scale-requires : tie.Need-scale-requires Inv-loop μ-loop
 scale-requires c κs =
     let b = c .before .before .before .before .before in
-    let i = c .before .before .before .before .loop .i in
-    (ranged-more (omega arith) (c .before .before .before .before .loop .inv .1 .ranged),
-     subst Stored (entry-at (b .args .t1) i) (b .pre .2 .stored (i + 1) (omega arith) (omega arith)))
+    let i = c .before .before .before .before .loop .i in (
+      ranged-more (omega arith) (c .before .before .before .before .loop .inv .1 .ranged),
+      subst Stored (entry-at (b .args .t1) i) (b .pre .2 .stored (i + 1) (omega arith) (omega arith)),
+    )
 
 add-i : tie.Need-add-i Inv-loop μ-loop
 add-i c = search needs
@@ -55,12 +56,13 @@ loop-again c =
     let i = c .before .before .before .loop .i in
     let S = c .before .before .before .loop .inv .1 in
     let l : i < 8 = omega arith in
-    let h = c .before .has .ensures in
-    (omega arith,
-     ⊎-elim
-       (λ x. scaled-in S l _ (sym h ∙ x .0 .taken) (b .pre .2 .stored (i + 1) (omega arith) (omega arith)) (x .3 ∙ x .2 .ensures))
-       (λ x. scaled-out S l _ (sym h ∙ x .0 .left) (x .1))
-       (c .if1 .came))
+    let h = c .before .has .ensures in (
+      omega arith,
+      ⊎-elim
+          (λ x. scaled-in S l _ (sym h ∙ x .0 .taken) (b .pre .2 .stored (i + 1) (omega arith) (omega arith)) (x .3 ∙ x .2 .ensures))
+          (λ x. scaled-out S l _ (sym h ∙ x .0 .left) (x .1))
+          (c .if1 .came),
+    )
 
 returns : tie.Need-returns Inv-loop μ-loop
 returns c =

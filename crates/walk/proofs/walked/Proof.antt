@@ -40,9 +40,10 @@ loop-holds : tie.Need-loop-holds Inv-loop μ-loop
 loop-holds c =
     let b = c .before in
     let a = b .args in
-    let m = c .middle .ensures .0 in
-    (omega arith,
-     walk-start (stepWord (a .n) (stepOf (a .s))) (2 * c .middle .result + 1) (stateOf (a .v)) (omega (arith, step-length (a .n) (a .s) (b .pre .1 .1) (omega arith) (omega arith))))
+    let m = c .middle .ensures .0 in (
+      omega arith,
+      walk-start (stepWord (a .n) (stepOf (a .s))) (2 * c .middle .result + 1) (stateOf (a .v)) (omega (arith, step-length (a .n) (a .s) (b .pre .1 .1) (omega arith) (omega arith))),
+    )
 
 sub-t : tie.Need-sub-t Inv-loop μ-loop
 sub-t c = search needs
@@ -52,11 +53,14 @@ act-requires c κs =
     let b = c .before .before .before in
     let a = b .args in
     let t = c .before .loop .t in
-    let X = stepWord (a .n) (stepOf (a .s)) in
-    ((search needs, search needs, search needs, omega arith),
-     (working-agree (c .before .loop .inv .1)
-      (step-working (a .n) (a .k) (stepOf (a .s)) (b .pre .1 .1) (omega arith) (search needs) (take t X) (drop t X) (take-append-drop t X) (stateOf (a .v)) (b .pre .1 .0)),
-      b .pre .1 .1))
+    let X = stepWord (a .n) (stepOf (a .s)) in (
+      (search needs, search needs, search needs, omega arith),
+      (
+        working-agree (c .before .loop .inv .1)
+            (step-working (a .n) (a .k) (stepOf (a .s)) (b .pre .1 .1) (omega arith) (search needs) (take t X) (drop t X) (take-append-drop t X) (stateOf (a .v)) (b .pre .1 .0)),
+        b .pre .1 .1,
+      ),
+    )
 
 loop-less : tie.Need-loop-less Inv-loop μ-loop
 loop-less c = search needs
@@ -69,11 +73,12 @@ loop-again c =
     let t = c .before .before .loop .t in
     let X = stepWord (a .n) (stepOf (a .s)) in
     let e : t - 1 + 1 ≡ t = omega arith in
-    let l = step-length (a .n) (a .s) (b .pre .1 .1) (omega arith) (omega arith) in
-    (omega arith,
-     walk-next (search needs) X (step-rows (a .n) (stepOf (a .s))) (stateOf (a .v)) (t - 1) (omega arith) _ (stateOf (c .before .before .loop .u)) _
-     (subst (λ (i : ℕ). Agree (a .n) (a .k) (stateOf (c .before .before .loop .u)) (walk rounded (drop i X) (stateOf (a .v)))) (sym e) (c .before .before .loop .inv .1))
-     (c .act .ensures))
+    let l = step-length (a .n) (a .s) (b .pre .1 .1) (omega arith) (omega arith) in (
+      omega arith,
+      walk-next (search needs) X (step-rows (a .n) (stepOf (a .s))) (stateOf (a .v)) (t - 1) (omega arith) _ (stateOf (c .before .before .loop .u)) _
+          (subst (λ (i : ℕ). Agree (a .n) (a .k) (stateOf (c .before .before .loop .u)) (walk rounded (drop i X) (stateOf (a .v)))) (sym e) (c .before .before .loop .inv .1))
+          (c .act .ensures),
+    )
 
 returns : tie.Need-returns Inv-loop μ-loop
 returns c =
