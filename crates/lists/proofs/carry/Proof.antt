@@ -9,9 +9,9 @@ use denote.Ref.{now}
 use lib.ListN.{length, take}
 use lib.Seq.{sets}
 use Rattle.number.specs.declared.signed.Signed.{Signed}
+use Rattle.walk.specs.Table.{factorsOf}
 use Rattle.lists.specs.Items.{listNumbers}
 use Rattle.lists.specs.Lists.{anyOutside, carriedList, Outcome}
-use Rattle.lists.specs.Table.{factorsOf}
 use Rattle.lists.proofs.Outcomes.{Read, read-proper, read-improper, read-working, carry-improper, carry-outside, carry-short, carry-done}
 use Rattle.lists.proofs.carry.Statement.{statement}
 use Rattle.lists.proofs.carry.Tie as tie
