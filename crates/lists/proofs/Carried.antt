@@ -1,5 +1,5 @@
--- Laws of carrying: vectors that agree (`carry-agree`), no letter (`carries-none`), one letter more (`carries-next`), the letters of a word from the right (`carries-start`, `carries-letter`), and how far
--- carried items are (`carries-working`). An item added to another (`added-agrees`).
+-- Laws of carrying: vectors that agree (`carry-agree`), the letters of a word from the right, none (`carries-start`) and one more (`carries-letter`), how far the items are
+-- then (`carries-working`), and an item added to another (`added-agrees`).
 use mathlib.Core.Path.{_≡_, refl, sym, ap, ap₂, _∙_, subst}
 use mathlib.Core.Bool.{cond}
 use mathlib.Core.List.{List, [], _∷_}
@@ -71,7 +71,8 @@ module _ (n : ℕ) (X : Word Signed) (s : All (StoredLetter n) X) where
       let e : reachOf X ≡ reachOf (take t X) + reachOf (drop t X) = ap reachOf (sym (take-append-drop t X)) ∙ total-append (letterCost letterReach letterReach) (take t X) (drop t X) in
       record {
         eight = c .eight;
-        ranged = λ i p. subst (SignedRanged (r + reachOf X)) (sym (c .agrees i p)) (signed-ranged-more (omega arith) (carry-reach n r (vectorOf v) (w .ranged) (drop t X) (behind t) (omega arith) i p));
+        ranged = λ i p. subst (SignedRanged (r + reachOf X)) (sym (c .agrees i p))
+            (signed-ranged-more (omega arith) (carry-reach n r (vectorOf v) (w .ranged) (drop t X) (behind t) (omega arith) i p));
       }
 
 -- ---- item a gets w times item o added

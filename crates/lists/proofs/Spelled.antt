@@ -66,7 +66,8 @@ module _ (b : List Number) (n : ℕ) where
           record {
             eight = length-set v (m .to - 1) _ ∙ eight;
             agrees = λ i p. added-agrees n (m .to) (m .from) w v high eight (k .rows .to-low, k .rows .to-high) i p
-                ∙ ap₂ (λ (x : Move) (z : Number). cond (eqb i (x .to)) (signedSum (vectorOf v i) (signedProduct (plain z) (vectorOf v (x .from)))) (vectorOf v i)) f (g ∙ ap (λ (x : Move). getD b (x .at) zeroNumber) f)
+                ∙ ap₂ (λ (x : Move) (z : Number). cond (eqb i (x .to)) (signedSum (vectorOf v i) (signedProduct (plain z) (vectorOf v (x .from)))) (vectorOf v i)) f
+                (g ∙ ap (λ (x : Move). getD b (x .at) zeroNumber) f)
                 ∙ sym (move-carried (vectorOf v) _ (letterOf n (factorsOf b) t) letter-placed (letter-move n Plain low high t l e) i);
           }
 

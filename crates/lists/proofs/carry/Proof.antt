@@ -53,7 +53,8 @@ returns c =
     let t = c .before .before in
     let a = t .before .before .before .before .args in
     let p = proper (t .before .before) in
-    let e = carry-outside (a .n) (factorsOf (a .factors)) (now (a .items)) (now (a .out)) (p .list) (p .formed) (exact (t .before .before)) (sym (ap anyOutside (carries t)) ∙ sym (c .before .any-outside .ensures) ∙ c .if2 .taken) in
+    let e = carry-outside (a .n) (factorsOf (a .factors)) (now (a .items)) (now (a .out)) (p .list) (p .formed) (exact (t .before .before))
+    (sym (ap anyOutside (carries t)) ∙ sym (c .before .any-outside .ensures) ∙ c .if2 .taken) in
     (sym (ap (λ (x : Outcome). x .answer) e), sym (ap (λ (x : Outcome). x .out) e))
 
 mul-if3 : tie.Need-mul-if3

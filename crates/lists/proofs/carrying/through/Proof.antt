@@ -38,8 +38,11 @@ loop-holds c =
     let b = c .before in
     let a = b .args in
     let p = b .pre in
-    let e : 2 * c .middle .result + 1 ≡ 2 * middle (a .n) + 1 = ap (λ (k : ℕ). 2 * k + 1) (c .middle .ensures .0) in
-    (omega arith, carries-start (a .n) (signedWord (a .n) (factorsOf (a .b))) (stored-letters (a .n) (factorsOf (a .b)) (p .3)) _ (a .v) (e ∙ sym (signed-length (a .b) (a .n) (p .0) (p .1))) (p .2 .eight))
+    let e : 2 * c .middle .result + 1 ≡ 2 * middle (a .n) + 1 = ap (λ (k : ℕ). 2 * k + 1) (c .middle .ensures .0) in (
+      omega arith,
+      carries-start (a .n) (signedWord (a .n) (factorsOf (a .b))) (stored-letters (a .n) (factorsOf (a .b)) (p .3)) _ (a .v)
+          (e ∙ sym (signed-length (a .b) (a .n) (p .0) (p .1))) (p .2 .eight),
+    )
 
 sub-t : tie.Need-sub-t Inv-loop μ-loop
 sub-t c = search needs
@@ -50,7 +53,8 @@ held c =
     let a = c .before .before .args in
     let p = c .before .before .pre in
     let f = word-reach (a .n) (factorsOf (a .b)) (p .0) (p .1) in
-    working-more (omega arith) (carries-working (a .n) (signedWord (a .n) (factorsOf (a .b))) (stored-letters (a .n) (factorsOf (a .b)) (p .3)) (c .loop .t) 1000 (omega arith) (p .2) (c .loop .inv .1))
+    working-more (omega arith)
+    (carries-working (a .n) (signedWord (a .n) (factorsOf (a .b))) (stored-letters (a .n) (factorsOf (a .b)) (p .3)) (c .loop .t) 1000 (omega arith) (p .2) (c .loop .inv .1))
 
 letter-requires : tie.Need-letter-requires Inv-loop μ-loop
 letter-requires c κs =
