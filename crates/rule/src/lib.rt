@@ -1,10 +1,10 @@
 // New factors (document 01, "The rounded rule"): each from minors of a joined word, worked afresh, by the formulas; and the operations, each with its bound.
 ghost use mathlib.Core.Path.{_≡_};
 ghost use mathlib.Core.List.{[], _∷_};
-ghost use Prim.Native.Nat.{_-_, _^_, _≤_, _<_};
+ghost use Prim.Native.Nat.{_+_, _^_, _≤_, _<_};
 ghost use Rattle.number.specs.Number.{rounded};
 ghost use Rattle.rowset.specs.Mask.{maskCount};
-ghost use Rattle.words.specs.RowSet.{ofMask};
+ghost use Rattle.words.specs.RowSet.{ofMask, rows};
 ghost use Rattle.words.specs.Formula.{runBefore, onDiagonal, belowDiagonal, newFactor};
 ghost use Rattle.words.specs.Operation.{step, product, inverse, converse, submatrix, refactored};
 ghost use Rattle.walk.specs.Steps.{wayOf, stepsOf};
@@ -45,12 +45,21 @@ impl Chosen {
         }
     }
 
+    // M(a..b | 1..m), for m rows a..b; turned, M(1..m | a..b).
+    fn run_minor(self, a: usize, b: usize, m: usize, turned: bool) -> Number
+        requires { ⌜ Proper self × (1 ≤ a) × (b ≤ sizeOf self) × (b + 1 ≡ a + m) ⌝ }
+        ensures { λ r. ⌜ r ≡ turnedBy turned (chosenMinor self) (rows (sizeOf self) a b) (rows (sizeOf self) 1 m) ⌝ }
+        ensures { λ r. ⌜ Usable r ⌝ }
+    {
+        self.minor(rowset::run(a, b), rowset::run(1, m), turned)
+    }
+
     fn on_diagonal(self, i: usize) -> Number
         requires { ⌜ Proper self × (1 ≤ i) × (i ≤ sizeOf self) ⌝ }
         ensures { λ r. ⌜ r ≡ onDiagonal rounded (sizeOf self) (chosenMinor self) i ⌝ }
     {
-        let upper = self.minor(rowset::run(1, i), rowset::run(1, i), false);
-        let lower = self.minor(rowset::run(1, i - 1), rowset::run(1, i - 1), false);
+        let upper = self.run_minor(1, i, i, false);
+        let lower = self.run_minor(1, i - 1, i - 1, false);
         upper.div(lower)
     }
 
@@ -59,10 +68,10 @@ impl Chosen {
         requires { ⌜ Proper self × (1 ≤ j) × (j < i) × (i ≤ sizeOf self) ⌝ }
         ensures { λ r. ⌜ r ≡ belowDiagonal rounded (sizeOf self) (runBefore (sizeOf self)) (turnedBy turned (chosenMinor self)) i j ⌝ }
     {
-        let corner = self.minor(rowset::run(i - j + 1, i), rowset::run(1, j), turned);
-        let before = self.minor(rowset::run(i - j, i - 2), rowset::run(1, j - 1), turned);
-        let run = self.minor(rowset::run(i - j + 1, i - 1), rowset::run(1, j - 1), turned);
-        let above = self.minor(rowset::run(i - j, i - 1), rowset::run(1, j), turned);
+        let corner = self.run_minor(i - j + 1, i, j, turned);
+        let before = self.run_minor(i - j, i - 2, j - 1, turned);
+        let run = self.run_minor(i - j + 1, i - 1, j - 1, turned);
+        let above = self.run_minor(i - j, i - 1, j, turned);
         corner.mul(before).div(run.mul(above))
     }
 

@@ -1,63 +1,42 @@
+-- `Chosen::on_diagonal` meets its contract.
+use mathlib.Core.Path.{ap₂, _∙_}
+use Rattle.number.specs.Number.{quotientOf}
+use Rattle.words.specs.Formula.{onDiagonal}
+use Rattle.rule.proofs.Quotients.{usable-reach}
 use borrow.Author.Needs.{needs}
 use Rattle.rule.proofs.Chosen.on_diagonal.Statement.{statement}
 use Rattle.rule.proofs.Chosen.on_diagonal.Tie as tie
 use Rattle.rule.proofs.Chosen.on_diagonal.Reads as reads
 use Rattle.rule.proofs.Chosen.on_diagonal.Lts as lts
 use Rattle.number.proofs.Number.div.Reads as div-reads
-use Rattle.rowset.proofs.run.Reads as run-reads
-use Rattle.rule.proofs.Chosen.minor.Reads as minor-reads
+use Rattle.rule.proofs.Chosen.run_minor.Reads as run-minor-reads
 
--- src/lib.rt:52:32
-run-requires : tie.Need-run-requires
-run-requires c κs = ?
+run-minor-requires : tie.Need-run-minor-requires
+run-minor-requires c κs = search needs
 
--- src/lib.rt:52:51
-run-requires-2 : tie.Need-run-requires-2
-run-requires-2 c κs = ?
+sub-run-minor : tie.Need-sub-run-minor
+sub-run-minor c = search needs
 
--- src/lib.rt:52:13
-minor-requires : tie.Need-minor-requires
-minor-requires c κs = ?
+sub-run-minor-2 : tie.Need-sub-run-minor-2
+sub-run-minor-2 c = search needs
 
--- src/lib.rt:53:47
-sub-run : tie.Need-sub-run
-sub-run c = search needs
+run-minor-requires-2 : tie.Need-run-minor-requires-2
+run-minor-requires-2 c κs = search needs
 
--- src/lib.rt:53:32
-run-requires-3 : tie.Need-run-requires-3
-run-requires-3 c κs = ?
-
--- src/lib.rt:53:70
-sub-run-2 : tie.Need-sub-run-2
-sub-run-2 c = search needs
-
--- src/lib.rt:53:55
-run-requires-4 : tie.Need-run-requires-4
-run-requires-4 c κs = ?
-
--- src/lib.rt:53:13
-minor-requires-2 : tie.Need-minor-requires-2
-minor-requires-2 c κs = ?
-
--- src/lib.rt:54:9
 div-requires : tie.Need-div-requires
-div-requires c κs = ?
+div-requires c κs = let v = c .run-minor2 .ensures .1 in (usable-reach (c .before .run-minor .ensures .1), usable-reach v, v .nonzero)
 
--- src/lib.rt:48:5
 returns : tie.Need-returns
-returns c = ?
+unfolding onDiagonal
+returns c = c .div .ensures ∙ ap₂ quotientOf (c .before .before .run-minor .ensures .0) (c .before .run-minor2 .ensures .0)
 
 pub on-diagonal-spec : {M : Type 1} → statement M
 on-diagonal-spec =
     tie.close
     (tie.spec
-    run-requires
-    run-requires-2
-    minor-requires
-    sub-run
-    run-requires-3
-    sub-run-2
-    run-requires-4
-    minor-requires-2
+    run-minor-requires
+    sub-run-minor
+    sub-run-minor-2
+    run-minor-requires-2
     div-requires
     returns)
