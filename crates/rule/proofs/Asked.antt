@@ -15,10 +15,12 @@ use Rattle.rowset.proofs.Sets.{ofMask-length}
 use Rattle.rowset.proofs.Counts.{mask-count, mask-among, among-below, among-count, mask-run, run-count, run-below}
 use Rattle.words.specs.RowSet.{RowSet, count, among, rows, ofMask}
 use Rattle.words.specs.Walk.{minor, walk, oneAt}
-use Rattle.words.specs.Operation.{joinedWord}
+use Rattle.words.specs.Formula.{newFactor}
+use Rattle.words.specs.Operation.{joinedWord, refactored}
 use Rattle.words.proofs.Chosen.{length-among}
 use Rattle.words.proofs.Exponents.{StoredSteps, runReach, walk-ranged}
 use Rattle.walk.specs.Steps.{stepOf, stepsOf}
+use Rattle.walk.specs.Table.{tableOf}
 use Rattle.walk.proofs.Minors.{rows-few}
 use Rattle.rule.specs.declared.Chosen.{Chosen}
 use Rattle.rule.specs.Chosen.{sizeOf, chosenRows, chosenColumns, chosenMinor, turnedBy, Proper, Usable}
@@ -95,3 +97,11 @@ module _ (c : Chosen) (P : Proper c) where
     run-answer M q =
         let k = size-few in
         q ∙ ap₂ M (ap (ofMask (sizeOf c)) es ∙ mask-run (sizeOf c) a b k (omega arith) (omega arith)) (ap (ofMask (sizeOf c)) et ∙ mask-run (sizeOf c) 1 m k (omega arith) (omega arith))
+
+  -- THE NEW FACTORS over the chosen minors
+  pub refactored-is : (k : ℕ) → k ≡ sizeOf c
+      → tableOf k (newFactor rounded k (chosenMinor c)) ≡ tableOf (sizeOf c) (refactored rounded (c .word .n) (stepsOf (c .word)) (chosenRows c) (chosenColumns c))
+  unfolding refactored chosenMinor
+  refactored-is k e =
+      ap (λ (m : ℕ). tableOf m (newFactor rounded m (chosenMinor c))) e
+      ∙ ap (λ (m : ℕ). tableOf (sizeOf c) (newFactor rounded m (λ I J. minor rounded (joinedWord (c .word .n) (stepsOf (c .word))) (among (chosenRows c) I) (among (chosenColumns c) J)))) (sym chosen-count)

@@ -9,7 +9,7 @@ ghost use Rattle.words.specs.Formula.{runBefore, onDiagonal, belowDiagonal, new
 ghost use Rattle.words.specs.Operation.{step, product, inverse, converse, submatrix, refactored};
 ghost use Rattle.walk.specs.Steps.{wayOf, stepsOf};
 ghost use Rattle.walk.specs.Table.{factorsOf, tableOf};
-ghost use Rattle.rule.specs.Chosen.{sizeOf, chosenRows, chosenColumns, chosenMinor, turnedBy, Proper, Usable};
+ghost use Rattle.rule.specs.Chosen.{sizeOf, chosenRows, chosenColumns, chosenMinor, turnedBy, cellAt, Proper, Usable};
 ghost use Rattle.rule.specs.Result.{OneStep, TwoSteps, Workable, OperationWorkable, refactoredOf, resultOf};
 use number::Number;
 use walk::{Joined, Step, Way};
@@ -88,6 +88,22 @@ impl Chosen {
         self.off_diagonal(j, i, true)
     }
 
+    // The number at t of the new factors in rows of eight: zero past their k rows and columns.
+    fn cell(self, k: usize, t: usize) -> Number
+        requires { ⌜ Proper self × (k ≡ sizeOf self) × (t < 64) ⌝ }
+        ensures { λ r. ⌜ r ≡ cellAt k (newFactor rounded k (chosenMinor self)) t ⌝ }
+    {
+        let i = t / 8 + 1;
+        let j = t % 8 + 1;
+        if k < i {
+            return Number::zero();
+        }
+        if k < j {
+            return Number::zero();
+        }
+        self.factor(i, j)
+    }
+
     // The new factors, zero past their rows and columns.
     pub fn factors(self) -> [Number; 64]
         requires { ⌜ Proper self ⌝ }
@@ -97,9 +113,7 @@ impl Chosen {
         let zero = Number::zero();
         let mut b = [zero; 64];
         for t in 0..64usize {
-            if t / 8 < k && t % 8 < k {
-                b[t] = self.factor(t / 8 + 1, t % 8 + 1);
-            }
+            b[t] = self.cell(k, t);
         }
         b
     }

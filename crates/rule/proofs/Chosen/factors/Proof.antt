@@ -1,64 +1,59 @@
+-- `Chosen::factors` meets its contract. The invariant: the first t numbers of the table.
+use borrow.Author.Needs.{needs}
+use mathlib.Core.Path.{refl, _∙_}
+use Prim.Native.Nat.{_-_, _≤_}
+use native.Mathlib.Omega.{arith}
+use Rattle.number.specs.Number.{rounded}
+use Rattle.words.specs.Formula.{newFactor}
+use Rattle.walk.proofs.Sweep.{below-256}
+use Rattle.rule.specs.Chosen.{chosenMinor}
+use Rattle.rule.proofs.Asked.{refactored-is}
+use Rattle.rule.proofs.Tables.{Tabled, tabled-none, tabled-next, tabled-all}
 use Rattle.rule.proofs.Chosen.factors.Statement.{statement}
 use Rattle.rule.proofs.Chosen.factors.Tie as tie
 use Rattle.rule.proofs.Chosen.factors.Reads as reads
 use Rattle.rule.proofs.Chosen.factors.Lts as lts
 use Rattle.number.proofs.Number.zero.Reads as zero-reads
 use Rattle.rowset.proofs.count.Reads as count-reads
-use Rattle.rule.proofs.Chosen.factor.Reads as factor-reads
+use Rattle.rule.proofs.Chosen.cell.Reads as cell-reads
 
 abbrev Inv-loop : tie.InvT-loop
-Inv-loop self k b₀ t₀ b t = ?
+Inv-loop self k b₀ t₀ b t = (t ≤ 64) × Tabled k (newFactor rounded k (chosenMinor self)) b t
 
 abbrev μ-loop : tie.MeasureT-loop
-μ-loop self k b₀ t₀ b t = ?
+μ-loop self k b₀ t₀ b t = 64 - t
 
--- src/lib.rt:87:13
 count-requires : tie.Need-count-requires Inv-loop μ-loop
-count-requires c κs = ?
+count-requires c κs = below-256 (c .args .self .word .n) (c .args .self .rows) (c .pre .few) (c .pre .rows)
 
--- src/lib.rt:88:13
 zero-requires : tie.Need-zero-requires Inv-loop μ-loop
-zero-requires c κs = ?
+zero-requires c κs = search needs
 
--- src/lib.rt:90:9
 loop-holds : tie.Need-loop-holds Inv-loop μ-loop
-loop-holds c = ?
+loop-holds c = (search needs, tabled-none refl)
 
--- src/lib.rt:92:36
-add-factor : tie.Need-add-factor Inv-loop μ-loop
-add-factor c = ?
+cell-requires : tie.Need-cell-requires Inv-loop μ-loop
+cell-requires c κs = (c .before .before .before .before .pre, c .before .before .before .count .ensures .0, search needs)
 
--- src/lib.rt:92:47
-add-factor-2 : tie.Need-add-factor-2 Inv-loop μ-loop
-add-factor-2 c = ?
-
--- src/lib.rt:92:24
-factor-requires : tie.Need-factor-requires Inv-loop μ-loop
-factor-requires c κs = ?
-
--- src/lib.rt:92:17
 mul-b : tie.Need-mul-b Inv-loop μ-loop
-mul-b c = ?
+mul-b c = search needs
 
--- src/lib.rt:92:17
 array-set-from-b : tie.Need-array-set-from-b Inv-loop μ-loop
-array-set-from-b c = ?
+array-set-from-b c = search needs
 
--- src/lib.rt:90:13
 add-t : tie.Need-add-t Inv-loop μ-loop
-add-t c = ?
+add-t c = search needs
 
--- src/lib.rt:90:9
 loop-less : tie.Need-loop-less Inv-loop μ-loop
-loop-less c = ?
+loop-less c = search needs
 
--- src/lib.rt:90:9
 loop-again : tie.Need-loop-again Inv-loop μ-loop
-loop-again c = ?
+loop-again c = (omega arith, tabled-next (c .before .before .loop .inv .1) (search needs) _ _ (c .cell .ensures) refl)
 
--- src/lib.rt:83:5
 returns : tie.Need-returns Inv-loop μ-loop
-returns c = ?
+returns c =
+    let b = c .before .before .before .before in
+    tabled-all (c .before .loop .inv .1) (omega arith) ∙ refactored-is (b .args .self) (b .pre) (c .before .before .before .count .result) (c .before .before .before .count .ensures .0)
 
 pub factors-spec : {M : Type 1} → statement M
 factors-spec =
@@ -69,9 +64,7 @@ factors-spec =
     count-requires
     zero-requires
     loop-holds
-    add-factor
-    add-factor-2
-    factor-requires
+    cell-requires
     mul-b
     array-set-from-b
     add-t
