@@ -71,17 +71,20 @@ module _ (c : Chosen) (P : Proper c) where
   module _ (i j i' j' : ℕ) (bi : i < 2 ^ sizeOf c) (bj : j < 2 ^ sizeOf c) (e : maskCount i ≡ maskCount j) (ei : i' ≡ maskAmong (c .rows) i) (ej : j' ≡ maskAmong (c .columns) j) where
     pub asked-ready : ((1 ≤ c .word .n) × (c .word .n ≤ 8) × (c .word .count ≤ 6))
         × (((i' < 2 ^ c .word .n) × (j' < 2 ^ c .word .n) × (maskCount i' ≡ maskCount j')) × StoredSteps (c .word .n) (stepsOf (c .word)))
-    asked-ready =
-        ((P .some, P .few, P .six),
-         ((omega (arith, ei, asked-below i .0), omega (arith, ej, asked-below j .1), ap maskCount ei ∙ asked-count i j bi bj e ∙ ap maskCount (sym ej)), P .stored))
+    asked-ready = (
+      (P .some, P .few, P .six),
+      ((omega (arith, ei, asked-below i .0), omega (arith, ej, asked-below j .1), ap maskCount ei ∙ asked-count i j bi bj e ∙ ap maskCount (sym ej)), P .stored),
+    )
 
     pub asked-answer : (r : Number) → r ≡ minor rounded (joinedWord (c .word .n) (stepsOf (c .word))) (ofMask (c .word .n) i') (ofMask (c .word .n) j')
         → (r ≡ chosenMinor c (ofMask (sizeOf c) i) (ofMask (sizeOf c) j)) × Usable r
     asked-answer r q =
-        let f : r ≡ chosenMinor c (ofMask (sizeOf c) i) (ofMask (sizeOf c) j) = q ∙ chosen-minor i j i' j' ei ej in
-        (f, subst Usable (sym f)
-            (chosen-usable (ofMask (sizeOf c) i) (ofMask (sizeOf c) j) (ofMask-length (sizeOf c) i) (ofMask-length (sizeOf c) j)
-            (mask-count (sizeOf c) i size-few bi ∙ e ∙ sym (mask-count (sizeOf c) j size-few bj))))
+        let f : r ≡ chosenMinor c (ofMask (sizeOf c) i) (ofMask (sizeOf c) j) = q ∙ chosen-minor i j i' j' ei ej in (
+          f,
+          subst Usable (sym f)
+              (chosen-usable (ofMask (sizeOf c) i) (ofMask (sizeOf c) j) (ofMask-length (sizeOf c) i) (ofMask-length (sizeOf c) j)
+              (mask-count (sizeOf c) i size-few bi ∙ e ∙ sym (mask-count (sizeOf c) j size-few bj))),
+        )
 
   -- CONSECUTIVE ROWS a .. b and columns 1 .. m, s and t their masks
   module _ (a b m s t : ℕ) (ha : 1 ≤ a) (lb : b ≤ sizeOf c) (e : b + 1 ≡ a + m) (es : s ≡ maskRun a b) (et : t ≡ maskRun 1 m) where
@@ -89,9 +92,12 @@ module _ (c : Chosen) (P : Proper c) where
     run-ready =
         let k = size-few in
         let p : suc b - a ≡ m = omega arith in
-        let q : suc m - 1 ≡ m = omega arith in
-        (P, subst (λ (x : ℕ). x < 2 ^ sizeOf c) (sym es) (run-below (sizeOf c) a b lb), subst (λ (x : ℕ). x < 2 ^ sizeOf c) (sym et) (run-below (sizeOf c) 1 m (omega arith)),
-         ap maskCount es ∙ run-count a b ha (omega arith) (omega arith) ∙ p ∙ sym (ap maskCount et ∙ run-count 1 m (omega arith) (omega arith) (omega arith) ∙ q))
+        let q : suc m - 1 ≡ m = omega arith in (
+          P,
+          subst (λ (x : ℕ). x < 2 ^ sizeOf c) (sym es) (run-below (sizeOf c) a b lb),
+          subst (λ (x : ℕ). x < 2 ^ sizeOf c) (sym et) (run-below (sizeOf c) 1 m (omega arith)),
+          ap maskCount es ∙ run-count a b ha (omega arith) (omega arith) ∙ p ∙ sym (ap maskCount et ∙ run-count 1 m (omega arith) (omega arith) (omega arith) ∙ q),
+        )
 
     pub run-answer : {r : Number} (M : RowSet → RowSet → Number) → r ≡ M (ofMask (sizeOf c) s) (ofMask (sizeOf c) t) → r ≡ M (rows (sizeOf c) a b) (rows (sizeOf c) 1 m)
     run-answer M q =

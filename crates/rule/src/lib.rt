@@ -12,7 +12,9 @@ ghost use Rattle.walk.specs.Table.{factorsOf, tableOf};
 ghost use Rattle.rule.specs.Chosen.{sizeOf, chosenRows, chosenColumns, chosenMinor, turnedBy, cellAt, Proper, Usable};
 ghost use Rattle.rule.specs.Result.{OneStep, TwoSteps, Workable, OperationWorkable, refactoredOf, resultOf};
 use number::Number;
-use walk::{Joined, Step, Way};
+use walk::Joined;
+use walk::Step;
+use walk::Way;
 
 mod bounds; // bounds.rt: the bounds by size
 

@@ -1,32 +1,34 @@
+-- `of_one` meets its contract.
+use native.Mathlib.Omega.{arith}
+use Rattle.walk.proofs.Sweep.{below-256}
+use Rattle.rule.proofs.Operations.{run-proper, run-result}
 use borrow.Author.Needs.{needs}
 use Rattle.rule.proofs.of_one.Statement.{statement}
 use Rattle.rule.proofs.of_one.Tie as tie
-use Rattle.rule.proofs.of_one.Reads as reads
-use Rattle.rule.proofs.of_one.Lts as lts
-use Rattle.rowset.proofs.count.Reads as count-reads
-use Rattle.rule.proofs.Chosen.factors.Reads as factors-reads
-use Rattle.rule.proofs.bounds.one_source.Reads as one-source-reads
-use Rattle.rule.proofs.one_step.Reads as one-step-reads
 
--- src/lib.rt:132:15
 one-step-requires : tie.Need-one-step-requires
 one-step-requires c κs = search needs
 
--- src/lib.rt:137:18
 factors-requires : tie.Need-factors-requires
-factors-requires c κs = ?
+factors-requires c κs =
+    let b = c .before in
+    let a = b .args in
+    let w = c .one-step in
+    run-proper (a .n) _ (w .result) (a .p) (a .q) (w .ensures .size) (w .ensures .steps) (search needs) (search needs) (b .pre .1) (omega (arith, w .ensures .count))
 
--- src/lib.rt:138:15
 count-requires : tie.Need-count-requires
-count-requires c κs = ?
+count-requires c κs = let b = c .before .before in below-256 (b .args .n) (b .args .p) (b .pre .1 .few) (b .pre .0 .0)
 
--- src/lib.rt:139:16
 one-source-requires : tie.Need-one-source-requires
 one-source-requires c κs = search needs
 
--- src/lib.rt:126:1
 returns : tie.Need-returns
-returns c = ?
+returns c =
+    let b = c .before .before .before .before in
+    let a = b .args in
+    let w = c .before .before .before .one-step in
+    run-result (a .n) _ (w .result) (a .p) (a .q) (w .ensures .size) (w .ensures .steps) (search needs) (search needs) (b .pre .1) _ _ _
+    (c .before .before .factors .ensures) (c .before .count .ensures .0) (c .one-source .ensures)
 
 pub of-one-spec : {M : Type 1} → statement M
 of-one-spec =

@@ -10,10 +10,6 @@ use Rattle.number.proofs.Reach.{ranged-more}
 use Rattle.walk.proofs.Scaling.{Scaled, entry-at, scaled-none, scaled-in, scaled-out}
 use Rattle.walk.proofs.scaled.Statement.{statement}
 use Rattle.walk.proofs.scaled.Tie as tie
-use Rattle.walk.proofs.scaled.Reads as reads
-use Rattle.walk.proofs.scaled.Lts as lts
-use Rattle.rowset.proofs.has.Reads as has-reads
-use Rattle.walk.proofs.scale.Reads as scale-reads
 
 abbrev Inv-loop : tie.InvT-loop
 Inv-loop n s inverse d y₀ i₀ y i = (i ≤ n) × Scaled inverse d s y₀ y i

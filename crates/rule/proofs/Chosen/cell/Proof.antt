@@ -10,10 +10,6 @@ use Rattle.rule.specs.Chosen.{chosenMinor}
 use borrow.Author.Needs.{needs}
 use Rattle.rule.proofs.Chosen.cell.Statement.{statement}
 use Rattle.rule.proofs.Chosen.cell.Tie as tie
-use Rattle.rule.proofs.Chosen.cell.Reads as reads
-use Rattle.rule.proofs.Chosen.cell.Lts as lts
-use Rattle.number.proofs.Number.zero.Reads as zero-reads
-use Rattle.rule.proofs.Chosen.factor.Reads as factor-reads
 
 add-i : tie.Need-add-i
 add-i c = search needs
@@ -54,7 +50,7 @@ returns-3 c =
     let j : ℕ = a .t % 8 + 1 in
     c .factor .ensures ∙ ap (λ (k : ℕ). newFactor rounded k (chosenMinor (a .self)) i j) (sym (b .pre .1))
     ∙ ap₂ (λ (x y : Bool). cond (x && y) (newFactor rounded (a .k) (chosenMinor (a .self)) i j) zeroNumber)
-      (sym (le-leb i (a .k) (c .before .before .if1 .left))) (sym (le-leb j (a .k) (c .before .if2 .left)))
+    (sym (le-leb i (a .k) (c .before .before .if1 .left))) (sym (le-leb j (a .k) (c .before .if2 .left)))
 
 pub cell-spec : {M : Type 1} → statement M
 cell-spec =

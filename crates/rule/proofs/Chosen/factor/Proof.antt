@@ -9,10 +9,6 @@ use Rattle.rule.specs.Chosen.{sizeOf, chosenMinor}
 use borrow.Author.Needs.{needs}
 use Rattle.rule.proofs.Chosen.factor.Statement.{statement}
 use Rattle.rule.proofs.Chosen.factor.Tie as tie
-use Rattle.rule.proofs.Chosen.factor.Reads as reads
-use Rattle.rule.proofs.Chosen.factor.Lts as lts
-use Rattle.rule.proofs.Chosen.off_diagonal.Reads as off-diagonal-reads
-use Rattle.rule.proofs.Chosen.on_diagonal.Reads as on-diagonal-reads
 
 on-diagonal-requires : tie.Need-on-diagonal-requires
 on-diagonal-requires c κs = search needs
@@ -33,7 +29,7 @@ returns-2 c =
     let a = c .before .before .before .args in
     c .off-diagonal .ensures
     ∙ ap₂ (λ (x y : Bool). factorBy rounded (sizeOf (a .self)) x y (chosenMinor (a .self)) (a .i) (a .j))
-      (sym (ne-eqb (a .i) (a .j) (c .before .before .if1 .left))) (sym (lt-ltb (a .j) (a .i) (c .before .if2 .taken)))
+    (sym (ne-eqb (a .i) (a .j) (c .before .before .if1 .left))) (sym (lt-ltb (a .j) (a .i) (c .before .if2 .taken)))
 
 off-diagonal-requires-2 : tie.Need-off-diagonal-requires-2
 off-diagonal-requires-2 c κs = search needs
@@ -44,7 +40,7 @@ returns-3 c =
     let a = c .before .before .before .args in
     c .off-diagonal2 .ensures
     ∙ ap₂ (λ (x y : Bool). factorBy rounded (sizeOf (a .self)) x y (chosenMinor (a .self)) (a .i) (a .j))
-      (sym (ne-eqb (a .i) (a .j) (c .before .before .if1 .left))) (sym (le-ltb (a .j) (a .i) (c .before .if2 .left)))
+    (sym (ne-eqb (a .i) (a .j) (c .before .before .if1 .left))) (sym (le-ltb (a .j) (a .i) (c .before .if2 .left)))
 
 pub factor-spec : {M : Type 1} → statement M
 factor-spec =

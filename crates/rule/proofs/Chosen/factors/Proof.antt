@@ -11,11 +11,6 @@ use Rattle.rule.proofs.Asked.{refactored-is}
 use Rattle.rule.proofs.Tables.{Tabled, tabled-none, tabled-next, tabled-all}
 use Rattle.rule.proofs.Chosen.factors.Statement.{statement}
 use Rattle.rule.proofs.Chosen.factors.Tie as tie
-use Rattle.rule.proofs.Chosen.factors.Reads as reads
-use Rattle.rule.proofs.Chosen.factors.Lts as lts
-use Rattle.number.proofs.Number.zero.Reads as zero-reads
-use Rattle.rowset.proofs.count.Reads as count-reads
-use Rattle.rule.proofs.Chosen.cell.Reads as cell-reads
 
 abbrev Inv-loop : tie.InvT-loop
 Inv-loop self k b₀ t₀ b t = (t ≤ 64) × Tabled k (newFactor rounded k (chosenMinor self)) b t

@@ -8,11 +8,6 @@ use Rattle.rule.proofs.Quotients.{usable-reach, product-reach, product-
 use borrow.Author.Needs.{needs}
 use Rattle.rule.proofs.Chosen.off_diagonal.Statement.{statement}
 use Rattle.rule.proofs.Chosen.off_diagonal.Tie as tie
-use Rattle.rule.proofs.Chosen.off_diagonal.Reads as reads
-use Rattle.rule.proofs.Chosen.off_diagonal.Lts as lts
-use Rattle.number.proofs.Number.div.Reads as div-reads
-use Rattle.number.proofs.Number.mul.Reads as mul-reads
-use Rattle.rule.proofs.Chosen.run_minor.Reads as run-minor-reads
 
 sub-run-minor : tie.Need-sub-run-minor
 sub-run-minor c = search needs
@@ -70,9 +65,11 @@ div-requires c κs =
     let corner = c .before .before .before .before .before .run-minor .ensures .1 in
     let before = c .before .before .before .before .run-minor2 .ensures .1 in
     let run = c .before .before .before .run-minor3 .ensures .1 in
-    let above = c .before .before .run-minor4 .ensures .1 in
-    (subst (Ranged reach) (sym (c .before .mul .ensures)) (product-reach corner before), subst (Ranged reach) (sym (c .mul2 .ensures)) (product-reach run above),
-     subst (λ (x : Number). 0 < x .m) (sym (c .mul2 .ensures)) (product-nonzero run above))
+    let above = c .before .before .run-minor4 .ensures .1 in (
+      subst (Ranged reach) (sym (c .before .mul .ensures)) (product-reach corner before),
+      subst (Ranged reach) (sym (c .mul2 .ensures)) (product-reach run above),
+      subst (λ (x : Number). 0 < x .m) (sym (c .mul2 .ensures)) (product-nonzero run above),
+    )
 
 returns : tie.Need-returns
 returns c =

@@ -6,10 +6,6 @@ use Rattle.rule.proofs.Quotients.{usable-reach}
 use borrow.Author.Needs.{needs}
 use Rattle.rule.proofs.Chosen.on_diagonal.Statement.{statement}
 use Rattle.rule.proofs.Chosen.on_diagonal.Tie as tie
-use Rattle.rule.proofs.Chosen.on_diagonal.Reads as reads
-use Rattle.rule.proofs.Chosen.on_diagonal.Lts as lts
-use Rattle.number.proofs.Number.div.Reads as div-reads
-use Rattle.rule.proofs.Chosen.run_minor.Reads as run-minor-reads
 
 run-minor-requires : tie.Need-run-minor-requires
 run-minor-requires c κs = search needs

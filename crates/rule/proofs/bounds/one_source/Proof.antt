@@ -7,8 +7,6 @@ use Rattle.walk.proofs.Order.{tabulated, tabulated-at}
 use borrow.Author.Needs.{needs}
 use Rattle.rule.proofs.bounds.one_source.Statement.{statement}
 use Rattle.rule.proofs.bounds.one_source.Tie as tie
-use Rattle.rule.proofs.bounds.one_source.Reads as reads
-use Rattle.rule.proofs.bounds.one_source.Lts as lts
 
 sub-result : tie.Need-sub-result
 sub-result c = search needs

@@ -7,8 +7,6 @@ use Rattle.walk.proofs.Order.{tabulated, tabulated-at}
 use borrow.Author.Needs.{needs}
 use Rattle.rule.proofs.bounds.product.Statement.{statement}
 use Rattle.rule.proofs.bounds.product.Tie as tie
-use Rattle.rule.proofs.bounds.product.Reads as reads
-use Rattle.rule.proofs.bounds.product.Lts as lts
 
 sub-result : tie.Need-sub-result
 sub-result c = search needs
