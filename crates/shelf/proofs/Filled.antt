@@ -4,8 +4,13 @@ use native.Mathlib.Decide.{ℕ-discrete}
 use native.Mathlib.Omega.{arith}
 use mathlib.Core.Path.{_≡_, refl, sym, ap, _∙_}
 use mathlib.Core.List.{List, [], _∷_}
-use lib.ListN.{length, getD, set, length-set}
-use lib.Seq.{ext-getD, getD-set-same, getD-set-other}
+use Rattle.number.specs.declared.Number.{Number}
+use lib.ListN.{length, getD, take, set, length-set}
+use lib.Seq.{ext-getD, getD-set-same, getD-set-other, getD-take, length-take-le}
+
+-- what a read past the end of an array would give
+abbrev pub unread : Number
+unread = record { m = 0; x = 0 }
 
 module _ {A : Type 0} where
   -- within a list it does not matter what a read past its end would give
@@ -37,3 +42,11 @@ module _ {A : Type 0} where
 
     pub filled-all : {k : ℕ} {t : List A} → Filled k t → n ≤ k → (l : List A) → length l ≡ n → ((i : ℕ) → i < n → getD l i z ≡ f i) → t ≡ l
     filled-all {k} {t} w h l e g = ext-getD z t l (w .long ∙ sym e) (λ i q. w .each i (omega (arith, w .long)) ∙ sym (g i (omega (arith, w .long))))
+
+    pub filled-part : {k : ℕ} {t : List A} → Filled k t → (l : List A) → length l ≡ k → ((i : ℕ) → i < k → getD l i z ≡ f i) → take k t ≡ l
+    filled-part {k} {t} w l e g =
+        let m : length (take k t) ≡ k = length-take-le k t (omega (arith, w .few, w .long)) in
+        ext-getD z (take k t) l (m ∙ sym e)
+        (λ i q.
+          let h : i < k = omega arith in
+          getD-take k t i z h ∙ w .each i h ∙ sym (g i h))

@@ -3,11 +3,12 @@
 use Prim.Native.Nat.{ℕ, zero, suc, _+_, _-_, _*_, _/_, _%_, _<_, _≤_}
 use native.Mathlib.Nat.{div-add-mod', div-lt-iff-lt-mul, mod-lt}
 use native.Mathlib.Decide.{ℕ-discrete}
+use native.Mathlib.Numerals.{add-one}
 use native.Mathlib.Omega.{arith}
 use mathlib.Core.Path.{_≡_, refl, sym, ap, ap₂, _∙_}
 use mathlib.Core.List.{List, [], _∷_, _++_, append-assoc}
 use lib.ListN.{length, getD, take, drop, set, replicate, length-set, length-take, length-drop, length-replicate, getD-replicate}
-use lib.Seq.{sets, length-sets, sets-eq, take-at, drop-at, length-take-le, getD-take, getD-drop, getD-set-same, getD-set-other, ext-getD, set-set, take-set-le, drop-set-lt}
+use lib.Seq.{sets, length-sets, sets-eq, take-at, drop-at, length-take-le, getD-take, getD-drop, getD-set-same, getD-set-other, ext-getD, set-set, take-set-le, drop-set-lt, take-suc}
 use Rattle.number.specs.declared.Number.{Number}
 use Rattle.number.specs.Number.{zeroNumber, Stored}
 use Rattle.words.specs.Word.{Factors}
@@ -16,9 +17,11 @@ use Rattle.factors.specs.Demand.{Each}
 use Rattle.shelf.specs.declared.Shelf.{Shelf}
 use Rattle.shelf.specs.Table.{factorsOf, tableOf}
 use Rattle.shelf.specs.Shelf.{rowsAt, tableAt, factorsAt, withTable, holding, without, emptyShelf, Good}
+use Rattle.codec.proofs.Parts.{sets-append}
+use Rattle.shelf.proofs.Filled.{unread, Filled, filled-all}
 use Rattle.shelf.proofs.Table.{table-length, factors-table, table-list, table-same, table-refactored, within-none}
 
-shelf-fields : (s t : Shelf) → s .numbers ≡ t .numbers → s .sizes ≡ t .sizes → s ≡ t
+pub shelf-fields : (s t : Shelf) → s .numbers ≡ t .numbers → s .sizes ≡ t .sizes → s ≡ t
 shelf-fields s t e f = ap₂ (λ (a : List Number) (b : List ℕ). let r : Shelf = record { numbers = a; sizes = b } in r) e f
 
 -- elements that a run does not reach
@@ -79,6 +82,24 @@ module _ (s : Shelf) (p n : ℕ) (t : List Number) (small : p < 8) (eight : leng
 number-at : (s : Shelf) (p k : ℕ) → k < 64 → getD (tableAt s p) k zeroNumber ≡ getD (s .numbers) (p * 64 + k) zeroNumber
 unfolding tableAt
 number-at s p k h = getD-take 64 (drop (p * 64) (s .numbers)) k zeroNumber h ∙ getD-drop (p * 64) (s .numbers) k zeroNumber
+
+-- a place's numbers read one after the other
+pub table-read : (s : Shelf) (p : ℕ) → p < 8 → length (s .numbers) ≡ 512 → {k : ℕ} {t : List Number} → Filled unread (λ i. getD (s .numbers) (p * 64 + i) unread) 64 k t → 64 ≤ k
+    → t ≡ tableAt s p
+unfolding tableAt
+table-read s p small all w h =
+    filled-all unread (λ i. getD (s .numbers) (p * 64 + i) unread) 64 w h (take 64 (drop (p * 64) (s .numbers)))
+    (length-take-le 64 (drop (p * 64) (s .numbers)) (omega (arith, length-drop (p * 64) (s .numbers))))
+    (λ i l. getD-take 64 (drop (p * 64) (s .numbers)) i unread l ∙ getD-drop (p * 64) (s .numbers) i unread)
+
+-- and put one after the other
+pub put-more : (l t : List Number) (a k : ℕ) → k < length t → set (sets l a (take k t)) (a + k) (getD t k unread) ≡ sets l a (take (k + 1) t)
+put-more l t a k h =
+    let e : length (take k t) ≡ k = length-take-le k t (omega arith) in
+    let more : take (k + 1) t ≡ take k t ++ (getD t k unread ∷ []) = rw add-one (take-suc t k unread h) in
+    ap (λ (i : ℕ). set (sets l a (take k t)) (a + i) (getD t k unread)) (sym e)
+    ∙ sets-append l (take k t) (getD t k unread ∷ []) a
+    ∙ ap (sets l a) (sym more)
 
 -- shelves with the same sizes and tables are the same
 same-places : (s t : Shelf) → Good s → Good t → ((p : ℕ) → p < 8 → rowsAt s p ≡ rowsAt t p) → ((p : ℕ) → p < 8 → tableAt s p ≡ tableAt t p) → s ≡ t
@@ -187,7 +208,7 @@ pub good-empty : Good emptyShelf
 unfolding emptyShelf
 good-empty =
     record {
-      places = length-replicate 8 0;
+      places = length-replicate {A = ℕ} 8 0;
       numbers = length-replicate 512 zeroNumber;
       few = λ p h. rw (empty-rows p h) (omega arith);
       stored = λ p h. rw (empty-rows p h) (λ i j x y. absurd (omega arith));

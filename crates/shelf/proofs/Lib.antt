@@ -4,3 +4,6 @@ pub mod RowByRow
 pub mod Table
 pub mod Holding
 pub mod Verdicts
+pub mod Loading
+pub mod Dropping
+pub mod Writing

@@ -7,7 +7,7 @@ use mathlib.Core.Path.{_≡_, refl, sym, ap, _∙_}
 use mathlib.Core.Bool.{Bool, true, false, not, cond, _&&_, _||_}
 use mathlib.Core.List.{List, [], _∷_}
 use lib.Dec.{leb}
-use lib.ListN.{length, getD}
+use lib.ListN.{length, getD, take}
 use borrow.Author.Tests.{le-leb, lt-leb, leb-true}
 use Rattle.number.specs.declared.Number.{Number}
 use Rattle.number.specs.Number.{bias, zeroNumber, inRange}
@@ -16,6 +16,7 @@ use Rattle.words.specs.Operation.{rowByRow}
 use Rattle.minors.specs.Matrix.{In}
 use Rattle.factors.proofs.Demanded.{rowByRow-length}
 use Rattle.shelf.specs.Table.{factorsOf, within, tableOf, squareOf, outside}
+use Rattle.shelf.proofs.Filled.{unread, read-any, Filled, filled-all, filled-part}
 use Rattle.shelf.proofs.RowByRow.{row-by-row-at, row-by-row-get, row-by-row-list, row-below}
 
 -- 1 .. n, counted from 0
@@ -26,8 +27,12 @@ index n i h = (omega arith, omega arith)
 pub within-none : (b : Factors Number) (i j : ℕ) → 0 < i → within 0 b i j ≡ zeroNumber
 within-none b i j h = rw (lt-leb i 0 h)
 
+-- the number at k of a table
+abbrev pub cellAt : ℕ → Factors Number → ℕ → Number
+cellAt n b k = within n b (suc (k / 8)) (suc (k % 8))
+
 -- squares of numbers of rows
-some-rows : (n x : ℕ) → x < n * n → 0 < n
+pub some-rows : (n x : ℕ) → x < n * n → 0 < n
 some-rows zero x h = absurd (omega arith)
 some-rows (suc n) x h = omega arith
 
@@ -67,6 +72,11 @@ module _ (n : ℕ) where
   unfolding tableOf
   table-list b z t l h = row-by-row-list z 8 (within n b) t l h
 
+  pub table-filled : (b : Factors Number) {k : ℕ} {t : List Number} → Filled zeroNumber (cellAt n b) 64 k t → 64 ≤ k → t ≡ tableOf n b
+  unfolding tableOf
+  table-filled b w h =
+      filled-all zeroNumber (cellAt n b) 64 w h (tableOf n b) (table-length b) (λ k l. row-by-row-get zeroNumber 8 (omega arith) k l (within n b))
+
   pub table-same : (b c : Factors Number) → ((i j : ℕ) → In n i → In n j → b i j ≡ c i j) → tableOf n b ≡ tableOf n c
   table-same b c same =
       table-list c zeroNumber (tableOf n b) (table-length b)
@@ -95,7 +105,65 @@ module _ (n : ℕ) (b : Factors Number) where
         ∙ factors-within n b (suc j) (suc i) (omega arith, omega arith) (omega arith, omega arith)
         ∙ and-swapped (leb (suc j) n) (leb (suc i) n) (b (suc j) (suc i)))
 
--- factors one behind the other
+-- a cell of the exchange
+pub exchanged-cell : (t : List Number) (k : ℕ) → length t ≡ 64 → k < 64 → getD t (k % 8 * 8 + k / 8) unread ≡ cellAt 8 (exchanged (factorsOf t)) k
+unfolding factorsOf
+exchanged-cell t k long h =
+    let i : k / 8 < 8 = row-below zeroNumber 8 (omega arith) k h in
+    let j : k % 8 < 8 = mod-lt k (omega arith) in
+    let r : suc (k % 8) - 1 ≡ k % 8 = omega arith in
+    let c : suc (k / 8) - 1 ≡ k / 8 = omega arith in
+    read-any t (k % 8 * 8 + k / 8) unread zeroNumber (omega arith)
+    ∙ rw (within-in 8 (exchanged (factorsOf t)) (suc (k / 8)) (suc (k % 8)) (omega arith) (omega arith), r, c)
+
+-- FACTORS ONE BEHIND THE OTHER: out of a table
+abbrev pub packedAt : ℕ → List Number → ℕ → Number
+packedAt n t k = factorsOf t (suc (k / n)) (suc (k % n))
+
+module _ (n : ℕ) (t : List Number) (few : n ≤ 8) where
+  module _ (k : ℕ) (h : k < n * n) where
+    pub packed-below : (k < 64) × (k / n < 8) × (k % n < 8)
+    packed-below =
+        let some : 0 < n = some-rows n k h in
+        let m : k % n < n = mod-lt k some in
+        (omega (arith, mul-le-mul few few), omega (arith, row-below zeroNumber n some k h), omega arith)
+
+    pub packed-cell : length t ≡ 64 → getD t (k / n * 8 + k % n) unread ≡ packedAt n t k
+    unfolding factorsOf
+    packed-cell long =
+        let r : suc (k / n) - 1 ≡ k / n = omega arith in
+        let c : suc (k % n) - 1 ≡ k % n = omega arith in
+        read-any t (k / n * 8 + k % n) unread zeroNumber (omega (arith, packed-below .1, packed-below .2)) ∙ rw (r, c)
+
+  pub packed-filled : {k : ℕ} {r : List Number} → Filled zeroNumber (packedAt n t) 64 k r → k ≤ n * n → n * n ≤ k → take (n * n) r ≡ rowByRow n (factorsOf t)
+  packed-filled {k} {r} w h g =
+      let e : n * n ≡ k = omega arith in
+      rw e
+      (filled-part zeroNumber (packedAt n t) 64 w (rowByRow n (factorsOf t)) (rowByRow-length n (factorsOf t) ∙ e)
+      (λ i l.
+        let b : i < n * n = omega arith in
+        row-by-row-get zeroNumber n (some-rows n i b) i b (factorsOf t)))
+
+-- and into a table
+module _ (n : ℕ) (L : List Number) (k : ℕ) where
+  pub square-rows-end : n ≤ k / 8 → zeroNumber ≡ cellAt n (squareOf n L) k
+  square-rows-end h = rw (lt-leb (suc (k / 8)) n (omega arith))
+
+  pub square-columns-end : k / 8 < n → n ≤ k % 8 → zeroNumber ≡ cellAt n (squareOf n L) k
+  square-columns-end h g = rw (le-leb (suc (k / 8)) n (omega arith), lt-leb (suc (k % 8)) n (omega arith))
+
+  module _ (few : n ≤ 8) (h : k / 8 < n) (g : k % 8 < n) where
+    pub square-cell-below : k / 8 * n + k % 8 < 64
+    square-cell-below = omega (arith, square-below n (k / 8) (k % 8) h g, mul-le-mul few few)
+
+    pub square-cell : length L ≡ 64 → getD L (k / 8 * n + k % 8) unread ≡ cellAt n (squareOf n L) k
+    unfolding squareOf
+    square-cell long =
+        let r : suc (k / 8) - 1 ≡ k / 8 = omega arith in
+        let c : suc (k % 8) - 1 ≡ k % 8 = omega arith in
+        read-any L (k / 8 * n + k % 8) unread zeroNumber (omega (arith, square-cell-below))
+        ∙ rw (le-leb (suc (k / 8)) n (omega arith), le-leb (suc (k % 8)) n (omega arith), r, c)
+
 pub square-list : (n : ℕ) (L : List Number) → length L ≡ n * n → rowByRow n (squareOf n L) ≡ L
 unfolding squareOf
 square-list n L e = sym (row-by-row-list zeroNumber n (squareOf n L) L e (λ i j h g.

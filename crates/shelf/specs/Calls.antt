@@ -1,5 +1,5 @@
 -- What each call answers, and the shelf and the lent bytes after it, refused calls included (document 01, "Shelf calls").
-use Prim.Native.Nat.{ℕ}
+use Prim.Native.Nat.{ℕ, _≤_, _<_}
 use mathlib.Core.List.{List, [], _∷_, _++_}
 use lib.Dec.{ltb}
 use lib.ListN.{length, replicate}
@@ -71,6 +71,11 @@ keptBy s t x (bound.Refused w) = record { shelf = s; answer = bound.Refused w }
 
 abbrev pub kept : Shelf → ℕ → Proposed → Operated
 kept s t x = keptBy s t x (x .answer)
+
+-- what can be kept: a place of the shelf, at most eight rows
+abbrev pub Keepable : ℕ → ℕ → Bounded → Type 0
+Keepable t k (bound.Bound e) = (t < 8) × (k ≤ 8)
+Keepable t k (bound.Refused w) = Unit {0}
 
 -- TRANSPOSE
 unfoldable pub transposeProposal : Shelf → ℕ → ℕ → Proposed

@@ -2,8 +2,10 @@
 ghost use mathlib.Core.Path.{_≡_};
 ghost use Prim.Native.Nat.{_≤_, _<_};
 ghost use Rattle.shelf.specs.Shelf.{emptyShelf, Good};
+ghost use Rattle.shelf.specs.Calls.{changed, loadCall, dropCall, writeCall, bytesAfter, proposal, Keepable, kept, transposeProposal, transposeCall};
 use number::Number;
 
+mod judge; // judge.rt: the tests of the calls
 mod places; // places.rt: what a place holds, read and put
 mod tables; // tables.rt: the 64 numbers of a place
 
@@ -58,10 +60,92 @@ pub struct Operated {
 // All places empty.
 pub fn new() -> Shelf
     ensures { λ r. ⌜ r ≡ emptyShelf ⌝ }
+    ensures { λ r. ⌜ Good r ⌝ }
 {
     let zero = Number::zero();
     Shelf {
         numbers: [zero; 512],
         sizes: [0u8; 8],
+    }
+}
+
+// A call that was turned down hands the shelf back as it was.
+fn unchanged(shelf: Shelf, why: Refusal) -> Changed
+    ensures { λ r. ⌜ r ≡ changed (Verdict.Refused why) shelf shelf ⌝ }
+{
+    Changed {
+        shelf,
+        verdict: Verdict::Refused(why),
+    }
+}
+
+// Loads a place from bytes.
+pub fn load(shelf: Shelf, place: usize, bytes: &[u8]) -> Changed
+    requires { ⌜ Good shelf ⌝ }
+    ensures { λ r. ⌜ r ≡ loadCall shelf place (now (bytes .entry)) ⌝ }
+    ensures { λ r. ⌜ Good (r .shelf) ⌝ }
+{
+    let first = judge::target(shelf, place);
+    if let Verdict::Refused(why) = first {
+        return unchanged(shelf, why);
+    }
+    let read = codec::read_matrix(bytes);
+    let outcome = read.outcome;
+    match outcome {
+        codec::Outcome::Matrix { rows, next } => {
+            if next < bytes.len() {
+                return unchanged(
+                    shelf,
+                    Refusal {
+                        number: 7,
+                        offset: next,
+                    },
+                );
+            }
+            let numbers = read.numbers;
+            Changed {
+                shelf: places::with_table(shelf, place, rows, tables::spread(numbers, rows)),
+                verdict: Verdict::Accepted,
+            }
+        }
+        codec::Outcome::Fault { number, offset } => unchanged(shelf, Refusal { number, offset }),
+    }
+}
+
+// Empties a place, which can then be filled again.
+pub fn drop_place(shelf: Shelf, place: usize) -> Changed
+    requires { ⌜ Good shelf ⌝ }
+    ensures { λ r. ⌜ r ≡ dropCall shelf place ⌝ }
+    ensures { λ r. ⌜ Good (r .shelf) ⌝ }
+{
+    let first = judge::source(shelf, place);
+    if let Verdict::Refused(why) = first {
+        return unchanged(shelf, why);
+    }
+    Changed {
+        shelf: places::with_table(shelf, place, 0, tables::blank()),
+        verdict: Verdict::Accepted,
+    }
+}
+
+// Writes a place to lent bytes. No byte past the matrix's length is changed, and none where the call is turned down.
+pub fn write(shelf: Shelf, place: usize, out: &mut [u8]) -> Written
+    requires { ⌜ Good shelf ⌝ }
+    ensures { λ r. ⌜ r ≡ writeCall shelf place (now (out .entry)) ⌝ }
+    ensures { λ _. ⌜ now (out .exit) ≡ bytesAfter shelf place (now (out .entry)) ⌝ }
+{
+    let first = judge::source(shelf, place);
+    if let Verdict::Refused(why) = first {
+        return Written::Refused(why);
+    }
+    let n = places::rows_at(shelf, place);
+    let factors = tables::packed(places::table_at(shelf, place), n);
+    let written = codec::write_matrix(factors, n, out);
+    match written {
+        codec::Written::Bytes(length) => Written::Length(length),
+        codec::Written::TooShort => Written::Refused(Refusal {
+            number: 10,
+            offset: 0,
+        }),
     }
 }

@@ -1,24 +1,35 @@
 // The 64 numbers of a place: the factor of row i and column j stands at (i - 1) * 8 + (j - 1); a number that is no factor is zero.
 ghost use mathlib.Core.Path.{_≡_};
-ghost use Prim.Native.Nat.{_*_, _≤_, _<_};
-ghost use lib.ListN.{take};
+ghost use Prim.Native.Nat.{suc, _*_, _/_, _%_, _≤_, _<_};
+ghost use lib.ListN.{take, replicate};
+ghost use Rattle.number.specs.Number.{zeroNumber};
 ghost use Rattle.words.specs.Word.{exchanged};
 ghost use Rattle.words.specs.Operation.{rowByRow};
-ghost use Rattle.shelf.specs.Table.{factorsOf, tableOf, squareOf, outside};
+ghost use Rattle.shelf.specs.Table.{factorsOf, within, tableOf, squareOf, outside};
 use number::Number;
+
+// No factor.
+pub fn blank() -> [Number; 64]
+    ensures { λ r. ⌜ r ≡ replicate 64 zeroNumber ⌝ }
+{
+    let zero = Number::zero();
+    [zero; 64]
+}
 
 // What stands at k in the table of a matrix of n rows whose factors stand one behind the other, row by row.
 fn cell(numbers: [Number; 64], n: usize, k: usize) -> Number
     requires { ⌜ n ≤ 8 ⌝ }
+    ensures { λ r. ⌜ r ≡ within n (squareOf n numbers) (suc (k / 8)) (suc (k % 8)) ⌝ }
 {
     let i = k / 8;
     let j = k % 8;
-    if i < n {
-        if j < n {
-            return numbers[i * n + j];
-        }
+    if n <= i {
+        return Number::zero();
     }
-    Number::zero()
+    if n <= j {
+        return Number::zero();
+    }
+    numbers[i * n + j]
 }
 
 // That table.
