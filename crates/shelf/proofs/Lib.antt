@@ -6,4 +6,5 @@ pub mod Holding
 pub mod Verdicts
 pub mod Loading
 pub mod Dropping
+pub mod Proposals
 pub mod Writing

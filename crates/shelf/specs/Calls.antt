@@ -13,6 +13,7 @@ use Rattle.codec.specs.Matrix.{Reading, matrix, fault, matrixOf}
 use Rattle.shelf.specs.declared.Shelf.{Shelf}
 use Rattle.shelf.specs.declared.Verdict.{Verdict}
 use Rattle.shelf.specs.declared.Verdict.the-variants.{Accepted, Refused}
+use Rattle.shelf.specs.declared.Refusal.{Refusal}
 use Rattle.shelf.specs.declared.Changed.{Changed}
 use Rattle.shelf.specs.declared.Written.{Written}
 use Rattle.shelf.specs.declared.Written.the-variants as write
@@ -59,20 +60,23 @@ writeCall s p out = written (length (bytesAt s p)) (firstOf (writeTests s p out)
 unfoldable pub bytesAfter : Shelf → ℕ → List ℕ → List ℕ
 bytesAfter s p out = after (firstOf (writeTests s p out)) out (sets out 0 (bytesAt s p))
 
--- THE RESULT OF AN OPERATION before it is kept: k rows with factors b, and the bound; none where it was turned down
+-- THE RESULT OF AN OPERATION before it is kept: k rows with factors b, and the bound e; no rows where it was turned down
+abbrev pub refusal : Refusal → Proposed
+refusal w = record { answer = bound.Refused w; rows = 0; factors = replicate 64 zeroNumber }
+
 abbrev pub proposal : Verdict → ℕ → ℕ → Factors Number → Proposed
 proposal Accepted k e b = record { answer = bound.Bound e; rows = k; factors = tableOf k b }
-proposal (Refused w) k e b = record { answer = bound.Refused w; rows = 0; factors = replicate 64 zeroNumber }
+proposal (Refused w) k e b = refusal w
 
 -- and kept at place t
 abbrev pub keptBy : Shelf → ℕ → Proposed → Bounded → Operated
-keptBy s t x (bound.Bound k) = record { shelf = withTable s t (x .rows) (x .factors); answer = bound.Bound k }
+keptBy s t x (bound.Bound e) = record { shelf = withTable s t (x .rows) (x .factors); answer = bound.Bound e }
 keptBy s t x (bound.Refused w) = record { shelf = s; answer = bound.Refused w }
 
-abbrev pub kept : Shelf → ℕ → Proposed → Operated
+unfoldable pub kept : Shelf → ℕ → Proposed → Operated
 kept s t x = keptBy s t x (x .answer)
 
--- what can be kept: a place of the shelf, at most eight rows
+-- what can be kept: at a place of the shelf, at most eight rows
 abbrev pub Keepable : ℕ → ℕ → Bounded → Type 0
 Keepable t k (bound.Bound e) = (t < 8) × (k ≤ 8)
 Keepable t k (bound.Refused w) = Unit {0}

@@ -2,10 +2,11 @@
 ghost use mathlib.Core.Path.{_≡_};
 ghost use Prim.Native.Nat.{_≤_, _<_};
 ghost use Rattle.shelf.specs.Shelf.{emptyShelf, Good};
-ghost use Rattle.shelf.specs.Calls.{changed, loadCall, dropCall, writeCall, bytesAfter, proposal, Keepable, kept, transposeProposal, transposeCall};
+ghost use Rattle.shelf.specs.Calls.{changed, loadCall, dropCall, writeCall, bytesAfter, transposeCall};
 use number::Number;
 
 mod judge; // judge.rt: the tests of the calls
+mod operations; // operations.rt: their results, and how these are kept
 mod places; // places.rt: what a place holds, read and put
 mod tables; // tables.rt: the 64 numbers of a place
 
@@ -148,4 +149,13 @@ pub fn write(shelf: Shelf, place: usize, out: &mut [u8]) -> Written
             offset: 0,
         }),
     }
+}
+
+// The transpose of a place, to an empty place.
+pub fn transpose(shelf: Shelf, source: usize, target: usize) -> Operated
+    requires { ⌜ Good shelf ⌝ }
+    ensures { λ r. ⌜ r ≡ transposeCall shelf source target ⌝ }
+    ensures { λ r. ⌜ Good (r .shelf) ⌝ }
+{
+    operations::keep(shelf, target, operations::transposed(shelf, source, target))
 }
