@@ -1,4 +1,0 @@
--- Laws that belong to no one function.
-pub mod Reading
-pub mod RoundTrip
-pub mod Writing
