@@ -17,7 +17,7 @@ use Rattle.factors.specs.Demand.{Each}
 use Rattle.shelf.specs.declared.Shelf.{Shelf}
 use Rattle.shelf.specs.Table.{factorsOf, tableOf}
 use Rattle.shelf.specs.Shelf.{rowsAt, tableAt, factorsAt, withTable, holding, without, emptyShelf, Good}
-use Rattle.codec.proofs.Parts.{sets-append}
+use Rattle.writer.proofs.Parts.{sets-append}
 use Rattle.shelf.proofs.Filled.{unread, Filled, filled-all}
 use Rattle.shelf.proofs.Table.{table-length, factors-table, table-list, table-same, table-refactored, within-none}
 

@@ -6,8 +6,8 @@ use mathlib.Core.Path.{_≡_, refl, sym, ap, _∙_}
 use mathlib.Core.Bool.{Bool, true, false, cond}
 use mathlib.Core.List.{List, [], _∷_, _++_}
 use lib.Dec.{ltb}
-use lib.ListN.{length, getD, take}
-use lib.Seq.{sets, getD-take}
+use lib.ListN.{length, getD, take, drop, take-append-drop}
+use lib.Seq.{getD-take}
 use borrow.Author.Tests.{lt-ltb, le-ltb}
 use Rattle.group.specs.Group.{Bytes}
 use Rattle.number.specs.declared.Number.{Number}
@@ -17,11 +17,11 @@ use Rattle.words.specs.Operation.{rowByRow}
 use Rattle.minors.specs.Matrix.{In}
 use Rattle.factors.specs.Demand.{Each}
 use Rattle.factors.proofs.Demanded.{rowByRow-length}
-use Rattle.codec.specs.declared.Outcome.the-variants as outcome
-use Rattle.codec.specs.declared.Parsed.{Parsed}
-use Rattle.codec.specs.Encoding.{AllStored, Storable}
-use Rattle.codec.specs.Matrix.{Reading, matrix, fault, matrixOf, blank, parsed}
-use Rattle.codec.proofs.RoundTrip.{matrix-read, factors-held}
+use Rattle.reader.specs.declared.Outcome.the-variants as outcome
+use Rattle.reader.specs.declared.Parsed.{Parsed}
+use Rattle.writer.specs.Encoding.{encoding, AllStored, Storable}
+use Rattle.reader.specs.Matrix.{Reading, matrix, fault, matrixOf, parsed}
+use Rattle.reader.proofs.RoundTrip.{matrix-written, matrix-read, accepted}
 use Rattle.shelf.specs.declared.Shelf.{Shelf}
 use Rattle.shelf.specs.declared.Refusal.{Refusal}
 use Rattle.shelf.specs.declared.Verdict.{Verdict}
@@ -75,15 +75,17 @@ parsed-fault (fault j i) k o r e f =
     let ei : i ≡ o = cc in
     rw (ej, ei)
 
-pub square-placed : (n : ℕ) (L numbers : List Number) → Storable n L → numbers ≡ sets blank 0 L → tableOf n (squareOf n numbers) ≡ tableOf n (squareOf n L)
+pub parsed-matrix : (s : List ℕ) → Bytes s → (n q : ℕ) (r : Parsed) → r ≡ parsed (matrixOf s) → r .outcome ≡ outcome.Matrix n q → matrixOf s ≡ matrix n (take (n * n) (r .numbers)) q
+parsed-matrix s bs n q r e f =
+    let m = accepted s bs n q r e f in
+    let split : s ≡ encoding n (take (n * n) (r .numbers)) ++ drop q s = sym (take-append-drop q s) ∙ ap (λ (l : List ℕ). l ++ drop q s) (m .taken) in
+    ap matrixOf split ∙ matrix-written n (take (n * n) (r .numbers)) (drop q s) (m .storable) ∙ ap (matrix n (take (n * n) (r .numbers))) (sym (m .next))
+
+pub square-taken : (n : ℕ) (numbers : List Number) → tableOf n (squareOf n numbers) ≡ tableOf n (squareOf n (take (n * n) numbers))
 unfolding squareOf
-square-placed n L numbers w e =
-    let t : take (n * n) numbers ≡ L = ap (take (n * n)) e ∙ factors-held n L w in
-    table-same n (squareOf n numbers) (squareOf n L)
-    (λ i j x y.
-      let k = (i - 1) * n + (j - 1) in
-      let h : k < n * n = square-below n (i - 1) (j - 1) (omega arith) (omega arith) in
-      sym (getD-take (n * n) numbers k zeroNumber h) ∙ ap (λ (l : List Number). getD l k zeroNumber) t)
+square-taken n numbers =
+    table-same n (squareOf n numbers) (squareOf n (take (n * n) numbers))
+    (λ i j x y. sym (getD-take (n * n) numbers ((i - 1) * n + (j - 1)) zeroNumber (square-below n (i - 1) (j - 1) (omega arith) (omega arith))))
 
 -- THE RESULT, by what was found
 module _ (s : Shelf) (p : ℕ) (bytes : List ℕ) where

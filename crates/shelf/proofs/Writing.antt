@@ -9,9 +9,9 @@ use lib.ListN.{length, take}
 use lib.Seq.{sets}
 use Rattle.number.specs.declared.Number.{Number}
 use Rattle.words.specs.Operation.{rowByRow}
-use Rattle.codec.specs.declared.Written.{Written as Wrote}
-use Rattle.codec.specs.declared.Written.the-variants as wrote
-use Rattle.codec.specs.Encoding.{encoding, writtenOf, bytesAfter as codecAfter}
+use Rattle.writer.specs.declared.Written.{Written as Wrote}
+use Rattle.writer.specs.declared.Written.the-variants as wrote
+use Rattle.writer.specs.Encoding.{encoding, writtenOf, bytesAfter as writerAfter}
 use Rattle.shelf.specs.declared.Shelf.{Shelf}
 use Rattle.shelf.specs.declared.Refusal.{Refusal}
 use Rattle.shelf.specs.declared.Verdict.{Verdict}
@@ -68,12 +68,12 @@ module _ (s : Shelf) (p : ℕ) (out : List ℕ) where
     write-done f = by Accepted Accepted e (ap (λ (t : Bool). when t 10) f)
 
     -- and by what the writer of matrices answered
-    module _ (enc last : List ℕ) (same : enc ≡ bytesAt s p) (r : Wrote) (is : r ≡ writtenOf (length out) (length enc)) (left : last ≡ codecAfter out enc) where
+    module _ (enc last : List ℕ) (same : enc ≡ bytesAt s p) (r : Wrote) (is : r ≡ writtenOf (length out) (length enc)) (left : last ≡ writerAfter out enc) where
       is-bytes : r ≡ writtenOf (length out) (length (bytesAt s p))
       is-bytes = is ∙ ap (λ (b : List ℕ). writtenOf (length out) (length b)) same
 
       left-by : (t : Bool) → short ≡ t → last ≡ cond t out (sets out 0 (bytesAt s p))
-      left-by t f = left ∙ ap (codecAfter out) same ∙ ap (λ (u : Bool). cond u out (sets out 0 (bytesAt s p))) f
+      left-by t f = left ∙ ap (writerAfter out) same ∙ ap (λ (u : Bool). cond u out (sets out 0 (bytesAt s p))) f
 
       pub write-wrote : (k : ℕ) → r ≡ wrote.Bytes k → (write.Length k ≡ writeCall s p out) × (last ≡ bytesAfter s p out)
       write-wrote k f =

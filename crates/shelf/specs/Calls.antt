@@ -8,8 +8,8 @@ use Rattle.number.specs.declared.Number.{Number}
 use Rattle.number.specs.Number.{zeroNumber}
 use Rattle.words.specs.Word.{Factors, exchanged}
 use Rattle.words.specs.Operation.{rowByRow}
-use Rattle.codec.specs.Encoding.{encoding}
-use Rattle.codec.specs.Matrix.{Reading, matrix, fault, matrixOf}
+use Rattle.writer.specs.Encoding.{encoding}
+use Rattle.reader.specs.Matrix.{Reading, matrix, fault, matrixOf}
 use Rattle.shelf.specs.declared.Shelf.{Shelf}
 use Rattle.shelf.specs.declared.Verdict.{Verdict}
 use Rattle.shelf.specs.declared.Verdict.the-variants.{Accepted, Refused}

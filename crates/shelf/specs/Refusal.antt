@@ -6,7 +6,7 @@ use mathlib.Core.List.{List, [], _∷_, _++_}
 use lib.Dec.{ltb, eqb}
 use lib.ListN.{length}
 use Rattle.rowset.specs.Mask.{maskCount, maskBeyond}
-use Rattle.codec.specs.Matrix.{Reading, matrix, fault}
+use Rattle.reader.specs.Matrix.{Reading, matrix, fault}
 use Rattle.shelf.specs.declared.Shelf.{Shelf}
 use Rattle.shelf.specs.declared.Verdict.{Verdict}
 use Rattle.shelf.specs.declared.Verdict.the-variants.{Accepted, Refused}

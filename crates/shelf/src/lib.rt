@@ -90,10 +90,10 @@ pub fn load(shelf: Shelf, place: usize, bytes: &[u8]) -> Changed
     if let Verdict::Refused(why) = first {
         return unchanged(shelf, why);
     }
-    let read = codec::read_matrix(bytes);
+    let read = reader::read_matrix(bytes);
     let outcome = read.outcome;
     match outcome {
-        codec::Outcome::Matrix { rows, next } => {
+        reader::Outcome::Matrix { rows, next } => {
             if next < bytes.len() {
                 return unchanged(
                     shelf,
@@ -109,7 +109,7 @@ pub fn load(shelf: Shelf, place: usize, bytes: &[u8]) -> Changed
                 verdict: Verdict::Accepted,
             }
         }
-        codec::Outcome::Fault { number, offset } => unchanged(shelf, Refusal { number, offset }),
+        reader::Outcome::Fault { number, offset } => unchanged(shelf, Refusal { number, offset }),
     }
 }
 
@@ -141,10 +141,10 @@ pub fn write(shelf: Shelf, place: usize, out: &mut [u8]) -> Written
     }
     let n = places::rows_at(shelf, place);
     let factors = tables::packed(places::table_at(shelf, place), n);
-    let written = codec::write_matrix(factors, n, out);
+    let written = writer::write_matrix(factors, n, out);
     match written {
-        codec::Written::Bytes(length) => Written::Length(length),
-        codec::Written::TooShort => Written::Refused(Refusal {
+        writer::Written::Bytes(length) => Written::Length(length),
+        writer::Written::TooShort => Written::Refused(Refusal {
             number: 10,
             offset: 0,
         }),

@@ -1,26 +1,24 @@
-use Rattle.codec.proofs.RoundTrip.{matrix-read, Held}
 use Rattle.shelf.specs.declared.Verdict.the-variants.{Accepted}
 use Rattle.shelf.specs.declared.Shelf.{Shelf}
 use Rattle.shelf.specs.Shelf.{withTable}
 use Rattle.shelf.specs.Calls.{changed}
 use Rattle.shelf.specs.Refusal.{firstOf, targetTests}
-use Prim.Native.Nat.{_<_, _≤_}
+use Prim.Native.Nat.{_*_, _<_, _≤_}
 use native.Mathlib.Omega.{arith}
 use mathlib.Core.Path.{_≡_, sym, ap, _∙_}
 use denote.Ref.{now}
-use lib.ListN.{length}
+use lib.ListN.{length, take}
 use Rattle.group.specs.Group.{Bytes}
-use Rattle.codec.specs.declared.Outcome.the-variants.{Matrix}
-use Rattle.codec.specs.Matrix.{OutcomeInside, matrixOf}
-use Rattle.codec.proofs.RoundTrip.{parsed-matrix}
+use Rattle.reader.specs.declared.Outcome.the-variants.{Matrix}
+use Rattle.reader.specs.Matrix.{OutcomeInside, matrix, matrixOf}
 use Rattle.shelf.proofs.Verdicts.{target-accepted}
-use Rattle.shelf.proofs.Loading.{parsed-fault, square-placed, load-turned, load-fault, load-behind, load-done, load-answered}
+use Rattle.shelf.proofs.Loading.{parsed-fault, parsed-matrix, square-taken, load-turned, load-fault, load-behind, load-done, load-answered}
 use borrow.Author.Needs.{needs}
 use Rattle.shelf.proofs.load.Statement.{statement}
 use Rattle.shelf.proofs.load.Tie as tie
 use Rattle.shelf.proofs.load.Reads as reads
 use Rattle.shelf.proofs.load.Lts as lts
-use Rattle.codec.proofs.read_matrix.Reads as read-matrix-reads
+use Rattle.reader.proofs.read_matrix.Reads as read-matrix-reads
 use Rattle.shelf.proofs.judge.target.Reads as target-reads
 use Rattle.shelf.proofs.places.with_table.Reads as with-table-reads
 use Rattle.shelf.proofs.tables.spread.Reads as spread-reads
@@ -34,9 +32,9 @@ accepted : (c : tie.After-enum-told) → firstOf (targetTests (c .before .before
 accepted c = sym (c .before .before .target .ensures) ∙ c .enum-told .given .1
 
 -- the matrix that was read
-found : (c : tie.After-outcome) →
-    Held (matrixOf (now (c .before .before .before .before .before .before .before .args .bytes))) (c .outcome .given .0 .0) (c .outcome .given .0 .1 .0) (c .before .before .read-matrix .result .numbers)
-found c = parsed-matrix _ _ _ _ (c .before .before .read-matrix .ensures .0) (c .outcome .given .1)
+found : (c : tie.After-outcome) → matrixOf (now (c .before .before .before .before .before .before .before .args .bytes))
+    ≡ matrix (c .outcome .given .0 .0) (take (c .outcome .given .0 .0 * c .outcome .given .0 .0) (c .before .before .read-matrix .result .numbers)) (c .outcome .given .0 .1 .0)
+found c = parsed-matrix _ (bytes-in (c .before .before .before .before .before .before)) _ _ _ (c .before .before .read-matrix .ensures .0) (c .outcome .given .1)
 
 rows-few : (c : tie.After-outcome) → c .outcome .given .0 .0 ≤ 8
 rows-few c =
@@ -85,9 +83,8 @@ returns-2 c =
     let read = c .before .before .before .before .before in
     let entry = read .before .before .before .before in
     let a = entry .before .args in
-    let h = found (c .before .before .before) in
     load-answered (a .shelf) (a .place) (now (a .bytes)) (entry .before .pre) (bytes-in entry) _
-    (c .unchanged2 .ensures ∙ load-behind (a .shelf) (a .place) (now (a .bytes)) (accepted (read .before)) _ (h .list) _ (h .found) (c .before .if1 .taken))
+    (c .unchanged2 .ensures ∙ load-behind (a .shelf) (a .place) (now (a .bytes)) (accepted (read .before)) _ _ _ (found (c .before .before .before)) (c .before .if1 .taken))
 
 -- src/lib.rt:107:63
 spread-requires : tie.Need-spread-requires
@@ -112,12 +109,10 @@ returns-3 c =
     let read = o .before .before in
     let entry = read .before .before .before .before in
     let a = entry .before .args in
-    let h = found o in
-    let st = matrix-read (now (a .bytes)) (bytes-in entry) _ (h .list) _ (h .found) .storable in
-    let t = c .before .spread .ensures ∙ square-placed _ (h .list) _ st (h .placed) in
+    let t = c .before .spread .ensures ∙ square-taken _ _ in
     load-answered (a .shelf) (a .place) (now (a .bytes)) (entry .before .pre) (bytes-in entry) _
     (ap (changed Accepted (a .shelf)) (c .with-table .ensures ∙ ap (withTable (a .shelf) (a .place) _) t)
-    ∙ load-done (a .shelf) (a .place) (now (a .bytes)) (accepted (read .before)) _ (h .list) _ (h .found) (c .before .before .before .if1 .left))
+    ∙ load-done (a .shelf) (a .place) (now (a .bytes)) (accepted (read .before)) _ _ _ (found o) (c .before .before .before .if1 .left))
 
 -- src/lib.rt:83:1
 returns-4 : tie.Need-returns-4

@@ -1,6 +1,6 @@
 use Prim.Native.Nat.{_*_}
 use lib.ListN.{take}
-use Rattle.codec.specs.Encoding.{encoding}
+use Rattle.writer.specs.Encoding.{encoding}
 use Rattle.shelf.specs.Calls.{bytesAt}
 use Rattle.shelf.proofs.Writing.{write-wrote, write-no-room}
 use Rattle.shelf.specs.Shelf.{Good}
@@ -16,7 +16,7 @@ use Rattle.shelf.proofs.write.Statement.{statement}
 use Rattle.shelf.proofs.write.Tie as tie
 use Rattle.shelf.proofs.write.Reads as reads
 use Rattle.shelf.proofs.write.Lts as lts
-use Rattle.codec.proofs.write_matrix.Reads as write-matrix-reads
+use Rattle.writer.proofs.write_matrix.Reads as write-matrix-reads
 use Rattle.shelf.proofs.judge.source.Reads as source-reads
 use Rattle.shelf.proofs.places.rows_at.Reads as rows-at-reads
 use Rattle.shelf.proofs.places.table_at.Reads as table-at-reads

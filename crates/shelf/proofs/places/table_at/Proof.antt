@@ -1,4 +1,4 @@
-use Rattle.codec.proofs.Parts.{length-mapped}
+use Rattle.writer.proofs.Parts.{length-mapped}
 use Prim.Native.Nat.{ℕ, _+_, _*_, _-_}
 use mathlib.Core.Path.{refl}
 use lib.ListN.{getD}
