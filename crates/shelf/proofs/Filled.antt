@@ -35,8 +35,8 @@ module _ {A : Type 0} where
           long = length-set t k v ∙ w .long;
           each = λ i g.
               elim (ℕ-discrete i k) [
-                yes q ↦ rw q (getD-set-same t k v z (omega (arith, w .long)) ∙ e)
-              | no q ↦ getD-set-other t k i v z q ∙ w .each i (omega arith)
+                | yes q ↦ rw q (getD-set-same t k v z (omega (arith, w .long)) ∙ e)
+                | no q ↦ getD-set-other t k i v z q ∙ w .each i (omega arith)
               ];
         }
 
@@ -48,5 +48,5 @@ module _ {A : Type 0} where
         let m : length (take k t) ≡ k = length-take-le k t (omega (arith, w .few, w .long)) in
         ext-getD z (take k t) l (m ∙ sym e)
         (λ i q.
-          let h : i < k = omega arith in
-          getD-take k t i z h ∙ w .each i h ∙ sym (g i h))
+        let h : i < k = omega arith in
+        getD-take k t i z h ∙ w .each i h ∙ sym (g i h))

@@ -67,11 +67,11 @@ module _ (s : Shelf) (p n : ℕ) (t : List Number) (small : p < 8) (eight : leng
   table-kept q h =
       ext-getD zeroNumber (take 64 (drop (q * 64) (sets (s .numbers) (p * 64) t))) (take 64 (drop (q * 64) (s .numbers))) (rw (length-take, length-take, length-drop, length-drop, length-sets))
       (λ k g.
-        let l : k < 64 = omega (arith, length-take 64 (drop (q * 64) (sets (s .numbers) (p * 64) t))) in
-        getD-take 64 (drop (q * 64) (sets (s .numbers) (p * 64) t)) k zeroNumber l
-        ∙ getD-drop (q * 64) (sets (s .numbers) (p * 64) t) k zeroNumber
-        ∙ getD-sets-other (s .numbers) (p * 64) t (q * 64 + k) zeroNumber (λ j i e. omega arith)
-        ∙ sym (getD-take 64 (drop (q * 64) (s .numbers)) k zeroNumber l ∙ getD-drop (q * 64) (s .numbers) k zeroNumber))
+      let l : k < 64 = omega (arith, length-take 64 (drop (q * 64) (sets (s .numbers) (p * 64) t))) in
+      getD-take 64 (drop (q * 64) (sets (s .numbers) (p * 64) t)) k zeroNumber l
+      ∙ getD-drop (q * 64) (sets (s .numbers) (p * 64) t) k zeroNumber
+      ∙ getD-sets-other (s .numbers) (p * 64) t (q * 64 + k) zeroNumber (λ j i e. omega arith)
+      ∙ sym (getD-take 64 (drop (q * 64) (s .numbers)) k zeroNumber l ∙ getD-drop (q * 64) (s .numbers) k zeroNumber))
 
   -- what was put last counts
   pub put-put : (m : ℕ) (u : List Number) → length u ≡ 64 → withTable (withTable s p m u) p n t ≡ withTable s p n t
@@ -108,12 +108,12 @@ same-places s t g h e f =
     shelf-fields s t
     (ext-getD zeroNumber (s .numbers) (t .numbers) (g .numbers ∙ sym (h .numbers))
     (λ k l.
-      let q : k / 64 < 8 = div-lt-iff-lt-mul {k = 64} {x = k} {y = 8} (omega arith) .1 (omega (arith, g .numbers)) in
-      let r : k % 64 < 64 = mod-lt k (omega arith) in
-      let d : k / 64 * 64 + k % 64 ≡ k = div-add-mod' k 64 in
-      let here : getD (s .numbers) (k / 64 * 64 + k % 64) zeroNumber ≡ getD (t .numbers) (k / 64 * 64 + k % 64) zeroNumber =
-          sym (number-at s (k / 64) (k % 64) r) ∙ ap (λ (u : List Number). getD u (k % 64) zeroNumber) (f (k / 64) q) ∙ number-at t (k / 64) (k % 64) r in
-      rw d at here))
+    let q : k / 64 < 8 = div-lt-iff-lt-mul {k = 64} {x = k} {y = 8} (omega arith) .1 (omega (arith, g .numbers)) in
+    let r : k % 64 < 64 = mod-lt k (omega arith) in
+    let d : k / 64 * 64 + k % 64 ≡ k = div-add-mod' k 64 in
+    let here : getD (s .numbers) (k / 64 * 64 + k % 64) zeroNumber ≡ getD (t .numbers) (k / 64 * 64 + k % 64) zeroNumber =
+    sym (number-at s (k / 64) (k % 64) r) ∙ ap (λ (u : List Number). getD u (k % 64) zeroNumber) (f (k / 64) q) ∙ number-at t (k / 64) (k % 64) r in
+    rw d at here))
     (ext-getD 0 (s .sizes) (t .sizes) (g .places ∙ sym (h .places)) (λ p l. e p (omega (arith, g .places))))
 
 -- A SHELF IS GIVEN BY WHAT IT HOLDS
@@ -122,10 +122,10 @@ pub shelf-determined : (s t : Shelf) → Good s → Good t → ((p : ℕ) → p 
 shelf-determined s t g h e f =
     same-places s t g h e
     (λ p l.
-      g .rest p l
-      ∙ table-same (rowsAt s p) (factorsAt s p) (factorsAt t p) (f p l)
-      ∙ ap (λ (n : ℕ). tableOf n (factorsAt t p)) (e p l)
-      ∙ sym (h .rest p l))
+    g .rest p l
+    ∙ table-same (rowsAt s p) (factorsAt s p) (factorsAt t p) (f p l)
+    ∙ ap (λ (n : ℕ). tableOf n (factorsAt t p)) (e p l)
+    ∙ sym (h .rest p l))
 
 -- THE SHELF STAYS GOOD
 module _ (s : Shelf) (g : Good s) (p n : ℕ) (b : Factors Number) (small : p < 8) where
@@ -148,9 +148,9 @@ module _ (s : Shelf) (g : Good s) (p n : ℕ) (b : Factors Number) (small : p < 
   place-by : (P : ℕ → List Number → Type 0) → P n (tableOf n b) → ((q : ℕ) → q < 8 → P (rowsAt s q) (tableAt s q)) → (q : ℕ) → q < 8 → P (rowsAt new q) (tableAt new q)
   place-by P h k q l =
       elim (ℕ-discrete q p) [
-        yes e ↦ rw (e, rows-held, table-held) h
-      | no e ↦
-        rw (rows-kept s p n (tableOf n b) small (g .places) (g .numbers) long q e, table-kept s p n (tableOf n b) small (g .places) (g .numbers) long q e) (k q l)
+        | yes e ↦ rw (e, rows-held, table-held) h
+        | no e ↦
+            rw (rows-kept s p n (tableOf n b) small (g .places) (g .numbers) long q e, table-kept s p n (tableOf n b) small (g .places) (g .numbers) long q e) (k q l)
       ]
 
   pub good-holding : n ≤ 8 → Each Stored n b → Good new
@@ -175,15 +175,15 @@ put-held s g p small =
     let l : length t ≡ 64 = table-length n (factorsAt s p) in
     same-places (holding s p n (factorsAt s p)) s (good-holding s g p n (factorsAt s p) small (g .few p small) (g .stored p small)) g
     (λ q h.
-      elim (ℕ-discrete q p) [
-        yes e ↦ rw e (rows-held s g p n (factorsAt s p) small)
+    elim (ℕ-discrete q p) [
+      | yes e ↦ rw e (rows-held s g p n (factorsAt s p) small)
       | no e ↦ rows-kept s p n t small (g .places) (g .numbers) l q e
-      ])
+    ])
     (λ q h.
-      elim (ℕ-discrete q p) [
-        yes e ↦ rw e (table-held s g p n (factorsAt s p) small ∙ sym (g .rest p small))
+    elim (ℕ-discrete q p) [
+      | yes e ↦ rw e (table-held s g p n (factorsAt s p) small ∙ sym (g .rest p small))
       | no e ↦ table-kept s p n t small (g .places) (g .numbers) l q e
-      ])
+    ])
 
 -- ALL PLACES EMPTY
 module _ (p : ℕ) (small : p < 8) where

@@ -59,8 +59,8 @@ stored-rows n b some few h =
       square = rowByRow-length n b;
       stored = all-stored-list (rowByRow n b)
           (λ k l.
-            let m : k < n * n = omega (arith, rowByRow-length n b) in
-            rw (row-by-row-get zeroNumber n some k m b) (h (suc (k / n)) (suc (k % n)) (omega arith, row-below zeroNumber n some k m) (omega arith, mod-lt k some)));
+          let m : k < n * n = omega (arith, rowByRow-length n b) in
+          rw (row-by-row-get zeroNumber n some k m b) (h (suc (k / n)) (suc (k % n)) (omega arith, row-below zeroNumber n some k m) (omega arith, mod-lt k some)));
     }
 
 -- WHAT THE READER ANSWERS: a fault; a matrix, whose factors stand at the start of 64 numbers
@@ -139,8 +139,8 @@ module _ (s : Shelf) (p : ℕ) (bytes : List ℕ) where
     load-good =
         changed-good (firstOf (loadTests s p bytes))
         (λ e.
-          let t = target-accepted s p (accepted-left (firstOf (targetTests s p)) (ofReading bytes (matrixOf bytes)) (sym load-verdict ∙ e)) in
-          read-good (t .small) (matrixOf bytes) refl)
+        let t = target-accepted s p (accepted-left (firstOf (targetTests s p)) (ofReading bytes (matrixOf bytes)) (sym load-verdict ∙ e)) in
+        read-good (t .small) (matrixOf bytes) refl)
 
     pub load-answered : (x : Changed) → x ≡ loadCall s p bytes → (x ≡ loadCall s p bytes) × Good (x .shelf)
     load-answered x e = (e, rw e load-good)

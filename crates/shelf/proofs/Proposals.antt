@@ -65,7 +65,7 @@ module _ (s : Shelf) (p t : ℕ) where
     transpose-done n u v e f g h =
         let a = one-accepted s p t e in
         let x : v ≡ tableOf (rowsAt s p) (exchanged (factorsAt s p)) =
-            h ∙ ap (λ (l : List Number). tableOf 8 (exchanged (factorsOf l))) (g ∙ good .rest p (a .0 .small)) ∙ table-exchanged (rowsAt s p) (factorsAt s p) in
+        h ∙ ap (λ (l : List Number). tableOf 8 (exchanged (factorsOf l))) (g ∙ good .rest p (a .0 .small)) ∙ table-exchanged (rowsAt s p) (factorsAt s p) in
         ap₂ (λ (m : ℕ) (l : List Number). let r : Proposed = record { answer = bound.Bound 0; rows = m; factors = l } in r) f x
         ∙ ap (λ (w : Verdict). proposal w (rowsAt s p) 0 (exchanged (factorsAt s p))) (sym e)
 

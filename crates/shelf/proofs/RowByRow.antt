@@ -64,8 +64,8 @@ module _ {A : Type 0} (z : A) where
   row-by-row-list (suc k) b l e h =
       ext-getD z l (rowByRow (suc k) b) (e ∙ sym (rowByRow-length (suc k) b))
       (λ x q.
-        let few : x < suc k * suc k = omega arith in
-        let some : 0 < suc k = omega arith in
-        ap (λ (i : ℕ). getD l i z) (sym (div-add-mod' x (suc k)))
-        ∙ h (x / suc k) (x % suc k) (row-below (suc k) some x few) (mod-lt x some)
-        ∙ sym (row-by-row-get (suc k) some x few b))
+      let few : x < suc k * suc k = omega arith in
+      let some : 0 < suc k = omega arith in
+      ap (λ (i : ℕ). getD l i z) (sym (div-add-mod' x (suc k)))
+      ∙ h (x / suc k) (x % suc k) (row-below (suc k) some x few) (mod-lt x some)
+      ∙ sym (row-by-row-get (suc k) some x few b))

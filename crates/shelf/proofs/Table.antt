@@ -101,9 +101,9 @@ module _ (n : ℕ) (b : Factors Number) where
   table-exchanged =
       table-list n (exchanged b) zeroNumber (tableOf 8 (exchanged (factorsOf (tableOf n b)))) (table-length 8 (exchanged (factorsOf (tableOf n b))))
       (λ i j h g.
-        table-whole (exchanged (factorsOf (tableOf n b))) i j h g
-        ∙ factors-within n b (suc j) (suc i) (omega arith, omega arith) (omega arith, omega arith)
-        ∙ and-swapped (leb (suc j) n) (leb (suc i) n) (b (suc j) (suc i)))
+      table-whole (exchanged (factorsOf (tableOf n b))) i j h g
+      ∙ factors-within n b (suc j) (suc i) (omega arith, omega arith) (omega arith, omega arith)
+      ∙ and-swapped (leb (suc j) n) (leb (suc i) n) (b (suc j) (suc i)))
 
 -- a cell of the exchange
 pub exchanged-cell : (t : List Number) (k : ℕ) → length t ≡ 64 → k < 64 → getD t (k % 8 * 8 + k / 8) unread ≡ cellAt 8 (exchanged (factorsOf t)) k
@@ -141,8 +141,8 @@ module _ (n : ℕ) (t : List Number) (few : n ≤ 8) where
       rw e
       (filled-part zeroNumber (packedAt n t) 64 w (rowByRow n (factorsOf t)) (rowByRow-length n (factorsOf t) ∙ e)
       (λ i l.
-        let b : i < n * n = omega arith in
-        row-by-row-get zeroNumber n (some-rows n i b) i b (factorsOf t)))
+      let b : i < n * n = omega arith in
+      row-by-row-get zeroNumber n (some-rows n i b) i b (factorsOf t)))
 
 -- and into a table
 module _ (n : ℕ) (L : List Number) (k : ℕ) where
@@ -167,9 +167,9 @@ module _ (n : ℕ) (L : List Number) (k : ℕ) where
 pub square-list : (n : ℕ) (L : List Number) → length L ≡ n * n → rowByRow n (squareOf n L) ≡ L
 unfolding squareOf
 square-list n L e = sym (row-by-row-list zeroNumber n (squareOf n L) L e (λ i j h g.
-  let r : suc i - 1 ≡ i = omega arith in
-  let c : suc j - 1 ≡ j = omega arith in
-  rw (r, c)))
+    let r : suc i - 1 ≡ i = omega arith in
+    let c : suc j - 1 ≡ j = omega arith in
+    rw (r, c)))
 
 pub square-factors : (n : ℕ) (b : Factors Number) (i j : ℕ) → In n i → In n j → squareOf n (rowByRow n b) i j ≡ b i j
 unfolding squareOf
@@ -233,22 +233,22 @@ module _ (n : ℕ) (b : Factors Number) (few : n ≤ 8) where
   rows-ranged e i j h g =
       ap inRange (sym (square-factors n b i j h g))
       ∙ outside-none zeroNumber (rowByRow n b) e ((i - 1) * n + (j - 1))
-        (omega (arith, rowByRow-length n b, square-below n (i - 1) (j - 1) (index n i h .1) (index n j g .1)))
+      (omega (arith, rowByRow-length n b, square-below n (i - 1) (j - 1) (index n i h .1) (index n j g .1)))
 
   pub outside-table : outside (tableOf n b) ≡ outside (rowByRow n b)
   unfolding tableOf
   outside-table =
       both-false (outside (tableOf n b)) (outside (rowByRow n b))
       (λ e.
-        outside-all zeroNumber (rowByRow n b)
-        (λ x h.
-          let l : x < n * n = omega (arith, rowByRow-length n b) in
-          let some : 0 < n = some-rows n x l in
-          ap inRange (row-by-row-get zeroNumber n some x l b)
-          ∙ factors-ranged e (suc (x / n)) (suc (x % n)) (omega arith, row-below zeroNumber n some x l) (omega arith, mod-lt x some)))
+      outside-all zeroNumber (rowByRow n b)
+      (λ x h.
+      let l : x < n * n = omega (arith, rowByRow-length n b) in
+      let some : 0 < n = some-rows n x l in
+      ap inRange (row-by-row-get zeroNumber n some x l b)
+      ∙ factors-ranged e (suc (x / n)) (suc (x % n)) (omega arith, row-below zeroNumber n some x l) (omega arith, mod-lt x some)))
       (λ e.
-        outside-all zeroNumber (tableOf n b)
-        (λ x h.
-          let l : x < 8 * 8 = omega (arith, table-length n b) in
-          ap inRange (row-by-row-get zeroNumber 8 (omega arith) x l (within n b))
-          ∙ within-ranged (rows-ranged e) (suc (x / 8)) (suc (x % 8)) (omega arith) (omega arith) (leb (suc (x / 8)) n) (leb (suc (x % 8)) n) refl refl))
+      outside-all zeroNumber (tableOf n b)
+      (λ x h.
+      let l : x < 8 * 8 = omega (arith, table-length n b) in
+      ap inRange (row-by-row-get zeroNumber 8 (omega arith) x l (within n b))
+      ∙ within-ranged (rows-ranged e) (suc (x / 8)) (suc (x % 8)) (omega arith) (omega arith) (leb (suc (x / 8)) n) (leb (suc (x % 8)) n) refl refl))

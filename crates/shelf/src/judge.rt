@@ -1,10 +1,10 @@
 // The tests of the calls, in document 01's order: the first condition that holds turns a call down.
 ghost use mathlib.Core.Path.{_≡_};
 ghost use Rattle.shelf.specs.Refusal.{firstOf, refused, sourceTests, targetTests, oneSource, twoSources};
-use crate::places;
 use crate::Refusal;
 use crate::Shelf;
 use crate::Verdict;
+use crate::places;
 
 // A number with no offset.
 pub fn refused(number: u8) -> Verdict

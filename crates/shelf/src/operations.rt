@@ -2,15 +2,15 @@
 ghost use mathlib.Core.Path.{_≡_};
 ghost use Rattle.shelf.specs.Shelf.{Good};
 ghost use Rattle.shelf.specs.Calls.{Keepable, refusal, kept, transposeProposal};
-use crate::judge;
-use crate::places;
-use crate::tables;
 use crate::Bounded;
 use crate::Operated;
 use crate::Proposed;
 use crate::Refusal;
 use crate::Shelf;
 use crate::Verdict;
+use crate::judge;
+use crate::places;
+use crate::tables;
 
 // No result.
 fn refusal(why: Refusal) -> Proposed

@@ -33,7 +33,7 @@ unchanged-requires c κs = search needs
 
 -- src/lib.rt:123:9
 returns : tie.Need-returns
-returns c = 
+returns c =
     let first = c .before .before in
     let entry = first .before .before .before in
     drop-answered _ _ (entry .pre) _ (c .unchanged .ensures ∙ drop-turned _ _ _ (sym (first .before .before .source .ensures) ∙ first .first .given .1))
@@ -51,7 +51,7 @@ with-table-requires c κs = (source-accepted _ _ (accepted (c .before)) .small, 
 
 -- src/lib.rt:116:1
 returns-2 : tie.Need-returns-2
-returns-2 c = 
+returns-2 c =
     let told = c .before .before in
     let entry = told .before .before .before in
     let a = entry .args in

@@ -55,7 +55,7 @@ unchanged-requires c κs = search needs
 
 -- src/lib.rt:90:9
 returns : tie.Need-returns
-returns c = 
+returns c =
     let first = c .before .before in
     let entry = first .before .before .before in
     let a = entry .before .args in
@@ -79,7 +79,7 @@ unchanged-requires-2 c κs = search needs
 
 -- src/lib.rt:97:17
 returns-2 : tie.Need-returns-2
-returns-2 c = 
+returns-2 c =
     let read = c .before .before .before .before .before in
     let entry = read .before .before .before .before in
     let a = entry .before .args in
@@ -104,7 +104,7 @@ unchanged-requires-3 c κs = search needs
 
 -- src/lib.rt:83:1
 returns-3 : tie.Need-returns-3
-returns-3 c = 
+returns-3 c =
     let o = c .before .before .before .before .before in
     let read = o .before .before in
     let entry = read .before .before .before .before in
@@ -116,7 +116,7 @@ returns-3 c =
 
 -- src/lib.rt:83:1
 returns-4 : tie.Need-returns-4
-returns-4 c = 
+returns-4 c =
     let read = c .before .before .before .before in
     let entry = read .before .before .before .before in
     let a = entry .before .args in

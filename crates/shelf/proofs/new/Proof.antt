@@ -24,7 +24,7 @@ zero-requires c κs = search needs
 -- src/lib.rt:61:1
 returns : tie.Need-returns
 unfolding emptyShelf
-returns c = 
+returns c =
     let e = ap filled (c .zero .ensures) in
     (e, subst Good (sym e) good-empty)
 

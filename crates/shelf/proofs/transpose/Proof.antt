@@ -21,7 +21,7 @@ keep-requires c κs = search needs
 
 -- src/lib.rt:155:1
 returns : tie.Need-returns
-returns c = 
+returns c =
     let a = c .before .before .args in
     let e = c .keep .ensures ∙ ap (kept (a .shelf) (a .target)) (c .before .transposed .ensures .0) in
     (e, subst (λ (x : Operated). Good (x .shelf)) (sym e) (transpose-good _ _ _ (c .before .before .pre)))

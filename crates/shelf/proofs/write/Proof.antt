@@ -40,7 +40,7 @@ enum-known-first c = search needs
 
 -- src/lib.rt:139:9
 returns : tie.Need-returns
-returns c = 
+returns c =
     let first = c .before in
     let a = first .before .before .before .before .args in
     write-turned (a .shelf) (a .place) (now (a .out)) _ (sym (first .before .before .source .ensures) ∙ first .first .given .1)
@@ -58,7 +58,7 @@ table-at-requires c κs = source-accepted _ _ (accepted (c .before)) .small
 
 -- src/lib.rt:142:9
 packed-requires : tie.Need-packed-requires
-packed-requires c κs = 
+packed-requires c κs =
     let told = c .before .before in
     rw (c .before .rows-at .ensures) (told .before .before .before .before .pre .few _ (source-accepted _ _ (accepted told) .small))
 
@@ -80,7 +80,7 @@ same-length c = search needs
 
 -- src/lib.rt:132:1
 returns-2 : tie.Need-returns-2
-returns-2 c = 
+returns-2 c =
     let m = c .before .before .before .before .before in
     let told = m .before .before .before .before .before in
     let entry = told .before .before .before .before in
@@ -93,7 +93,7 @@ same-length-2 c = search needs
 
 -- src/lib.rt:132:1
 returns-3 : tie.Need-returns-3
-returns-3 c = 
+returns-3 c =
     let m = c .before .before .before .before in
     let told = m .before .before .before .before .before in
     let entry = told .before .before .before .before in

@@ -25,7 +25,7 @@ enum-known-answer-2 c = search needs
 
 -- src/operations.rt:28:1
 returns : tie.Need-returns
-returns c = 
+returns c =
     let known = c .before .before .before in
     let a = known .before .before .args in
     kept-by (a .shelf) (a .target) (a .result) _ (known .answer .given .1) _
@@ -33,7 +33,7 @@ returns c =
 
 -- src/operations.rt:28:1
 returns-2 : tie.Need-returns-2
-returns-2 c = 
+returns-2 c =
     let a = c .before .before .before .args in
     kept-by (a .shelf) (a .target) (a .result) _ (c .before .answer2 .given .1) _ refl
 

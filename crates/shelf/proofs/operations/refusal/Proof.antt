@@ -16,7 +16,7 @@ blank-requires c κs = search needs
 
 -- src/operations.rt:16:1
 returns : tie.Need-returns
-returns c = 
+returns c =
     ap (λ (l : List Number). let r : Proposed = record { answer = Refused (c .before .args .why); rows = 0; factors = l } in r) (c .blank .ensures)
 
 pub refusal-spec : {M : Type 1} → statement M

@@ -37,7 +37,7 @@ refusal-requires c κs = search needs
 
 -- src/operations.rt:56:9
 returns : tie.Need-returns
-returns c = 
+returns c =
     let first = c .before .before in
     let entry = first .before .before .before in
     transpose-answered _ _ _ (entry .pre) _ (c .refusal .ensures ∙ transpose-turned _ _ _ _ (sym (first .before .before .one-source .ensures) ∙ first .first .given .1))
@@ -59,7 +59,7 @@ exchanged-requires c κs = search needs
 
 -- src/operations.rt:49:1
 returns-2 : tie.Need-returns-2
-returns-2 c = 
+returns-2 c =
     let told = c .before .before .before in
     let entry = told .before .before .before in
     transpose-answered _ _ _ (entry .pre) _

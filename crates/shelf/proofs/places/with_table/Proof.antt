@@ -66,7 +66,7 @@ loop-less c = search needs
 
 -- src/places.rt:36:5
 loop-again : tie.Need-loop-again Inv-loop μ-loop
-loop-again c = 
+loop-again c =
     let a = c .before .before .before .args in
     let l = c .before .before .loop in
     let k = l .k in (
@@ -87,7 +87,7 @@ element-write-left c = search needs
 -- src/places.rt:31:1
 returns : tie.Need-returns Inv-loop μ-loop
 unfolding withTable
-returns c = 
+returns c =
     let a = c .before .before .args in
     let l = c .before .loop in
     let e : l .k ≡ 64 = omega arith in

@@ -53,14 +53,14 @@ loop-less c = search needs
 
 -- src/tables.rt:67:5
 loop-again : tie.Need-loop-again Inv-loop μ-loop
-loop-again c = 
+loop-again c =
     let l = c .before .before .before .before .loop in (
       omega arith,
       λ i h.
-        elim (ℕ-discrete i (l .k)) [
-          yes e ↦ rw e (sym (c .before .in-range .ensures) ∙ not-false _ (c .if1 .left))
-        | no e ↦ l .inv .1 i (omega arith)
-        ],
+          elim (ℕ-discrete i (l .k)) [
+            | yes e ↦ rw e (sym (c .before .in-range .ensures) ∙ not-false _ (c .if1 .left))
+            | no e ↦ l .inv .1 i (omega arith)
+          ],
     )
 
 -- src/tables.rt:64:1

@@ -77,7 +77,7 @@ loop-less c = omega (arith, c .before .loop-test .taken)
 
 -- src/tables.rt:45:5
 loop-again : tie.Need-loop-again Inv-loop μ-loop
-loop-again c = 
+loop-again c =
     let l = c .before .before .loop in
     let h = c .before .loop-test .taken in
     (omega arith, filled-more zeroNumber _ 64 (l .inv .1) (inside (c .before) .0) _ (packed-cell _ _ (c .before .before .before .before .pre) _ h (search needs)))
