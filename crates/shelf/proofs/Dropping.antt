@@ -7,17 +7,17 @@ use Rattle.number.specs.declared.Number.{Number}
 use Rattle.number.specs.Number.{zeroNumber}
 use Rattle.words.specs.Word.{Factors, ascending}
 use Rattle.words.specs.Operation.{rowByRow}
-use Rattle.shelf.specs.declared.Shelf.{Shelf}
-use Rattle.shelf.specs.declared.Refusal.{Refusal}
+use Rattle.places.specs.declared.Shelf.{Shelf}
+use Rattle.places.specs.declared.Refusal.{Refusal}
 use Rattle.shelf.specs.declared.Changed.{Changed}
-use Rattle.shelf.specs.declared.Verdict.{Verdict}
-use Rattle.shelf.specs.declared.Verdict.the-variants.{Accepted, Refused}
-use Rattle.shelf.specs.Table.{tableOf}
-use Rattle.shelf.specs.Shelf.{without, Good}
-use Rattle.shelf.specs.Refusal.{firstOf, after, sourceTests}
+use Rattle.places.specs.declared.Verdict.{Verdict}
+use Rattle.places.specs.declared.Verdict.the-variants.{Accepted, Refused}
+use Rattle.places.specs.Table.{tableOf}
+use Rattle.places.specs.Shelf.{without, Good}
+use Rattle.places.specs.Refusal.{firstOf, after, sourceTests}
 use Rattle.shelf.specs.Calls.{changed, dropCall}
-use Rattle.shelf.proofs.Holding.{good-without}
-use Rattle.shelf.proofs.Verdicts.{source-accepted}
+use Rattle.places.proofs.Holding.{good-without}
+use Rattle.places.proofs.Verdicts.{source-accepted}
 
 -- no rows: no factor
 pub table-blank : (b : Factors Number) → tableOf 0 b ≡ replicate 64 zeroNumber

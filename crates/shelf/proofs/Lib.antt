@@ -1,10 +1,5 @@
 -- Laws that belong to no one function.
-pub mod Filled
-pub mod RowByRow
-pub mod Table
-pub mod Holding
-pub mod Verdicts
 pub mod Loading
 pub mod Dropping
-pub mod Proposals
 pub mod Writing
+pub mod Proposals

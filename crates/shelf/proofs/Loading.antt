@@ -22,19 +22,19 @@ use Rattle.reader.specs.declared.Parsed.{Parsed}
 use Rattle.writer.specs.Encoding.{encoding, AllStored, Storable}
 use Rattle.reader.specs.Matrix.{Reading, matrix, fault, matrixOf, parsed}
 use Rattle.reader.proofs.RoundTrip.{matrix-written, matrix-read, accepted}
-use Rattle.shelf.specs.declared.Shelf.{Shelf}
-use Rattle.shelf.specs.declared.Refusal.{Refusal}
-use Rattle.shelf.specs.declared.Verdict.{Verdict}
-use Rattle.shelf.specs.declared.Verdict.the-variants.{Accepted, Refused}
+use Rattle.places.specs.declared.Shelf.{Shelf}
+use Rattle.places.specs.declared.Refusal.{Refusal}
+use Rattle.places.specs.declared.Verdict.{Verdict}
+use Rattle.places.specs.declared.Verdict.the-variants.{Accepted, Refused}
 use Rattle.shelf.specs.declared.Changed.{Changed}
-use Rattle.shelf.specs.Table.{tableOf, squareOf}
-use Rattle.shelf.specs.Shelf.{holding, Good}
-use Rattle.shelf.specs.Refusal.{firstOf, orElse, after, refused, ofReading, targetTests}
-use Rattle.shelf.specs.Calls.{changed, loadTests, readTo, loadCall}
-use Rattle.shelf.proofs.RowByRow.{row-by-row-get, row-below}
-use Rattle.shelf.proofs.Table.{square-below, some-rows, table-same}
-use Rattle.shelf.proofs.Holding.{good-holding}
-use Rattle.shelf.proofs.Verdicts.{first-last, target-accepted}
+use Rattle.places.specs.Table.{tableOf, squareOf}
+use Rattle.places.specs.Shelf.{holding, Good}
+use Rattle.places.specs.Refusal.{firstOf, orElse, after, refused, targetTests}
+use Rattle.shelf.specs.Calls.{changed, ofReading, loadTests, readTo, loadCall}
+use Rattle.places.proofs.RowByRow.{row-by-row-get, row-below}
+use Rattle.places.proofs.Table.{square-below, some-rows, table-same}
+use Rattle.places.proofs.Holding.{good-holding}
+use Rattle.places.proofs.Verdicts.{first-last, target-accepted}
 
 -- STORED: of a list, of factors
 all-stored-at : (L : List Number) → AllStored L → (k : ℕ) → k < length L → Stored (getD L k zeroNumber)

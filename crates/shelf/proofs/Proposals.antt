@@ -6,21 +6,21 @@ use Rattle.number.specs.declared.Number.{Number}
 use Rattle.number.specs.Number.{Stored}
 use Rattle.words.specs.Word.{Factors, exchanged}
 use Rattle.factors.specs.Demand.{Each}
-use Rattle.shelf.specs.declared.Shelf.{Shelf}
-use Rattle.shelf.specs.declared.Refusal.{Refusal}
-use Rattle.shelf.specs.declared.Verdict.{Verdict}
-use Rattle.shelf.specs.declared.Verdict.the-variants.{Accepted, Refused}
+use Rattle.places.specs.declared.Shelf.{Shelf}
+use Rattle.places.specs.declared.Refusal.{Refusal}
+use Rattle.places.specs.declared.Verdict.{Verdict}
+use Rattle.places.specs.declared.Verdict.the-variants.{Accepted, Refused}
 use Rattle.shelf.specs.declared.Proposed.{Proposed}
 use Rattle.shelf.specs.declared.Operated.{Operated}
 use Rattle.shelf.specs.declared.Bounded.{Bounded}
 use Rattle.shelf.specs.declared.Bounded.the-variants as bound
-use Rattle.shelf.specs.Table.{factorsOf, tableOf}
-use Rattle.shelf.specs.Shelf.{rowsAt, tableAt, factorsAt, Good}
-use Rattle.shelf.specs.Refusal.{firstOf, oneSource}
+use Rattle.places.specs.Table.{factorsOf, tableOf}
+use Rattle.places.specs.Shelf.{rowsAt, tableAt, factorsAt, Good}
+use Rattle.places.specs.Refusal.{firstOf, oneSource}
 use Rattle.shelf.specs.Calls.{refusal, proposal, keptBy, kept, Keepable, transposeProposal, transposeCall}
-use Rattle.shelf.proofs.Table.{table-exchanged}
-use Rattle.shelf.proofs.Holding.{good-holding}
-use Rattle.shelf.proofs.Verdicts.{one-accepted}
+use Rattle.places.proofs.Table.{table-exchanged}
+use Rattle.places.proofs.Holding.{good-holding}
+use Rattle.places.proofs.Verdicts.{one-accepted}
 
 -- what a shelf can take at place t: k rows, stored factors b
 pub record Kept (t k : ℕ) (b : Factors Number) : Type 0 where

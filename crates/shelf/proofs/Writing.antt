@@ -12,17 +12,17 @@ use Rattle.words.specs.Operation.{rowByRow}
 use Rattle.writer.specs.declared.Written.{Written as Wrote}
 use Rattle.writer.specs.declared.Written.the-variants as wrote
 use Rattle.writer.specs.Encoding.{encoding, writtenOf, bytesAfter as writerAfter}
-use Rattle.shelf.specs.declared.Shelf.{Shelf}
-use Rattle.shelf.specs.declared.Refusal.{Refusal}
-use Rattle.shelf.specs.declared.Verdict.{Verdict}
-use Rattle.shelf.specs.declared.Verdict.the-variants.{Accepted, Refused}
+use Rattle.places.specs.declared.Shelf.{Shelf}
+use Rattle.places.specs.declared.Refusal.{Refusal}
+use Rattle.places.specs.declared.Verdict.{Verdict}
+use Rattle.places.specs.declared.Verdict.the-variants.{Accepted, Refused}
 use Rattle.shelf.specs.declared.Written.{Written}
 use Rattle.shelf.specs.declared.Written.the-variants as write
-use Rattle.shelf.specs.Table.{factorsOf}
-use Rattle.shelf.specs.Shelf.{rowsAt, tableAt}
-use Rattle.shelf.specs.Refusal.{firstOf, orElse, after, when, refused, sourceTests}
+use Rattle.places.specs.Table.{factorsOf}
+use Rattle.places.specs.Shelf.{rowsAt, tableAt}
+use Rattle.places.specs.Refusal.{firstOf, orElse, after, when, refused, sourceTests}
 use Rattle.shelf.specs.Calls.{bytesAt, writeTests, written, writeCall, bytesAfter}
-use Rattle.shelf.proofs.Verdicts.{first-last}
+use Rattle.places.proofs.Verdicts.{first-last}
 
 -- what the writer did, by whether the bytes had room
 module _ (room need : ℕ) where

@@ -1,5 +1,6 @@
 -- What each call answers, and the shelf and the lent bytes after it, refused calls included (document 01, "Shelf calls").
 use Prim.Native.Nat.{ℕ, _≤_, _<_}
+use mathlib.Core.Bool.{cond}
 use mathlib.Core.List.{List, [], _∷_, _++_}
 use lib.Dec.{ltb}
 use lib.ListN.{length, replicate}
@@ -10,10 +11,10 @@ use Rattle.words.specs.Word.{Factors, exchanged}
 use Rattle.words.specs.Operation.{rowByRow}
 use Rattle.writer.specs.Encoding.{encoding}
 use Rattle.reader.specs.Matrix.{Reading, matrix, fault, matrixOf}
-use Rattle.shelf.specs.declared.Shelf.{Shelf}
-use Rattle.shelf.specs.declared.Verdict.{Verdict}
-use Rattle.shelf.specs.declared.Verdict.the-variants.{Accepted, Refused}
-use Rattle.shelf.specs.declared.Refusal.{Refusal}
+use Rattle.places.specs.declared.Shelf.{Shelf}
+use Rattle.places.specs.declared.Verdict.{Verdict}
+use Rattle.places.specs.declared.Verdict.the-variants.{Accepted, Refused}
+use Rattle.places.specs.declared.Refusal.{Refusal}
 use Rattle.shelf.specs.declared.Changed.{Changed}
 use Rattle.shelf.specs.declared.Written.{Written}
 use Rattle.shelf.specs.declared.Written.the-variants as write
@@ -21,14 +22,19 @@ use Rattle.shelf.specs.declared.Bounded.{Bounded}
 use Rattle.shelf.specs.declared.Bounded.the-variants as bound
 use Rattle.shelf.specs.declared.Proposed.{Proposed}
 use Rattle.shelf.specs.declared.Operated.{Operated}
-use Rattle.shelf.specs.Table.{tableOf, squareOf}
-use Rattle.shelf.specs.Shelf.{rowsAt, factorsAt, withTable, holding, without}
-use Rattle.shelf.specs.Refusal.{firstOf, after, when, ofReading, sourceTests, targetTests, oneSource}
+use Rattle.places.specs.Table.{tableOf, squareOf}
+use Rattle.places.specs.Shelf.{rowsAt, factorsAt, withTable, holding, without}
+use Rattle.places.specs.Refusal.{firstOf, after, when, refused, sourceTests, targetTests, oneSource}
 
 abbrev pub changed : Verdict → Shelf → Shelf → Changed
 changed v old new = record { shelf = after v old new; verdict = v }
 
 -- LOAD
+-- 2 to 6: a fault in the matrix, at its offset; 7: bytes behind it
+abbrev pub ofReading : List ℕ → Reading → Verdict
+ofReading bytes (matrix n L q) = cond (ltb q (length bytes)) (refused 7 q) Accepted
+ofReading bytes (fault k o) = refused k o
+
 abbrev pub loadTests : Shelf → ℕ → List ℕ → List Verdict
 loadTests s p bytes = targetTests s p ++ (ofReading bytes (matrixOf bytes) ∷ [])
 

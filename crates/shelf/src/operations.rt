@@ -1,6 +1,6 @@
 // The operations: a result is worked first (`Proposed`) and kept by a step of its own.
 ghost use mathlib.Core.Path.{_≡_};
-ghost use Rattle.shelf.specs.Shelf.{Good};
+ghost use Rattle.places.specs.Shelf.{Good};
 ghost use Rattle.shelf.specs.Calls.{Keepable, refusal, kept, transposeProposal};
 use crate::Bounded;
 use crate::Operated;
@@ -8,9 +8,7 @@ use crate::Proposed;
 use crate::Refusal;
 use crate::Shelf;
 use crate::Verdict;
-use crate::judge;
-use crate::places;
-use crate::tables;
+use places::{judge, tables};
 
 // No result.
 fn refusal(why: Refusal) -> Proposed

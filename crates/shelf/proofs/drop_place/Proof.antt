@@ -1,19 +1,19 @@
 use native.Mathlib.Omega.{arith}
 use mathlib.Core.Path.{_≡_, sym, ap, _∙_}
-use Rattle.shelf.specs.declared.Verdict.the-variants.{Accepted}
-use Rattle.shelf.specs.Shelf.{withTable}
-use Rattle.shelf.specs.Refusal.{firstOf, sourceTests}
+use Rattle.places.specs.declared.Verdict.the-variants.{Accepted}
+use Rattle.places.specs.Shelf.{withTable}
+use Rattle.places.specs.Refusal.{firstOf, sourceTests}
 use Rattle.shelf.specs.Calls.{changed}
-use Rattle.shelf.proofs.Verdicts.{source-accepted}
+use Rattle.places.proofs.Verdicts.{source-accepted}
 use Rattle.shelf.proofs.Dropping.{table-blank, drop-turned, drop-done, drop-answered}
 use borrow.Author.Needs.{needs}
 use Rattle.shelf.proofs.drop_place.Statement.{statement}
 use Rattle.shelf.proofs.drop_place.Tie as tie
 use Rattle.shelf.proofs.drop_place.Reads as reads
 use Rattle.shelf.proofs.drop_place.Lts as lts
-use Rattle.shelf.proofs.judge.source.Reads as source-reads
-use Rattle.shelf.proofs.places.with_table.Reads as with-table-reads
-use Rattle.shelf.proofs.tables.blank.Reads as blank-reads
+use Rattle.places.proofs.judge.source.Reads as source-reads
+use Rattle.places.proofs.with_table.Reads as with-table-reads
+use Rattle.places.proofs.tables.blank.Reads as blank-reads
 use Rattle.shelf.proofs.unchanged.Reads as unchanged-reads
 
 accepted : (c : tie.After-enum-told) → firstOf (sourceTests (c .before .before .before .args .shelf) (c .before .before .before .args .place)) ≡ Accepted

@@ -1,8 +1,8 @@
-use Rattle.shelf.specs.declared.Verdict.the-variants.{Accepted}
-use Rattle.shelf.specs.declared.Shelf.{Shelf}
-use Rattle.shelf.specs.Shelf.{withTable}
+use Rattle.places.specs.declared.Verdict.the-variants.{Accepted}
+use Rattle.places.specs.declared.Shelf.{Shelf}
+use Rattle.places.specs.Shelf.{withTable}
 use Rattle.shelf.specs.Calls.{changed}
-use Rattle.shelf.specs.Refusal.{firstOf, targetTests}
+use Rattle.places.specs.Refusal.{firstOf, targetTests}
 use Prim.Native.Nat.{_*_, _<_, _≤_}
 use native.Mathlib.Omega.{arith}
 use mathlib.Core.Path.{_≡_, sym, ap, _∙_}
@@ -11,7 +11,7 @@ use lib.ListN.{length, take}
 use Rattle.group.specs.Group.{Bytes}
 use Rattle.reader.specs.declared.Outcome.the-variants.{Matrix}
 use Rattle.reader.specs.Matrix.{OutcomeInside, matrix, matrixOf}
-use Rattle.shelf.proofs.Verdicts.{target-accepted}
+use Rattle.places.proofs.Verdicts.{target-accepted}
 use Rattle.shelf.proofs.Loading.{parsed-fault, parsed-matrix, square-taken, load-turned, load-fault, load-behind, load-done, load-answered}
 use borrow.Author.Needs.{needs}
 use Rattle.shelf.proofs.load.Statement.{statement}
@@ -19,9 +19,9 @@ use Rattle.shelf.proofs.load.Tie as tie
 use Rattle.shelf.proofs.load.Reads as reads
 use Rattle.shelf.proofs.load.Lts as lts
 use Rattle.reader.proofs.read_matrix.Reads as read-matrix-reads
-use Rattle.shelf.proofs.judge.target.Reads as target-reads
-use Rattle.shelf.proofs.places.with_table.Reads as with-table-reads
-use Rattle.shelf.proofs.tables.spread.Reads as spread-reads
+use Rattle.places.proofs.judge.target.Reads as target-reads
+use Rattle.places.proofs.with_table.Reads as with-table-reads
+use Rattle.places.proofs.tables.spread.Reads as spread-reads
 use Rattle.shelf.proofs.unchanged.Reads as unchanged-reads
 
 bytes-in : (c : tie.After-shared-slice-known) → Bytes (now (c .before .args .bytes))

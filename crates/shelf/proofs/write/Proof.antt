@@ -3,13 +3,13 @@ use lib.ListN.{take}
 use Rattle.writer.specs.Encoding.{encoding}
 use Rattle.shelf.specs.Calls.{bytesAt}
 use Rattle.shelf.proofs.Writing.{write-wrote, write-no-room}
-use Rattle.shelf.specs.Shelf.{Good}
+use Rattle.places.specs.Shelf.{Good}
 use native.Mathlib.Omega.{arith}
 use mathlib.Core.Path.{_≡_, sym, ap, _∙_}
 use denote.Ref.{now}
-use Rattle.shelf.specs.declared.Verdict.the-variants.{Accepted}
-use Rattle.shelf.specs.Refusal.{firstOf, sourceTests}
-use Rattle.shelf.proofs.Verdicts.{source-accepted}
+use Rattle.places.specs.declared.Verdict.the-variants.{Accepted}
+use Rattle.places.specs.Refusal.{firstOf, sourceTests}
+use Rattle.places.proofs.Verdicts.{source-accepted}
 use Rattle.shelf.proofs.Writing.{wrote-bytes, wrote-short, bytes-packed, write-turned, write-short, write-done}
 use borrow.Author.Needs.{needs}
 use Rattle.shelf.proofs.write.Statement.{statement}
@@ -17,10 +17,10 @@ use Rattle.shelf.proofs.write.Tie as tie
 use Rattle.shelf.proofs.write.Reads as reads
 use Rattle.shelf.proofs.write.Lts as lts
 use Rattle.writer.proofs.write_matrix.Reads as write-matrix-reads
-use Rattle.shelf.proofs.judge.source.Reads as source-reads
-use Rattle.shelf.proofs.places.rows_at.Reads as rows-at-reads
-use Rattle.shelf.proofs.places.table_at.Reads as table-at-reads
-use Rattle.shelf.proofs.tables.packed.Reads as packed-reads
+use Rattle.places.proofs.judge.source.Reads as source-reads
+use Rattle.places.proofs.rows_at.Reads as rows-at-reads
+use Rattle.places.proofs.table_at.Reads as table-at-reads
+use Rattle.places.proofs.tables.packed.Reads as packed-reads
 
 accepted : (c : tie.After-enum-told) → firstOf (sourceTests (c .before .before .before .before .args .shelf) (c .before .before .before .before .args .place)) ≡ Accepted
 accepted c = sym (c .before .before .source .ensures) ∙ c .enum-told .given .1

@@ -1,5 +1,5 @@
 use Rattle.shelf.specs.declared.Operated.{Operated}
-use Rattle.shelf.specs.declared.Shelf.{Shelf}
+use Rattle.places.specs.declared.Shelf.{Shelf}
 use Rattle.shelf.specs.declared.Bounded.the-variants.{Bound}
 use Rattle.shelf.proofs.Proposals.{kept-by, keepable-bound}
 use mathlib.Core.Path.{_≡_, refl, ap}
@@ -9,7 +9,7 @@ use Rattle.shelf.proofs.operations.keep.Statement.{statement}
 use Rattle.shelf.proofs.operations.keep.Tie as tie
 use Rattle.shelf.proofs.operations.keep.Reads as reads
 use Rattle.shelf.proofs.operations.keep.Lts as lts
-use Rattle.shelf.proofs.places.with_table.Reads as with-table-reads
+use Rattle.places.proofs.with_table.Reads as with-table-reads
 
 -- src/operations.rt:34:24
 enum-known-answer : tie.Need-enum-known-answer

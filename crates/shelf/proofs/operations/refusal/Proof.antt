@@ -8,7 +8,7 @@ use Rattle.shelf.proofs.operations.refusal.Statement.{statement}
 use Rattle.shelf.proofs.operations.refusal.Tie as tie
 use Rattle.shelf.proofs.operations.refusal.Reads as reads
 use Rattle.shelf.proofs.operations.refusal.Lts as lts
-use Rattle.shelf.proofs.tables.blank.Reads as blank-reads
+use Rattle.places.proofs.tables.blank.Reads as blank-reads
 
 -- src/operations.rt:19:9
 blank-requires : tie.Need-blank-requires

@@ -1,21 +1,21 @@
 use Prim.Native.Nat.{_<_}
 use mathlib.Core.Path.{_≡_, sym, ap, _∙_, subst}
-use Rattle.shelf.specs.declared.Verdict.the-variants.{Accepted}
+use Rattle.places.specs.declared.Verdict.the-variants.{Accepted}
 use Rattle.shelf.specs.declared.Proposed.{Proposed}
-use Rattle.shelf.specs.Refusal.{firstOf, oneSource}
+use Rattle.places.specs.Refusal.{firstOf, oneSource}
 use Rattle.shelf.specs.Calls.{Keepable}
-use Rattle.shelf.proofs.Verdicts.{one-accepted}
+use Rattle.places.proofs.Verdicts.{one-accepted}
 use Rattle.shelf.proofs.Proposals.{transpose-turned, transpose-done, transpose-answered}
 use borrow.Author.Needs.{needs}
 use Rattle.shelf.proofs.operations.transposed.Statement.{statement}
 use Rattle.shelf.proofs.operations.transposed.Tie as tie
 use Rattle.shelf.proofs.operations.transposed.Reads as reads
 use Rattle.shelf.proofs.operations.transposed.Lts as lts
-use Rattle.shelf.proofs.judge.one_source.Reads as one-source-reads
+use Rattle.places.proofs.judge.one_source.Reads as one-source-reads
 use Rattle.shelf.proofs.operations.refusal.Reads as refusal-reads
-use Rattle.shelf.proofs.places.rows_at.Reads as rows-at-reads
-use Rattle.shelf.proofs.places.table_at.Reads as table-at-reads
-use Rattle.shelf.proofs.tables.exchanged.Reads as exchanged-reads
+use Rattle.places.proofs.rows_at.Reads as rows-at-reads
+use Rattle.places.proofs.table_at.Reads as table-at-reads
+use Rattle.places.proofs.tables.exchanged.Reads as exchanged-reads
 
 accepted : (c : tie.After-enum-told) → firstOf (oneSource (c .before .before .before .args .shelf) (c .before .before .before .args .source) (c .before .before .before .args .target)) ≡ Accepted
 accepted c = sym (c .before .before .one-source .ensures) ∙ c .enum-told .given .1
