@@ -17,7 +17,7 @@ use Rattle.shelf.specs.declared.Bounded.the-variants as bound
 use Rattle.places.specs.Table.{factorsOf, tableOf}
 use Rattle.places.specs.Shelf.{rowsAt, tableAt, factorsAt, Good}
 use Rattle.places.specs.Refusal.{firstOf, oneSource}
-use Rattle.shelf.specs.Calls.{refusal, proposal, keptBy, kept, Keepable, transposeProposal, transposeCall}
+use Rattle.shelf.specs.Operations.{refusal, proposal, keptBy, kept, Keepable, transposeProposal, transposeCall}
 use Rattle.places.proofs.Table.{table-exchanged}
 use Rattle.places.proofs.Holding.{good-holding}
 use Rattle.places.proofs.Verdicts.{one-accepted}

@@ -2,7 +2,8 @@
 ghost use mathlib.Core.Path.{_≡_};
 ghost use Prim.Native.Nat.{_≤_, _<_};
 ghost use Rattle.places.specs.Shelf.{emptyShelf, Good};
-ghost use Rattle.shelf.specs.Calls.{changed, loadCall, dropCall, writeCall, bytesAfter, transposeCall};
+ghost use Rattle.shelf.specs.Calls.{changed, loadCall, dropCall, writeCall, bytesAfter};
+ghost use Rattle.shelf.specs.Operations.{transposeCall};
 use number::Number;
 use places::{judge, tables};
 pub use places::{Refusal, Shelf, Verdict};
@@ -32,6 +33,12 @@ pub struct Proposed {
     answer: Bounded,
     rows: usize,
     factors: [Number; 64],
+}
+
+pub enum Valued {
+    // A mantissa times 2 to the power of an exponent.
+    Value { mantissa: u64, exponent: i64 },
+    Refused(Refusal),
 }
 
 // The shelf after an operation.

@@ -1,7 +1,7 @@
 // The operations: a result is worked first (`Proposed`) and kept by a step of its own.
 ghost use mathlib.Core.Path.{_≡_};
 ghost use Rattle.places.specs.Shelf.{Good};
-ghost use Rattle.shelf.specs.Calls.{Keepable, refusal, kept, transposeProposal};
+ghost use Rattle.shelf.specs.Operations.{Keepable, refusal, kept, transposeProposal};
 use crate::Bounded;
 use crate::Operated;
 use crate::Proposed;

@@ -1,7 +1,7 @@
 use mathlib.Core.Path.{_≡_, sym, ap, _∙_, subst}
 use Rattle.shelf.specs.declared.Operated.{Operated}
 use Rattle.places.specs.Shelf.{Good}
-use Rattle.shelf.specs.Calls.{kept}
+use Rattle.shelf.specs.Operations.{kept}
 use Rattle.shelf.proofs.Proposals.{transpose-good}
 use borrow.Author.Needs.{needs}
 use Rattle.shelf.proofs.transpose.Statement.{statement}

@@ -3,7 +3,7 @@ use Rattle.places.specs.declared.Shelf.{Shelf}
 use Rattle.shelf.specs.declared.Bounded.the-variants.{Bound}
 use Rattle.shelf.proofs.Proposals.{kept-by, keepable-bound}
 use mathlib.Core.Path.{_≡_, refl, ap}
-use Rattle.shelf.specs.Calls.{kept}
+use Rattle.shelf.specs.Operations.{kept}
 use borrow.Author.Needs.{needs}
 use Rattle.shelf.proofs.operations.keep.Statement.{statement}
 use Rattle.shelf.proofs.operations.keep.Tie as tie

@@ -3,7 +3,7 @@ use mathlib.Core.Path.{_≡_, sym, ap, _∙_, subst}
 use Rattle.places.specs.declared.Verdict.the-variants.{Accepted}
 use Rattle.shelf.specs.declared.Proposed.{Proposed}
 use Rattle.places.specs.Refusal.{firstOf, oneSource}
-use Rattle.shelf.specs.Calls.{Keepable}
+use Rattle.shelf.specs.Operations.{Keepable}
 use Rattle.places.proofs.Verdicts.{one-accepted}
 use Rattle.shelf.proofs.Proposals.{transpose-turned, transpose-done, transpose-answered}
 use borrow.Author.Needs.{needs}
