@@ -228,7 +228,7 @@ module _ (n : ℕ) (b : Factors Number) (few : n ≤ 8) where
       ap inRange (sym (factors-table n b few i j h g))
       ∙ outside-none zeroNumber (tableOf n b) e ((i - 1) * 8 + (j - 1)) (omega (arith, table-length n b))
 
-  rows-ranged : outside (rowByRow n b) ≡ false → (i j : ℕ) → In n i → In n j → inRange (b i j) ≡ true
+  pub rows-ranged : outside (rowByRow n b) ≡ false → (i j : ℕ) → In n i → In n j → inRange (b i j) ≡ true
   unfolding squareOf
   rows-ranged e i j h g =
       ap inRange (sym (square-factors n b i j h g))
