@@ -12,7 +12,7 @@ use Rattle.places.specs.declared.Refusal.{Refusal}
 use Rattle.shelf.specs.declared.Changed.{Changed}
 use Rattle.places.specs.declared.Verdict.{Verdict}
 use Rattle.places.specs.declared.Verdict.the-variants.{Accepted, Refused}
-use Rattle.places.specs.Table.{tableOf}
+use Rattle.walk.specs.Table.{tableOf}
 use Rattle.places.specs.Shelf.{without, Good}
 use Rattle.places.specs.Refusal.{firstOf, after, sourceTests}
 use Rattle.shelf.specs.Calls.{changed, dropCall}

@@ -27,7 +27,8 @@ use Rattle.places.specs.declared.Refusal.{Refusal}
 use Rattle.places.specs.declared.Verdict.{Verdict}
 use Rattle.places.specs.declared.Verdict.the-variants.{Accepted, Refused}
 use Rattle.shelf.specs.declared.Changed.{Changed}
-use Rattle.places.specs.Table.{tableOf, squareOf}
+use Rattle.walk.specs.Table.{tableOf}
+use Rattle.places.specs.Table.{squareOf}
 use Rattle.places.specs.Shelf.{holding, Good}
 use Rattle.places.specs.Refusal.{firstOf, orElse, after, refused, targetTests}
 use Rattle.shelf.specs.Calls.{changed, ofReading, loadTests, readTo, loadCall}

@@ -14,7 +14,7 @@ use Rattle.shelf.specs.declared.Proposed.{Proposed}
 use Rattle.shelf.specs.declared.Operated.{Operated}
 use Rattle.shelf.specs.declared.Bounded.{Bounded}
 use Rattle.shelf.specs.declared.Bounded.the-variants as bound
-use Rattle.places.specs.Table.{factorsOf, tableOf}
+use Rattle.walk.specs.Table.{factorsOf, tableOf}
 use Rattle.places.specs.Shelf.{rowsAt, tableAt, factorsAt, Good}
 use Rattle.places.specs.Refusal.{firstOf, oneSource}
 use Rattle.shelf.specs.Operations.{refusal, proposal, keptBy, kept, Keepable, transposeProposal, transposeCall}

@@ -14,7 +14,8 @@ use Rattle.places.specs.declared.Shelf.{Shelf}
 use Rattle.places.specs.declared.Refusal.{Refusal}
 use Rattle.places.specs.declared.Verdict.{Verdict}
 use Rattle.places.specs.declared.Verdict.the-variants.{Accepted, Refused}
-use Rattle.places.specs.Table.{tableOf, outside}
+use Rattle.walk.specs.Table.{tableOf}
+use Rattle.places.specs.Table.{outside}
 use Rattle.places.specs.Shelf.{rowsAt, factorsAt, withTable}
 use Rattle.places.specs.Refusal.{firstOf, when, unfit, sourceTests, oneSource, twoSources}
 use Rattle.shelf.specs.declared.Bounded.{Bounded}
