@@ -1,6 +1,6 @@
 -- The operations (document 01, "Shelf calls"): what each proposes (`productProposal`, ..), the shelf with a result kept (`kept`), each call with its answer (`productCall`, ..), and minors (`minorCall`).
 use Prim.Native.Nat.{ℕ, _≤_, _<_}
-use mathlib.Core.Bool.{not}
+use mathlib.Core.Bool.{not, cond}
 use mathlib.Core.List.{List, [], _∷_, _++_}
 use lib.IntN.{ℤ, subℕ}
 use lib.ListN.{replicate}
@@ -10,6 +10,7 @@ use Rattle.words.specs.RowSet.{ofMask}
 use Rattle.words.specs.Word.{Factors, word, exchanged}
 use Rattle.words.specs.Walk.{minor}
 use Rattle.words.specs.Operation.{Operation, product, inverse, converse, submatrix, size, bound, rowByRow, result}
+use Rattle.rule.specs.declared.Refactored.{Refactored}
 use Rattle.places.specs.declared.Shelf.{Shelf}
 use Rattle.places.specs.declared.Refusal.{Refusal}
 use Rattle.places.specs.declared.Verdict.{Verdict}
@@ -59,6 +60,10 @@ factorTest n o = when (outside (rowByRow (size n o) (result rounded n o))) 14
 
 unfoldable pub operation : List Verdict → ℕ → Operation Number → Proposed
 operation L n o = proposal (firstOf (L ++ (factorTest n o ∷ []))) (size n o) (bound n o) (result rounded n o)
+
+-- what the rule's code handed back, put to that test
+unfoldable pub rangedOf : Refactored → Proposed
+rangedOf x = cond (outside (x .factors)) (refusal (record { number = 14; offset = 0 })) (record { answer = answer.Bound (x .bound); rows = x .rows; factors = x .factors })
 
 -- the operations on places
 abbrev pub productOf : Shelf → ℕ → ℕ → Operation Number

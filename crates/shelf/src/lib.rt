@@ -1,9 +1,10 @@
 // The shelf of eight matrices, and its calls. A shelf goes in by value and comes back; a refused call hands it back as it was.
 ghost use mathlib.Core.Path.{_≡_};
 ghost use Prim.Native.Nat.{_≤_, _<_};
-ghost use Rattle.places.specs.Shelf.{emptyShelf, Good};
+ghost use Rattle.places.specs.Shelf.{rowsAt, Good};
 ghost use Rattle.shelf.specs.Calls.{changed, loadCall, dropCall, writeCall, bytesAfter};
-ghost use Rattle.shelf.specs.Operations.{transposeCall, minorCall};
+ghost use Rattle.shelf.specs.Operations.{productOf, inverseOf, converseOf, submatrixOf, transposeCall, productCall, inverseCall, converseCall, submatrixCall, minorCall};
+ghost use Rattle.shelf.specs.Promise.{Promised};
 use number::Number;
 use places::{judge, tables};
 pub use places::{Refusal, Shelf, Verdict};
@@ -137,6 +138,48 @@ pub fn transpose(shelf: Shelf, source: usize, target: usize) -> Operated
     ensures { λ r. ⌜ Good (r .shelf) ⌝ }
 {
     operations::keep(shelf, target, operations::transposed(shelf, source, target))
+}
+
+// The product of two places, left times right, to an empty place.
+pub fn product(shelf: Shelf, left: usize, right: usize, target: usize) -> Operated
+    requires { ⌜ Good shelf ⌝ }
+    ensures { λ r. ⌜ r ≡ productCall shelf left right target ⌝ }
+    ensures { λ r. ⌜ Good (r .shelf) ⌝ }
+    ensures { λ r. ⌜ Promised (r .shelf) target (rowsAt shelf left) (productOf shelf left right) (r .answer) ⌝ }
+{
+    operations::keep(shelf, target, operations::product(shelf, left, right, target))
+}
+
+// The re-signed inverse of a place, to an empty place.
+pub fn inverse(shelf: Shelf, source: usize, target: usize) -> Operated
+    requires { ⌜ Good shelf ⌝ }
+    ensures { λ r. ⌜ r ≡ inverseCall shelf source target ⌝ }
+    ensures { λ r. ⌜ Good (r .shelf) ⌝ }
+    ensures { λ r. ⌜ Promised (r .shelf) target (rowsAt shelf source) (inverseOf shelf source) (r .answer) ⌝ }
+{
+    operations::keep(shelf, target, operations::inverse(shelf, source, target))
+}
+
+// The converse of a place, to an empty place.
+pub fn converse(shelf: Shelf, source: usize, target: usize) -> Operated
+    requires { ⌜ Good shelf ⌝ }
+    ensures { λ r. ⌜ r ≡ converseCall shelf source target ⌝ }
+    ensures { λ r. ⌜ Good (r .shelf) ⌝ }
+    ensures { λ r. ⌜ Promised (r .shelf) target (rowsAt shelf source) (converseOf shelf source) (r .answer) ⌝ }
+{
+    operations::keep(shelf, target, operations::converse(shelf, source, target))
+}
+
+// The chosen rows and columns of a place, given as masks, to an empty place.
+pub fn submatrix(shelf: Shelf, source: usize, rows: u8, columns: u8, target: usize) -> Operated
+    requires { ⌜ Good shelf ⌝ }
+    ensures { λ r. ⌜ r ≡ submatrixCall shelf source rows columns target ⌝ }
+    ensures { λ r. ⌜ Good (r .shelf) ⌝ }
+    ensures { λ r. ⌜ Promised (r .shelf) target (rowsAt shelf source) (submatrixOf shelf source rows columns) (r .answer) ⌝ }
+{
+    let i = rowset::wide(rows);
+    let j = rowset::wide(columns);
+    operations::keep(shelf, target, operations::submatrix(shelf, source, i, j, target))
 }
 
 // Any minor of a place, its row and column sets given as masks.

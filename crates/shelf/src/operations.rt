@@ -1,6 +1,8 @@
 // The operations: a result is worked first (`Proposed`) and kept by a step of its own.
 ghost use mathlib.Core.Path.{_≡_};
+ghost use Prim.Native.Nat.{_<_};
 ghost use Rattle.places.specs.Shelf.{Good};
+ghost use Rattle.places.specs.Refusal.{firstOf};
 ghost use Rattle.shelf.specs.Operations.{Keepable, refusal, kept, transposeProposal};
 use crate::Bounded;
 use crate::Operated;
@@ -60,4 +62,92 @@ pub fn transposed(shelf: Shelf, source: usize, target: usize) -> Proposed
         rows,
         factors,
     }
+}
+
+// What the rule handed back: no result where a new factor has an exponent outside -1000 to 1000.
+fn ranged(result: Refactored) -> Proposed
+    ensures { λ r. ⌜ r ≡ rangedOf result ⌝ }
+{
+    let factors = result.factors;
+    if tables::outside(factors) {
+        return refusal(Refusal {
+            number: 14,
+            offset: 0,
+        });
+    }
+    Proposed {
+        answer: Bounded::Bound(result.bound),
+        rows: result.rows,
+        factors,
+    }
+}
+
+pub fn product(shelf: Shelf, left: usize, right: usize, target: usize) -> Proposed
+    requires { ⌜ Good shelf ⌝ }
+    ensures { λ r. ⌜ r ≡ productProposal shelf left right target ⌝ }
+    ensures { λ r. ⌜ Keepable target (r .rows) (r .answer) ⌝ }
+{
+    let first = judge::two_sources(shelf, left, right, target);
+    if let Verdict::Refused(why) = first {
+        return refusal(why);
+    }
+    let n = places::rows_at(shelf, left);
+    let b = places::table_at(shelf, left);
+    let c = places::table_at(shelf, right);
+    ranged(rule::product(b, c, n))
+}
+
+pub fn inverse(shelf: Shelf, source: usize, target: usize) -> Proposed
+    requires { ⌜ Good shelf ⌝ }
+    ensures { λ r. ⌜ r ≡ inverseProposal shelf source target ⌝ }
+    ensures { λ r. ⌜ Keepable target (r .rows) (r .answer) ⌝ }
+{
+    let first = judge::one_source(shelf, source, target);
+    if let Verdict::Refused(why) = first {
+        return refusal(why);
+    }
+    let n = places::rows_at(shelf, source);
+    let b = places::table_at(shelf, source);
+    ranged(rule::inverse(b, n))
+}
+
+pub fn converse(shelf: Shelf, source: usize, target: usize) -> Proposed
+    requires { ⌜ Good shelf ⌝ }
+    ensures { λ r. ⌜ r ≡ converseProposal shelf source target ⌝ }
+    ensures { λ r. ⌜ Keepable target (r .rows) (r .answer) ⌝ }
+{
+    let first = judge::one_source(shelf, source, target);
+    if let Verdict::Refused(why) = first {
+        return refusal(why);
+    }
+    let n = places::rows_at(shelf, source);
+    let b = places::table_at(shelf, source);
+    ranged(rule::converse(b, n))
+}
+
+// The tests of a submatrix before its factors are worked.
+fn submatrix_tests(shelf: Shelf, source: usize, rows: usize, columns: usize, target: usize) -> Verdict
+    requires { ⌜ Good shelf × (rows < 256) × (columns < 256) ⌝ }
+    ensures { λ r. ⌜ r ≡ firstOf (submatrixTests shelf source rows columns target) ⌝ }
+{
+    let first = judge::one_source(shelf, source, target);
+    match first {
+        Verdict::Accepted => judge::sets(places::rows_at(shelf, source), rows, columns),
+        Verdict::Refused(why) => Verdict::Refused(why),
+    }
+}
+
+// The row and column sets are masks.
+pub fn submatrix(shelf: Shelf, source: usize, rows: usize, columns: usize, target: usize) -> Proposed
+    requires { ⌜ Good shelf × (rows < 256) × (columns < 256) ⌝ }
+    ensures { λ r. ⌜ r ≡ submatrixProposal shelf source rows columns target ⌝ }
+    ensures { λ r. ⌜ Keepable target (r .rows) (r .answer) ⌝ }
+{
+    let first = submatrix_tests(shelf, source, rows, columns, target);
+    if let Verdict::Refused(why) = first {
+        return refusal(why);
+    }
+    let n = places::rows_at(shelf, source);
+    let b = places::table_at(shelf, source);
+    ranged(rule::submatrix(b, n, rows, columns))
 }
