@@ -1,0 +1,4 @@
+-- Laws that belong to no one function.
+pub mod Loading
+pub mod Dropping
+pub mod Writing
