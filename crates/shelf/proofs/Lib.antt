@@ -4,3 +4,4 @@ pub mod Dropping
 pub mod Writing
 pub mod Proposals
 pub mod Results
+pub mod MinorCalls

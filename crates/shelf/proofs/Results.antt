@@ -34,7 +34,7 @@ use Rattle.shelf.specs.Promise.{Met, Promised}
 use Rattle.shelf.proofs.Proposals.{Kept, proposal-keepable, kept-good}
 
 -- a positive number that was worked, with its exponent in range, is a stored number
-both-true : (t u : Bool) → t && u ≡ true → (t ≡ true) × (u ≡ true)
+pub both-true : (t u : Bool) → t && u ≡ true → (t ≡ true) × (u ≡ true)
 both-true true true e = (refl, refl)
 both-true true false e = absurd (let z : _≡_ {A = ℕ} 0 1 = cc in omega arith)
 both-true false u e = absurd (let z : _≡_ {A = ℕ} 0 1 = cc in omega arith)

@@ -3,12 +3,14 @@ ghost use mathlib.Core.Path.{_≡_};
 ghost use Prim.Native.Nat.{_≤_, _<_};
 ghost use Rattle.places.specs.Shelf.{emptyShelf, Good};
 ghost use Rattle.shelf.specs.Calls.{changed, loadCall, dropCall, writeCall, bytesAfter};
-ghost use Rattle.shelf.specs.Operations.{transposeCall};
+ghost use Rattle.shelf.specs.Operations.{transposeCall, minorCall};
 use number::Number;
 use places::{judge, tables};
 pub use places::{Refusal, Shelf, Verdict};
 
+
 mod operations; // operations.rt: their results, and how these are kept
+mod value; // value.rt: a minor, and exponents as they are answered
 
 // The shelf after a call that only changes it.
 pub struct Changed {
@@ -135,4 +137,33 @@ pub fn transpose(shelf: Shelf, source: usize, target: usize) -> Operated
     ensures { λ r. ⌜ Good (r .shelf) ⌝ }
 {
     operations::keep(shelf, target, operations::transposed(shelf, source, target))
+}
+
+// Any minor of a place, its row and column sets given as masks.
+pub fn minor(shelf: Shelf, place: usize, rows: u8, columns: u8) -> Valued
+    requires { ⌜ Good shelf ⌝ }
+    ensures { λ r. ⌜ r ≡ minorCall shelf place rows columns ⌝ }
+{
+    let first = judge::source(shelf, place);
+    if let Verdict::Refused(why) = first {
+        return Valued::Refused(why);
+    }
+    let n = places::rows_at(shelf, place);
+    let i = rowset::wide(rows);
+    let j = rowset::wide(columns);
+    let second = judge::sets(n, i, j);
+    if let Verdict::Refused(why) = second {
+        return Valued::Refused(why);
+    }
+    let a = value::minor(places::table_at(shelf, place), n, i, j);
+    if !a.in_range() {
+        return Valued::Refused(Refusal {
+            number: 14,
+            offset: 0,
+        });
+    }
+    Valued::Value {
+        mantissa: a.m,
+        exponent: value::exponent(a.x),
+    }
 }
