@@ -39,10 +39,6 @@ scale-reach : {r : ℕ} {y e : Number} (b : Bool) → Ranged r y → Stored e �
 scale-reach {r} true u s h = ranged-more (omega arith) (ranged-quotient u (ranged-stored s) (omega arith) (omega (arith, s .low)))
 scale-reach {r} false u s h = ranged-more (omega arith) (ranged-product u (ranged-stored s) (omega arith))
 
-pub entry-at : (d : List Number) (i : ℕ) → entriesOf d (i + 1) ≡ getD d i absent
-unfolding entriesOf
-entry-at d i = let j : i + 1 - 1 ≡ i = omega arith in ap (λ (k : ℕ). getD d k absent) j
-
 -- y is x scaled by the entries of the first i rows
 pub record Scaled (b : Bool) (d : List Number) (s : ℕ) (x y : Number) (i : ℕ) : Type 0 where
   pub is : y ≡ scaled rounded (scaling b) (entriesOf d) (ofMask i s) x
@@ -53,14 +49,13 @@ unfolding scaled ofMask
 scaled-none b d s x u = record { is = refl; ranged = ranged-more (omega arith) u }
 
 module _ {b : Bool} {d : List Number} {s : ℕ} {x y : Number} {i : ℕ} (S : Scaled b d s x y i) (l : i < 8) where
-  pub scaled-in : (z : Number) → maskHas (i + 1) s ≡ true → Stored (entriesOf d (i + 1)) → z ≡ scaling b y (getD d i absent) → Scaled b d s x z (i + 1)
+  pub scaled-in : (z : Number) → maskHas (i + 1) s ≡ true → Stored (entriesOf d (i + 1)) → z ≡ scaling b y (entriesOf d (i + 1)) → Scaled b d s x z (i + 1)
   scaled-in z h e q =
-      let r : z ≡ scaling b y (entriesOf d (i + 1)) = q ∙ ap (scaling b y) (sym (entry-at d i)) in
       record {
-        is = r ∙ ap (λ (a : Number). scaling b a (entriesOf d (i + 1))) (S .is)
+        is = q ∙ ap (λ (a : Number). scaling b a (entriesOf d (i + 1))) (S .is)
             ∙ subst (λ (k : ℕ). scaling b (scaled rounded (scaling b) (entriesOf d) (ofMask i s) x) (entriesOf d k) ≡ scaled rounded (scaling b) (entriesOf d) (ofMask k s) x)
             (sym (add-one i)) (sym (scaled-has (scaling b) (entriesOf d) s x i (subst (λ (k : ℕ). maskHas k s ≡ true) (add-one i) h)));
-        ranged = subst (Ranged (letterReach + 1033 * (i + 1))) (sym r) (ranged-more (omega arith) (scale-reach b (S .ranged) e (omega arith)));
+        ranged = subst (Ranged (letterReach + 1033 * (i + 1))) (sym q) (ranged-more (omega arith) (scale-reach b (S .ranged) e (omega arith)));
       }
 
   pub scaled-out : (z : Number) → maskHas (i + 1) s ≡ false → z ≡ y → Scaled b d s x z (i + 1)

@@ -75,11 +75,11 @@ pub fn move_at(n: usize, way: Way, t: usize) -> Move
         Way::Plain => plain_at(n, t),
         Way::Inverted => plain_at(n, back),
         Way::Conversed => {
-            let m = plain_at(n, t);
+            let mirrored = plain_at(n, t);
             Move {
-                to: n + 1 - m.to,
-                from: n + 1 - m.from,
-                at: m.at,
+                to: n + 1 - mirrored.to,
+                from: n + 1 - mirrored.from,
+                at: mirrored.at,
             }
         }
         Way::Transposed => {

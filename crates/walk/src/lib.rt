@@ -73,8 +73,9 @@ fn scaled(d: [Number; 8], n: usize, s: usize, x: Number, inverse: bool) -> Numbe
 {
     let mut y = x;
     for i in 0..n {
-        if rowset::has(s, i + 1) {
-            let e = d[i];
+        let row = i + 1;
+        if rowset::has(s, row) {
+            let e = d[row - 1];
             y = scale(y, e, inverse);
         }
     }

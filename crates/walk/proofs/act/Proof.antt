@@ -12,14 +12,6 @@ use Rattle.walk.proofs.Acts.{letter-moved, letter-stored, letter-scaled
 use borrow.Author.Needs.{needs}
 use Rattle.walk.proofs.act.Statement.{statement}
 use Rattle.walk.proofs.act.Tie as tie
-use Rattle.walk.proofs.act.Reads as reads
-use Rattle.walk.proofs.act.Lts as lts
-use Rattle.walk.proofs.diagonal.Reads as diagonal-reads
-use Rattle.walk.proofs.divides.Reads as divides-reads
-use Rattle.walk.proofs.entries.Reads as entries-reads
-use Rattle.walk.proofs.letters.middle.Reads as middle-reads
-use Rattle.walk.proofs.letters.move_at.Reads as move-at-reads
-use Rattle.walk.proofs.moved.Reads as moved-reads
 
 middle-requires : tie.Need-middle-requires
 middle-requires c κs = search needs

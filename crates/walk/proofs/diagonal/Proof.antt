@@ -10,11 +10,6 @@ use Rattle.walk.proofs.Scaling.{SweptDiagonal, diagonal-ready, diagonal
 use Rattle.walk.proofs.Sweep.{swept-none}
 use Rattle.walk.proofs.diagonal.Statement.{statement}
 use Rattle.walk.proofs.diagonal.Tie as tie
-use Rattle.walk.proofs.diagonal.Reads as reads
-use Rattle.walk.proofs.diagonal.Lts as lts
-use Rattle.walk.proofs.scaled.Reads as scaled-reads
-use Rattle.walk.proofs.sets.set_at.Reads as set-at-reads
-use Rattle.walk.proofs.sets.sets_of.Reads as sets-of-reads
 
 abbrev Inv-loop : tie.InvT-loop
 Inv-loop n k d inverse u₀ p₀ p-end u p = (p ≤ p-end) × SweptDiagonal n k inverse d u₀ u p

@@ -6,11 +6,6 @@ use native.Mathlib.Omega.{arith}
 use Rattle.walk.proofs.Diagonals.{Filled, filled-none, filled-next, filled-entries}
 use Rattle.walk.proofs.entries.Statement.{statement}
 use Rattle.walk.proofs.entries.Tie as tie
-use Rattle.walk.proofs.entries.Reads as reads
-use Rattle.walk.proofs.entries.Lts as lts
-use Rattle.number.proofs.Number.zero.Reads as zero-reads
-use Rattle.walk.proofs.backwards.Reads as backwards-reads
-use Rattle.walk.proofs.entry_row.Reads as entry-row-reads
 
 abbrev Inv-loop : tie.InvT-loop
 Inv-loop n b d₀ back i₀ d i = (i ≤ n) × Filled n back b d i

@@ -5,8 +5,6 @@ use Prim.Native.Nat.{_-_}
 use borrow.Author.Needs.{needs}
 use Rattle.walk.proofs.entry_row.Statement.{statement}
 use Rattle.walk.proofs.entry_row.Tie as tie
-use Rattle.walk.proofs.entry_row.Reads as reads
-use Rattle.walk.proofs.entry_row.Lts as lts
 
 sub-result : tie.Need-sub-result
 sub-result c = search needs

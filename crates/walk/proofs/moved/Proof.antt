@@ -10,13 +10,6 @@ use Rattle.walk.proofs.Moves.{SweptMove, neighbours-two, move-ready, mo
 use Rattle.walk.proofs.Sweep.{swept-none}
 use Rattle.walk.proofs.moved.Statement.{statement}
 use Rattle.walk.proofs.moved.Tie as tie
-use Rattle.walk.proofs.moved.Reads as reads
-use Rattle.walk.proofs.moved.Lts as lts
-use Rattle.number.proofs.Number.add_product.Reads as add-product-reads
-use Rattle.rowset.proofs.position.Reads as position-reads
-use Rattle.rowset.proofs.replaced.Reads as replaced-reads
-use Rattle.walk.proofs.sets.changed_at.Reads as changed-at-reads
-use Rattle.walk.proofs.sets.sets_of.Reads as sets-of-reads
 
 abbrev Inv-loop : tie.InvT-loop
 Inv-loop n k a o w u₀ p₀ p-end u p = (p ≤ p-end) × SweptMove n k a o w u₀ u p

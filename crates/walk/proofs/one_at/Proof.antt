@@ -8,11 +8,6 @@ use Rattle.number.specs.declared.Number.{Number}
 use Rattle.walk.specs.Held.{startOf}
 use Rattle.walk.proofs.one_at.Statement.{statement}
 use Rattle.walk.proofs.one_at.Tie as tie
-use Rattle.walk.proofs.one_at.Reads as reads
-use Rattle.walk.proofs.one_at.Lts as lts
-use Rattle.number.proofs.Number.one.Reads as one-reads
-use Rattle.number.proofs.Number.zero.Reads as zero-reads
-use Rattle.rowset.proofs.position.Reads as position-reads
 
 zero-requires : tie.Need-zero-requires
 zero-requires c κs = search needs

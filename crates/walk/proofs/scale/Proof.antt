@@ -5,10 +5,6 @@ use mathlib.Core.Bool.{Bool}
 use Rattle.walk.specs.Steps.{scaling}
 use Rattle.walk.proofs.scale.Statement.{statement}
 use Rattle.walk.proofs.scale.Tie as tie
-use Rattle.walk.proofs.scale.Reads as reads
-use Rattle.walk.proofs.scale.Lts as lts
-use Rattle.number.proofs.Number.div.Reads as div-reads
-use Rattle.number.proofs.Number.mul.Reads as mul-reads
 
 div-requires : tie.Need-div-requires
 div-requires c κs = search needs

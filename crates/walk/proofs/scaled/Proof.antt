@@ -1,19 +1,14 @@
 -- `scaled` meets its contract. The invariant: the number is scaled by the entries of the first i rows.
 use borrow.Author.Needs.{needs}
 use mathlib.Core.Logic.{⊎-elim}
-use mathlib.Core.Path.{_≡_, refl, sym, ap, _∙_, subst}
+use mathlib.Core.Path.{_≡_, sym, _∙_}
 use Prim.Native.Nat.{_+_, _-_, _≤_, _<_}
 use native.Mathlib.Omega.{arith}
-use Rattle.number.specs.Number.{Stored}
-use Rattle.number.specs.declared.Number.{Number}
 use Rattle.number.proofs.Reach.{ranged-more}
-use Rattle.walk.proofs.Scaling.{Scaled, entry-at, scaled-none, scaled-in, scaled-out}
+use Rattle.walk.specs.Steps.{entriesOf}
+use Rattle.walk.proofs.Scaling.{Scaled, scaled-none, scaled-in, scaled-out}
 use Rattle.walk.proofs.scaled.Statement.{statement}
 use Rattle.walk.proofs.scaled.Tie as tie
-use Rattle.walk.proofs.scaled.Reads as reads
-use Rattle.walk.proofs.scaled.Lts as lts
-use Rattle.rowset.proofs.has.Reads as has-reads
-use Rattle.walk.proofs.scale.Reads as scale-reads
 
 abbrev Inv-loop : tie.InvT-loop
 Inv-loop n s inverse d y₀ i₀ y i = (i ≤ n) × Scaled inverse d s y₀ y i
@@ -24,11 +19,14 @@ abbrev μ-loop : tie.MeasureT-loop
 loop-holds : tie.Need-loop-holds Inv-loop μ-loop
 loop-holds c = (search needs, scaled-none _ _ _ _ (search needs))
 
-add-has : tie.Need-add-has Inv-loop μ-loop
-add-has c = search needs
+add-row : tie.Need-add-row Inv-loop μ-loop
+add-row c = search needs
 
 has-requires : tie.Need-has-requires Inv-loop μ-loop
 has-requires c κs = search needs
+
+sub-e : tie.Need-sub-e Inv-loop μ-loop
+sub-e c = search needs
 
 mul-e : tie.Need-mul-e Inv-loop μ-loop
 mul-e c = search needs
@@ -37,11 +35,12 @@ array-copy-out-e : tie.Need-array-copy-out-e Inv-loop μ-loop
 array-copy-out-e c = search needs
 
 scale-requires : tie.Need-scale-requires Inv-loop μ-loop
+unfolding entriesOf
 scale-requires c κs =
     let b = c .before .before .before .before .before in
     let i = c .before .before .before .before .loop .i in (
       ranged-more (omega arith) (c .before .before .before .before .loop .inv .1 .ranged),
-      subst Stored (entry-at (b .args .t1) i) (b .pre .2 .stored (i + 1) (omega arith) (omega arith)),
+      b .pre .2 .stored (i + 1) (omega arith) (omega arith),
     )
 
 add-i : tie.Need-add-i Inv-loop μ-loop
@@ -51,6 +50,7 @@ loop-less : tie.Need-loop-less Inv-loop μ-loop
 loop-less c = search needs
 
 loop-again : tie.Need-loop-again Inv-loop μ-loop
+unfolding entriesOf
 loop-again c =
     let b = c .before .before .before .before in
     let i = c .before .before .before .loop .i in
@@ -76,8 +76,9 @@ scaled-spec =
     Inv-loop
     μ-loop
     loop-holds
-    add-has
+    add-row
     has-requires
+    sub-e
     mul-e
     array-copy-out-e
     scale-requires

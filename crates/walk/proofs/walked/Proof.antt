@@ -16,10 +16,6 @@ use Rattle.walk.proofs.Acts.{step-length}
 use Rattle.walk.proofs.Walking.{step-working, walk-start, walk-next}
 use Rattle.walk.proofs.walked.Statement.{statement}
 use Rattle.walk.proofs.walked.Tie as tie
-use Rattle.walk.proofs.walked.Reads as reads
-use Rattle.walk.proofs.walked.Lts as lts
-use Rattle.walk.proofs.act.Reads as act-reads
-use Rattle.walk.proofs.letters.middle.Reads as middle-reads
 
 abbrev Inv-loop : tie.InvT-loop
 Inv-loop n k s u₀ t₀ u t = (t ≤ 2 * middle n + 1) × Agree n k (stateOf u) (walk rounded (drop t (stepWord n (stepOf s))) (stateOf u₀))

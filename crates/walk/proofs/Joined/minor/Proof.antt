@@ -16,13 +16,6 @@ use Rattle.walk.proofs.Sweep.{below-256}
 use Rattle.walk.proofs.Minors.{joined-start, joined-next, steps-length, steps-none, steps-next, joined-working, stored-at, minor-held, minor-none, rows-some, rows-few}
 use Rattle.walk.proofs.Joined.minor.Statement.{statement}
 use Rattle.walk.proofs.Joined.minor.Tie as tie
-use Rattle.walk.proofs.Joined.minor.Reads as reads
-use Rattle.walk.proofs.Joined.minor.Lts as lts
-use Rattle.number.proofs.Number.one.Reads as one-reads
-use Rattle.rowset.proofs.count.Reads as count-reads
-use Rattle.rowset.proofs.position.Reads as position-reads
-use Rattle.walk.proofs.one_at.Reads as one-at-reads
-use Rattle.walk.proofs.walked.Reads as walked-reads
 
 abbrev Inv-loop : tie.InvT-loop
 Inv-loop i j self n k v₀ c₀ v c = (c ≤ self .count) × Agree n k (stateOf v) (walk rounded (joinedWord n (drop c (stepsOf self))) (oneAt rounded (ofMask n j)))

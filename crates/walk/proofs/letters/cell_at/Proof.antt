@@ -8,9 +8,6 @@ use Rattle.walk.proofs.Stages.{Stage, stage-at, lower-at, upper-at}
 use borrow.Author.Needs.{needs}
 use Rattle.walk.proofs.letters.cell_at.Statement.{statement}
 use Rattle.walk.proofs.letters.cell_at.Tie as tie
-use Rattle.walk.proofs.letters.cell_at.Reads as reads
-use Rattle.walk.proofs.letters.cell_at.Lts as lts
-use Rattle.rowset.proofs.wide.Reads as wide-reads
 
 array-read-wide : tie.Need-array-read-wide
 array-read-wide c = omega (arith, middle-few (c .args .n) (search needs))

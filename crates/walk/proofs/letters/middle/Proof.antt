@@ -5,8 +5,6 @@ use Rattle.walk.proofs.Spelling.{middle-few}
 use borrow.Author.Needs.{needs}
 use Rattle.walk.proofs.letters.middle.Statement.{statement}
 use Rattle.walk.proofs.letters.middle.Tie as tie
-use Rattle.walk.proofs.letters.middle.Reads as reads
-use Rattle.walk.proofs.letters.middle.Lts as lts
 
 sub-result : tie.Need-sub-result
 sub-result c = search needs

@@ -10,10 +10,6 @@ use Rattle.walk.proofs.Spelling.{mirrored, crossed, move-within, invers
 use borrow.Author.Needs.{needs}
 use Rattle.walk.proofs.letters.move_at.Statement.{statement}
 use Rattle.walk.proofs.letters.move_at.Tie as tie
-use Rattle.walk.proofs.letters.move_at.Reads as reads
-use Rattle.walk.proofs.letters.move_at.Lts as lts
-use Rattle.walk.proofs.letters.middle.Reads as middle-reads
-use Rattle.walk.proofs.letters.plain_at.Reads as plain-at-reads
 
 middle-requires : tie.Need-middle-requires
 middle-requires c κs = search needs

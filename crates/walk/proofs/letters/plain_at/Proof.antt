@@ -7,10 +7,6 @@ use Rattle.walk.specs.Letters.{middle, moveAt}
 use borrow.Author.Needs.{needs}
 use Rattle.walk.proofs.letters.plain_at.Statement.{statement}
 use Rattle.walk.proofs.letters.plain_at.Tie as tie
-use Rattle.walk.proofs.letters.plain_at.Reads as reads
-use Rattle.walk.proofs.letters.plain_at.Lts as lts
-use Rattle.walk.proofs.letters.cell_at.Reads as cell-at-reads
-use Rattle.walk.proofs.letters.middle.Reads as middle-reads
 
 middle-requires : tie.Need-middle-requires
 middle-requires c κs = search needs
