@@ -2,17 +2,15 @@
 // one that these calls cannot have made is answered with 255 and handed back.
 ghost use mathlib.Core.Path.{_≡_};
 ghost use lib.ListN.{length};
-ghost use Rattle.places.specs.Shelf.{emptyShelf};
+ghost use Rattle.places.specs.Shelf.{emptyShelf, Good};
 ghost use Rattle.reader.specs.Matrix.{behindOf};
-ghost use Rattle.tnb_c.specs.Answers.{ofChanged, ofOperated, ofWritten, ofValued, foreign, foreignLength, foreignMinor, loadAnswer, dropAnswer, writeAnswer, writtenAfter, transposeAnswer, minorAnswer};
+ghost use Rattle.tnb_c.specs.Answers.{loadAnswer, dropAnswer, writeAnswer, writtenAfter, transposeAnswer, minorAnswer, ofCounted, carryCall, carryItems, carryAnswer, carriedAfter};
+ghost use Rattle.lists.specs.Lists.{reversalsOf};
 use places::Shelf;
 use places::Verdict;
-use places::check;
-use shelf::Bounded;
-use shelf::Changed;
-use shelf::Operated;
-use shelf::Valued;
-use shelf::Written;
+use places::{check, judge};
+
+mod answers; // answers.rt: the shelf's answers as structs
 
 // What a call answers that may change the shelf: 0, or the number of the refusal with its offset; the bound of an operation, else 0; and the shelf after it.
 #[repr(C)]
@@ -40,95 +38,6 @@ pub struct Minor {
     pub exponent: i64,
 }
 
-fn foreign(shelf: Shelf) -> Answer
-    ensures { λ r. ⌜ r ≡ foreign shelf ⌝ }
-{
-    Answer {
-        number: 255,
-        bound: 0,
-        offset: 0,
-        shelf,
-    }
-}
-
-fn changed(x: Changed) -> Answer
-    ensures { λ r. ⌜ r ≡ ofChanged x ⌝ }
-{
-    let shelf = x.shelf;
-    let verdict = x.verdict;
-    match verdict {
-        Verdict::Accepted => Answer {
-            number: 0,
-            bound: 0,
-            offset: 0,
-            shelf,
-        },
-        Verdict::Refused(why) => Answer {
-            number: why.number,
-            bound: 0,
-            offset: why.offset,
-            shelf,
-        },
-    }
-}
-
-fn operated(x: Operated) -> Answer
-    ensures { λ r. ⌜ r ≡ ofOperated x ⌝ }
-{
-    let shelf = x.shelf;
-    let answer = x.answer;
-    match answer {
-        Bounded::Bound(bound) => Answer {
-            number: 0,
-            bound,
-            offset: 0,
-            shelf,
-        },
-        Bounded::Refused(why) => Answer {
-            number: why.number,
-            bound: 0,
-            offset: why.offset,
-            shelf,
-        },
-    }
-}
-
-fn written(x: Written) -> Length
-    ensures { λ r. ⌜ r ≡ ofWritten x ⌝ }
-{
-    match x {
-        Written::Length(length) => Length {
-            number: 0,
-            offset: 0,
-            length,
-        },
-        Written::Refused(why) => Length {
-            number: why.number,
-            offset: why.offset,
-            length: 0,
-        },
-    }
-}
-
-fn valued(x: Valued) -> Minor
-    ensures { λ r. ⌜ r ≡ ofValued x ⌝ }
-{
-    match x {
-        Valued::Value { mantissa, exponent } => Minor {
-            number: 0,
-            offset: 0,
-            mantissa,
-            exponent,
-        },
-        Valued::Refused(why) => Minor {
-            number: why.number,
-            offset: why.offset,
-            mantissa: 0,
-            exponent: 0,
-        },
-    }
-}
-
 // A shelf with all places empty.
 #[no_mangle]
 pub extern "C" fn tnb_new() -> Shelf
@@ -143,9 +52,9 @@ pub extern "C" fn tnb_load(shelf: Shelf, place: usize, bytes: &[u8]) -> Answer
     ensures { λ r. ⌜ r ≡ loadAnswer shelf place (now (bytes .entry)) ⌝ }
 {
     if check::is_good(shelf) {
-        return changed(shelf::load(shelf, place, bytes));
+        return answers::changed(shelf::load(shelf, place, bytes));
     }
-    foreign(shelf)
+    answers::foreign(shelf)
 }
 
 // Empties a place.
@@ -154,9 +63,9 @@ pub extern "C" fn tnb_drop(shelf: Shelf, place: usize) -> Answer
     ensures { λ r. ⌜ r ≡ dropAnswer shelf place ⌝ }
 {
     if check::is_good(shelf) {
-        return changed(shelf::drop_place(shelf, place));
+        return answers::changed(shelf::drop_place(shelf, place));
     }
-    foreign(shelf)
+    answers::foreign(shelf)
 }
 
 // Writes a place to lent bytes.
@@ -166,7 +75,7 @@ pub extern "C" fn tnb_write(shelf: Shelf, place: usize, out: &mut [u8]) -> Lengt
     ensures { λ _. ⌜ now (out .exit) ≡ writtenAfter shelf place (now (out .entry)) ⌝ }
 {
     if check::is_good(shelf) {
-        return written(shelf::write(shelf, place, out));
+        return answers::written(shelf::write(shelf, place, out));
     }
     Length {
         number: 255,
@@ -181,9 +90,9 @@ pub extern "C" fn tnb_transpose(shelf: Shelf, source: usize, target: usize) -> A
     ensures { λ r. ⌜ r ≡ transposeAnswer shelf source target ⌝ }
 {
     if check::is_good(shelf) {
-        return operated(shelf::transpose(shelf, source, target));
+        return answers::operated(shelf::transpose(shelf, source, target));
     }
-    foreign(shelf)
+    answers::foreign(shelf)
 }
 
 // A minor of a place, of the rows and columns of two masks.
@@ -192,7 +101,7 @@ pub extern "C" fn tnb_minor(shelf: Shelf, place: usize, rows: u8, columns: u8) -
     ensures { λ r. ⌜ r ≡ minorAnswer shelf place rows columns ⌝ }
 {
     if check::is_good(shelf) {
-        return valued(shelf::minor(shelf, place, rows, columns));
+        return answers::valued(shelf::minor(shelf, place, rows, columns));
     }
     Minor {
         number: 255,
@@ -209,4 +118,48 @@ pub extern "C" fn tnb_rest(bytes: &[u8]) -> usize
 {
     let part = reader::behind(bytes);
     part.len()
+}
+
+// Carries a list through a place, once the shelf is known to be a good one.
+fn carry(shelf: Shelf, place: usize, items: &[i64], out: &mut [i64]) -> Length
+    requires { ⌜ Good shelf ⌝ }
+    ensures { λ r. ⌜ r ≡ carryCall shelf place (now (items .entry)) (now (out .entry)) ⌝ }
+    ensures { λ _. ⌜ now (out .exit) ≡ carryItems shelf place (now (items .entry)) (now (out .entry)) ⌝ }
+{
+    let first = judge::source(shelf, place);
+    if let Verdict::Refused(why) = first {
+        return Length {
+            number: why.number,
+            offset: why.offset,
+            length: 0,
+        };
+    }
+    let n = places::rows_at(shelf, place);
+    let factors = places::table_at(shelf, place);
+    let answer = lists::carry(factors, n, items, out);
+    answers::carried(answer, n)
+}
+
+// Carries as many items as the matrix of a place has rows into a second list. An item is three numbers: sign, mantissa, exponent.
+#[no_mangle]
+pub extern "C" fn tnb_carry(shelf: Shelf, place: usize, items: &[i64], out: &mut [i64]) -> Length
+    ensures { λ r. ⌜ r ≡ carryAnswer shelf place (now (items .entry)) (now (out .entry)) ⌝ }
+    ensures { λ _. ⌜ now (out .exit) ≡ carriedAfter shelf place (now (items .entry)) (now (out .entry)) ⌝ }
+{
+    if check::is_good(shelf) {
+        return carry(shelf, place, items, out);
+    }
+    Length {
+        number: 255,
+        offset: 0,
+        length: 0,
+    }
+}
+
+// Counts the reversals of a list of 1 to 8 items.
+#[no_mangle]
+pub extern "C" fn tnb_reversals(items: &[i64]) -> Length
+    ensures { λ r. ⌜ r ≡ ofCounted (reversalsOf (now (items .entry))) ⌝ }
+{
+    answers::counted(lists::reversals(items))
 }

@@ -9,8 +9,8 @@ use Rattle.tnb_c.proofs.tnb_load.Reads as reads
 use Rattle.tnb_c.proofs.tnb_load.Lts as lts
 use Rattle.places.proofs.check.is_good.Reads as is-good-reads
 use Rattle.shelf.proofs.load.Reads as load-reads
-use Rattle.tnb_c.proofs.changed.Reads as changed-reads
-use Rattle.tnb_c.proofs.foreign.Reads as foreign-reads
+use Rattle.tnb_c.proofs.answers.changed.Reads as changed-reads
+use Rattle.tnb_c.proofs.answers.foreign.Reads as foreign-reads
 
 -- src/lib.rt:141:8
 is-good-requires : tie.Need-is-good-requires

@@ -9,8 +9,8 @@ use Rattle.tnb_c.proofs.tnb_transpose.Reads as reads
 use Rattle.tnb_c.proofs.tnb_transpose.Lts as lts
 use Rattle.places.proofs.check.is_good.Reads as is-good-reads
 use Rattle.shelf.proofs.transpose.Reads as transpose-reads
-use Rattle.tnb_c.proofs.foreign.Reads as foreign-reads
-use Rattle.tnb_c.proofs.operated.Reads as operated-reads
+use Rattle.tnb_c.proofs.answers.foreign.Reads as foreign-reads
+use Rattle.tnb_c.proofs.answers.operated.Reads as operated-reads
 
 -- src/lib.rt:179:8
 is-good-requires : tie.Need-is-good-requires

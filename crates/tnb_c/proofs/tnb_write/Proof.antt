@@ -9,7 +9,7 @@ use Rattle.tnb_c.proofs.tnb_write.Reads as reads
 use Rattle.tnb_c.proofs.tnb_write.Lts as lts
 use Rattle.places.proofs.check.is_good.Reads as is-good-reads
 use Rattle.shelf.proofs.write.Reads as write-reads
-use Rattle.tnb_c.proofs.written.Reads as written-reads
+use Rattle.tnb_c.proofs.answers.written.Reads as written-reads
 
 -- src/lib.rt:164:8
 is-good-requires : tie.Need-is-good-requires

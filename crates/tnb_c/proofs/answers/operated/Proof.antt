@@ -2,10 +2,10 @@
 use mathlib.Core.Path.{sym, ap}
 use Rattle.tnb_c.specs.Answers.{ofBounded}
 use borrow.Author.Needs.{needs}
-use Rattle.tnb_c.proofs.operated.Statement.{statement}
-use Rattle.tnb_c.proofs.operated.Tie as tie
-use Rattle.tnb_c.proofs.operated.Reads as reads
-use Rattle.tnb_c.proofs.operated.Lts as lts
+use Rattle.tnb_c.proofs.answers.operated.Statement.{statement}
+use Rattle.tnb_c.proofs.answers.operated.Tie as tie
+use Rattle.tnb_c.proofs.answers.operated.Reads as reads
+use Rattle.tnb_c.proofs.answers.operated.Lts as lts
 
 -- src/lib.rt:77:24
 enum-known-answer : tie.Need-enum-known-answer

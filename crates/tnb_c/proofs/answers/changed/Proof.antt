@@ -2,10 +2,10 @@
 use mathlib.Core.Path.{sym, ap}
 use Rattle.tnb_c.specs.Answers.{ofVerdict}
 use borrow.Author.Needs.{needs}
-use Rattle.tnb_c.proofs.changed.Statement.{statement}
-use Rattle.tnb_c.proofs.changed.Tie as tie
-use Rattle.tnb_c.proofs.changed.Reads as reads
-use Rattle.tnb_c.proofs.changed.Lts as lts
+use Rattle.tnb_c.proofs.answers.changed.Statement.{statement}
+use Rattle.tnb_c.proofs.answers.changed.Tie as tie
+use Rattle.tnb_c.proofs.answers.changed.Reads as reads
+use Rattle.tnb_c.proofs.answers.changed.Lts as lts
 
 -- src/lib.rt:56:30
 enum-told : tie.Need-enum-told

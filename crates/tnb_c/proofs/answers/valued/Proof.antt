@@ -7,10 +7,10 @@ use mir.Facts.{toZ-ofZ}
 use Rattle.tnb_c.specs.declared.Minor.{Minor}
 use Rattle.tnb_c.specs.Answers.{ofValued}
 use borrow.Author.Needs.{needs}
-use Rattle.tnb_c.proofs.valued.Statement.{statement}
-use Rattle.tnb_c.proofs.valued.Tie as tie
-use Rattle.tnb_c.proofs.valued.Reads as reads
-use Rattle.tnb_c.proofs.valued.Lts as lts
+use Rattle.tnb_c.proofs.answers.valued.Statement.{statement}
+use Rattle.tnb_c.proofs.answers.valued.Tie as tie
+use Rattle.tnb_c.proofs.answers.valued.Reads as reads
+use Rattle.tnb_c.proofs.answers.valued.Lts as lts
 
 -- src/lib.rt:113:25
 enum-known-x : tie.Need-enum-known-x

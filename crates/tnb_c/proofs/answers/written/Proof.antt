@@ -2,10 +2,10 @@
 use mathlib.Core.Path.{sym, ap}
 use Rattle.tnb_c.specs.Answers.{ofWritten}
 use borrow.Author.Needs.{needs}
-use Rattle.tnb_c.proofs.written.Statement.{statement}
-use Rattle.tnb_c.proofs.written.Tie as tie
-use Rattle.tnb_c.proofs.written.Reads as reads
-use Rattle.tnb_c.proofs.written.Lts as lts
+use Rattle.tnb_c.proofs.answers.written.Statement.{statement}
+use Rattle.tnb_c.proofs.answers.written.Tie as tie
+use Rattle.tnb_c.proofs.answers.written.Reads as reads
+use Rattle.tnb_c.proofs.answers.written.Lts as lts
 
 -- src/lib.rt:96:25
 enum-known-x : tie.Need-enum-known-x
