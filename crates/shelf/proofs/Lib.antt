@@ -2,6 +2,3 @@
 pub mod Loading
 pub mod Dropping
 pub mod Writing
-pub mod Proposals
-pub mod Results
-pub mod MinorCalls

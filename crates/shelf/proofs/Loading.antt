@@ -132,8 +132,8 @@ module _ (s : Shelf) (p : ℕ) (bytes : List ℕ) where
     load-good =
         after-good s (readTo s p (matrixOf bytes)) good (firstOf (loadTests s p bytes))
         (λ e.
-          let t = target-accepted s p (first-passed (targetTests s p) (ofReading bytes (matrixOf bytes)) e .0) in
-          read-good (t .small) (matrixOf bytes) refl)
+        let t = target-accepted s p (first-passed (targetTests s p) (ofReading bytes (matrixOf bytes)) e .0) in
+        read-good (t .small) (matrixOf bytes) refl)
 
     pub load-answered : (x : Changed) → x ≡ loadCall s p bytes → (x ≡ loadCall s p bytes) × Good (x .shelf)
     load-answered x e = (e, rw e load-good)

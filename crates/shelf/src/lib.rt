@@ -1,16 +1,23 @@
 // The shelf of eight matrices, and its calls. A shelf goes in by value and comes back; a refused call hands it back as it was.
 ghost use mathlib.Core.Path.{_≡_};
-ghost use Prim.Native.Nat.{_≤_, _<_};
-ghost use Rattle.places.specs.Shelf.{emptyShelf, Good};
+ghost use Rattle.places.specs.Shelf.{Good};
 ghost use Rattle.shelf.specs.Calls.{changed, loadCall, dropCall, writeCall, bytesAfter};
-ghost use Rattle.shelf.specs.Operations.{transposeCall, minorCall};
-use number::Number;
-use places::{judge, tables};
-pub use places::{Refusal, Shelf, Verdict};
-
-
-mod operations; // operations.rt: their results, and how these are kept
-mod value; // value.rt: a minor, and exponents as they are answered
+pub use operations::Bounded;
+pub use operations::Operated;
+pub use operations::Valued;
+pub use operations::converse;
+pub use operations::inverse;
+pub use operations::minor;
+pub use operations::product;
+pub use operations::submatrix;
+pub use operations::transpose;
+pub use places::Refusal;
+pub use places::Shelf;
+pub use places::Verdict;
+use places::judge;
+pub use places::new;
+use places::tables;
+pub use reader::behind;
 
 // The shelf after a call that only changes it.
 pub struct Changed {
@@ -22,31 +29,6 @@ pub enum Written {
     // So many bytes were written.
     Length(usize),
     Refused(Refusal),
-}
-
-pub enum Bounded {
-    // The result's factors are within so many unit roundings.
-    Bound(u32),
-    Refused(Refusal),
-}
-
-// The result of an operation before it is kept.
-pub struct Proposed {
-    answer: Bounded,
-    rows: usize,
-    factors: [Number; 64],
-}
-
-pub enum Valued {
-    // A mantissa times 2 to the power of an exponent.
-    Value { mantissa: u64, exponent: i64 },
-    Refused(Refusal),
-}
-
-// The shelf after an operation.
-pub struct Operated {
-    pub shelf: Shelf,
-    pub answer: Bounded,
 }
 
 // A call that was turned down hands the shelf back as it was.
@@ -127,43 +109,5 @@ pub fn write(shelf: Shelf, place: usize, out: &mut [u8]) -> Written
             number: 10,
             offset: 0,
         }),
-    }
-}
-
-// The transpose of a place, to an empty place.
-pub fn transpose(shelf: Shelf, source: usize, target: usize) -> Operated
-    requires { ⌜ Good shelf ⌝ }
-    ensures { λ r. ⌜ r ≡ transposeCall shelf source target ⌝ }
-    ensures { λ r. ⌜ Good (r .shelf) ⌝ }
-{
-    operations::keep(shelf, target, operations::transposed(shelf, source, target))
-}
-
-// Any minor of a place, its row and column sets given as masks.
-pub fn minor(shelf: Shelf, place: usize, rows: u8, columns: u8) -> Valued
-    requires { ⌜ Good shelf ⌝ }
-    ensures { λ r. ⌜ r ≡ minorCall shelf place rows columns ⌝ }
-{
-    let first = judge::source(shelf, place);
-    if let Verdict::Refused(why) = first {
-        return Valued::Refused(why);
-    }
-    let n = places::rows_at(shelf, place);
-    let i = rowset::wide(rows);
-    let j = rowset::wide(columns);
-    let second = judge::sets(n, i, j);
-    if let Verdict::Refused(why) = second {
-        return Valued::Refused(why);
-    }
-    let a = value::minor(places::table_at(shelf, place), n, i, j);
-    if !a.in_range() {
-        return Valued::Refused(Refusal {
-            number: 14,
-            offset: 0,
-        });
-    }
-    Valued::Value {
-        mantissa: a.m,
-        exponent: value::exponent(a.x),
     }
 }
