@@ -1,30 +1,25 @@
 -- What the calls for C and Rust answer: the shelf's own answers (`ofChanged`, ..), with 0 for accepted, where the shelf is a good one;
 -- 255 and the shelf as it was where it is not (`foreign`).
-use Prim.Native.Nat.{ℕ, _<_}
+use Prim.Native.Nat.{ℕ}
 use mathlib.Core.Bool.{cond}
 use mathlib.Core.List.{List}
-use lib.IntN.{ℤ, pos}
+use lib.IntN.{pos}
 use Rattle.places.specs.declared.Shelf.{Shelf}
 use Rattle.places.specs.declared.Verdict.{Verdict}
 use Rattle.places.specs.declared.Verdict.the-variants.{Accepted, Refused}
 use Rattle.places.specs.Check.{isGood}
 use Rattle.shelf.specs.declared.Changed.{Changed}
-use Rattle.shelf.specs.declared.Operated.{Operated}
-use Rattle.shelf.specs.declared.Bounded.{Bounded}
-use Rattle.shelf.specs.declared.Bounded.the-variants as answer
+use Rattle.operations.specs.declared.Operated.{Operated}
+use Rattle.operations.specs.declared.Bounded.{Bounded}
+use Rattle.operations.specs.declared.Bounded.the-variants as answer
 use Rattle.shelf.specs.declared.Written.{Written}
 use Rattle.shelf.specs.declared.Written.the-variants as write
-use Rattle.shelf.specs.declared.Valued.{Valued}
-use Rattle.shelf.specs.declared.Valued.the-variants as value
+use Rattle.operations.specs.declared.Valued.{Valued}
+use Rattle.operations.specs.declared.Valued.the-variants as value
 use Rattle.shelf.specs.Calls.{loadCall, dropCall, writeCall, bytesAfter}
-use Rattle.shelf.specs.Operations.{transposeCall, minorCall}
+use Rattle.operations.specs.Operations.{productCall, inverseCall, converseCall, submatrixCall, transposeCall, minorCall}
 use Rattle.lists.specs.declared.Counted.{Counted}
 use Rattle.lists.specs.declared.Counted.the-variants as counted
-use Rattle.lists.specs.declared.Answer as lists
-use Rattle.lists.specs.declared.Answer.the-variants as carried
-use Rattle.lists.specs.Lists.{Outcome, carryOf}
-use Rattle.places.specs.Shelf.{rowsAt, factorsAt}
-use Rattle.places.specs.Refusal.{firstOf, after, sourceTests}
 use Rattle.tnb_c.specs.declared.Answer.{Answer}
 use Rattle.tnb_c.specs.declared.Length.{Length}
 use Rattle.tnb_c.specs.declared.Minor.{Minor}
@@ -57,30 +52,6 @@ abbrev pub ofCounted : Counted → Length
 ofCounted (counted.Reversals k) = record { number = 0; offset = 0; length = k }
 ofCounted (counted.Refused k) = record { number = 9; offset = 0; length = 0 }
 
--- a refusal's number fits a byte
-abbrev pub Numbered : lists.Answer → Type 0
-Numbered carried.Done = Unit {0}
-Numbered (carried.Refused k) = k < 256
-
--- n items carried
-abbrev pub ofCarried : ℕ → lists.Answer → Length
-ofCarried n carried.Done = record { number = 0; offset = 0; length = n }
-ofCarried n (carried.Refused k) = record { number = k; offset = 0; length = 0 }
-
--- CARRYING through a place: its tests 1 and 11, then those of the list
-abbrev pub carryAt : Shelf → ℕ → (items out : List ℤ) → Outcome
-carryAt s p items out = carryOf (rowsAt s p) (factorsAt s p) items out
-
-abbrev pub carriedBy : ℕ → Outcome → Verdict → Length
-carriedBy n o Accepted = ofCarried n (o .answer)
-carriedBy n o (Refused w) = record { number = w .number; offset = w .offset; length = 0 }
-
-abbrev pub carryCall : Shelf → ℕ → (items out : List ℤ) → Length
-carryCall s p items out = carriedBy (rowsAt s p) (carryAt s p items out) (firstOf (sourceTests s p))
-
-abbrev pub carryItems : Shelf → ℕ → (items out : List ℤ) → List ℤ
-carryItems s p items out = after (firstOf (sourceTests s p)) out (carryAt s p items out .out)
-
 -- A SHELF THAT IS NOT GOOD
 abbrev pub foreign : Shelf → Answer
 foreign s = record { number = 255; bound = 0; offset = 0; shelf = s }
@@ -104,14 +75,20 @@ writeAnswer s p out = cond (isGood s) (ofWritten (writeCall s p out)) foreignLen
 abbrev pub writtenAfter : Shelf → ℕ → List ℕ → List ℕ
 writtenAfter s p out = cond (isGood s) (bytesAfter s p out) out
 
+abbrev pub productAnswer : Shelf → ℕ → ℕ → ℕ → Answer
+productAnswer s l r t = cond (isGood s) (ofOperated (productCall s l r t)) (foreign s)
+
+abbrev pub inverseAnswer : Shelf → ℕ → ℕ → Answer
+inverseAnswer s p t = cond (isGood s) (ofOperated (inverseCall s p t)) (foreign s)
+
+abbrev pub converseAnswer : Shelf → ℕ → ℕ → Answer
+converseAnswer s p t = cond (isGood s) (ofOperated (converseCall s p t)) (foreign s)
+
+abbrev pub submatrixAnswer : Shelf → ℕ → ℕ → ℕ → ℕ → Answer
+submatrixAnswer s p I J t = cond (isGood s) (ofOperated (submatrixCall s p I J t)) (foreign s)
+
 abbrev pub transposeAnswer : Shelf → ℕ → ℕ → Answer
 transposeAnswer s p t = cond (isGood s) (ofOperated (transposeCall s p t)) (foreign s)
 
 abbrev pub minorAnswer : Shelf → ℕ → ℕ → ℕ → Minor
 minorAnswer s p I J = cond (isGood s) (ofValued (minorCall s p I J)) foreignMinor
-
-abbrev pub carryAnswer : Shelf → ℕ → (items out : List ℤ) → Length
-carryAnswer s p items out = cond (isGood s) (carryCall s p items out) foreignLength
-
-abbrev pub carriedAfter : Shelf → ℕ → (items out : List ℤ) → List ℤ
-carriedAfter s p items out = cond (isGood s) (carryItems s p items out) out

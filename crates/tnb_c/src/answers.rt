@@ -1,13 +1,17 @@
 // The shelf's answers as structs that C can hold. A number of 0 says accepted.
 ghost use mathlib.Core.Path.{_≡_};
-ghost use Rattle.tnb_c.specs.Answers.{Numbered, foreign, ofChanged, ofOperated, ofWritten, ofValued, ofCounted, ofCarried};
+ghost use Rattle.tnb_c.specs.Answers.{foreign, ofChanged, ofOperated, ofWritten, ofValued, ofCounted};
 use crate::Answer;
 use crate::Length;
 use crate::Minor;
 use lists::Counted;
+use operations::Bounded;
+use operations::Operated;
+use operations::Valued;
 use places::Shelf;
 use places::Verdict;
-use shelf::{Bounded, Changed, Operated, Valued, Written};
+use shelf::Changed;
+use shelf::Written;
 
 // A shelf that is not a good one is handed back.
 pub fn foreign(shelf: Shelf) -> Answer
@@ -111,25 +115,6 @@ pub fn counted(x: Counted) -> Length
         },
         Counted::Refused(_) => Length {
             number: 9,
-            offset: 0,
-            length: 0,
-        },
-    }
-}
-
-// A list of n items carried.
-pub fn carried(x: lists::Answer, n: usize) -> Length
-    requires { ⌜ Numbered x ⌝ }
-    ensures { λ r. ⌜ r ≡ ofCarried n x ⌝ }
-{
-    match x {
-        lists::Answer::Done => Length {
-            number: 0,
-            offset: 0,
-            length: n,
-        },
-        lists::Answer::Refused(k) => Length {
-            number: k as u8,
             offset: 0,
             length: 0,
         },

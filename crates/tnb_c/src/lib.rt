@@ -2,13 +2,13 @@
 // one that these calls cannot have made is answered with 255 and handed back.
 ghost use mathlib.Core.Path.{_≡_};
 ghost use lib.ListN.{length};
-ghost use Rattle.places.specs.Shelf.{emptyShelf, Good};
+ghost use Rattle.places.specs.Shelf.{emptyShelf};
 ghost use Rattle.reader.specs.Matrix.{behindOf};
-ghost use Rattle.tnb_c.specs.Answers.{loadAnswer, dropAnswer, writeAnswer, writtenAfter, transposeAnswer, minorAnswer, ofCounted, carryCall, carryItems, carryAnswer, carriedAfter};
+ghost use Rattle.tnb_c.specs.Answers.{loadAnswer, dropAnswer, writeAnswer, writtenAfter, ofCounted};
+ghost use Rattle.tnb_c.specs.Answers.{productAnswer, inverseAnswer, converseAnswer, submatrixAnswer, transposeAnswer, minorAnswer};
 ghost use Rattle.lists.specs.Lists.{reversalsOf};
 use places::Shelf;
-use places::Verdict;
-use places::{check, judge};
+use places::check;
 
 mod answers; // answers.rt: the shelf's answers as structs
 
@@ -84,13 +84,63 @@ pub extern "C" fn tnb_write(shelf: Shelf, place: usize, out: &mut [u8]) -> Lengt
     }
 }
 
+// The product of two places, left times right, to an empty place.
+#[no_mangle]
+pub extern "C" fn tnb_product(shelf: Shelf, left: usize, right: usize, target: usize) -> Answer
+    ensures { λ r. ⌜ r ≡ productAnswer shelf left right target ⌝ }
+{
+    if check::is_good(shelf) {
+        return answers::operated(operations::product(shelf, left, right, target));
+    }
+    answers::foreign(shelf)
+}
+
+// The re-signed inverse of a place, to an empty place.
+#[no_mangle]
+pub extern "C" fn tnb_inverse(shelf: Shelf, source: usize, target: usize) -> Answer
+    ensures { λ r. ⌜ r ≡ inverseAnswer shelf source target ⌝ }
+{
+    if check::is_good(shelf) {
+        return answers::operated(operations::inverse(shelf, source, target));
+    }
+    answers::foreign(shelf)
+}
+
+// The converse of a place, to an empty place.
+#[no_mangle]
+pub extern "C" fn tnb_converse(shelf: Shelf, source: usize, target: usize) -> Answer
+    ensures { λ r. ⌜ r ≡ converseAnswer shelf source target ⌝ }
+{
+    if check::is_good(shelf) {
+        return answers::operated(operations::converse(shelf, source, target));
+    }
+    answers::foreign(shelf)
+}
+
+// The chosen rows and columns of a place, given as masks, to an empty place.
+#[no_mangle]
+pub extern "C" fn tnb_submatrix(
+    shelf: Shelf,
+    source: usize,
+    rows: u8,
+    columns: u8,
+    target: usize,
+) -> Answer
+    ensures { λ r. ⌜ r ≡ submatrixAnswer shelf source rows columns target ⌝ }
+{
+    if check::is_good(shelf) {
+        return answers::operated(operations::submatrix(shelf, source, rows, columns, target));
+    }
+    answers::foreign(shelf)
+}
+
 // The transpose of a place, to an empty place.
 #[no_mangle]
 pub extern "C" fn tnb_transpose(shelf: Shelf, source: usize, target: usize) -> Answer
     ensures { λ r. ⌜ r ≡ transposeAnswer shelf source target ⌝ }
 {
     if check::is_good(shelf) {
-        return answers::operated(shelf::transpose(shelf, source, target));
+        return answers::operated(operations::transpose(shelf, source, target));
     }
     answers::foreign(shelf)
 }
@@ -101,7 +151,7 @@ pub extern "C" fn tnb_minor(shelf: Shelf, place: usize, rows: u8, columns: u8) -
     ensures { λ r. ⌜ r ≡ minorAnswer shelf place rows columns ⌝ }
 {
     if check::is_good(shelf) {
-        return answers::valued(shelf::minor(shelf, place, rows, columns));
+        return answers::valued(operations::minor(shelf, place, rows, columns));
     }
     Minor {
         number: 255,
@@ -118,42 +168,6 @@ pub extern "C" fn tnb_rest(bytes: &[u8]) -> usize
 {
     let part = reader::behind(bytes);
     part.len()
-}
-
-// Carries a list through a place, once the shelf is known to be a good one.
-fn carry(shelf: Shelf, place: usize, items: &[i64], out: &mut [i64]) -> Length
-    requires { ⌜ Good shelf ⌝ }
-    ensures { λ r. ⌜ r ≡ carryCall shelf place (now (items .entry)) (now (out .entry)) ⌝ }
-    ensures { λ _. ⌜ now (out .exit) ≡ carryItems shelf place (now (items .entry)) (now (out .entry)) ⌝ }
-{
-    let first = judge::source(shelf, place);
-    if let Verdict::Refused(why) = first {
-        return Length {
-            number: why.number,
-            offset: why.offset,
-            length: 0,
-        };
-    }
-    let n = places::rows_at(shelf, place);
-    let factors = places::table_at(shelf, place);
-    let answer = lists::carry(factors, n, items, out);
-    answers::carried(answer, n)
-}
-
-// Carries as many items as the matrix of a place has rows into a second list. An item is three numbers: sign, mantissa, exponent.
-#[no_mangle]
-pub extern "C" fn tnb_carry(shelf: Shelf, place: usize, items: &[i64], out: &mut [i64]) -> Length
-    ensures { λ r. ⌜ r ≡ carryAnswer shelf place (now (items .entry)) (now (out .entry)) ⌝ }
-    ensures { λ _. ⌜ now (out .exit) ≡ carriedAfter shelf place (now (items .entry)) (now (out .entry)) ⌝ }
-{
-    if check::is_good(shelf) {
-        return carry(shelf, place, items, out);
-    }
-    Length {
-        number: 255,
-        offset: 0,
-        length: 0,
-    }
 }
 
 // Counts the reversals of a list of 1 to 8 items.

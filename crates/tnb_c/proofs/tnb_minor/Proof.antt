@@ -8,7 +8,7 @@ use Rattle.tnb_c.proofs.tnb_minor.Tie as tie
 use Rattle.tnb_c.proofs.tnb_minor.Reads as reads
 use Rattle.tnb_c.proofs.tnb_minor.Lts as lts
 use Rattle.places.proofs.check.is_good.Reads as is-good-reads
-use Rattle.shelf.proofs.minor.Reads as minor-reads
+use Rattle.operations.proofs.minor.Reads as minor-reads
 use Rattle.tnb_c.proofs.answers.valued.Reads as valued-reads
 
 -- src/lib.rt:190:8

@@ -1,3 +1,6 @@
+-- `tnb_reversals` meets its contract.
+use mathlib.Core.Path.{ap, _∙_}
+use Rattle.tnb_c.specs.Answers.{ofCounted}
 use borrow.Author.Needs.{needs}
 use Rattle.tnb_c.proofs.tnb_reversals.Statement.{statement}
 use Rattle.tnb_c.proofs.tnb_reversals.Tie as tie
@@ -16,7 +19,7 @@ counted-requires c κs = search needs
 
 -- src/lib.rt:160:1
 returns : tie.Need-returns
-returns c = search needs
+returns c = c .counted .ensures ∙ ap ofCounted (c .before .reversals .ensures)
 
 pub tnb-reversals-spec : {M : Type 1} → statement M
 tnb-reversals-spec = tie.close (tie.spec reversals-requires counted-requires returns)

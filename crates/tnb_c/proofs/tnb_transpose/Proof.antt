@@ -8,7 +8,7 @@ use Rattle.tnb_c.proofs.tnb_transpose.Tie as tie
 use Rattle.tnb_c.proofs.tnb_transpose.Reads as reads
 use Rattle.tnb_c.proofs.tnb_transpose.Lts as lts
 use Rattle.places.proofs.check.is_good.Reads as is-good-reads
-use Rattle.shelf.proofs.transpose.Reads as transpose-reads
+use Rattle.operations.proofs.transpose.Reads as transpose-reads
 use Rattle.tnb_c.proofs.answers.foreign.Reads as foreign-reads
 use Rattle.tnb_c.proofs.answers.operated.Reads as operated-reads
 

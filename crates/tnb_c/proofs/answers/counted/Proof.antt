@@ -1,3 +1,6 @@
+-- `counted` meets its contract.
+use mathlib.Core.Path.{sym, ap}
+use Rattle.tnb_c.specs.Answers.{ofCounted}
 use borrow.Author.Needs.{needs}
 use Rattle.tnb_c.proofs.answers.counted.Statement.{statement}
 use Rattle.tnb_c.proofs.answers.counted.Tie as tie
@@ -14,11 +17,11 @@ enum-told c = search needs
 
 -- src/answers.rt:103:1
 returns : tie.Need-returns
-returns c = search needs
+returns c = sym (ap ofCounted (c .before .x .given .1))
 
 -- src/answers.rt:103:1
 returns-2 : tie.Need-returns-2
-returns-2 c = search needs
+returns-2 c = sym (ap ofCounted (c .enum-told .given .1))
 
 pub counted-spec : {M : Type 1} → statement M
 counted-spec = tie.close (tie.spec enum-known-x enum-told returns returns-2)
