@@ -106,6 +106,9 @@ tnb_value tnb_minor(tnb_shelf shelf, size_t place, uint8_t rows, uint8_t columns
  * them, where a load would refuse that matrix for a fault in its own bytes. Never refused. */
 size_t tnb_rest(const uint8_t *bytes, size_t count);
 
+/* Counts the reversals of a list of 1 to 8 items: neighbours of which one is positive and one negative. Refusal 9. */
+tnb_length tnb_reversals(const int64_t *items, size_t count);
+
 #ifdef __cplusplus
 }
 #endif
