@@ -3,7 +3,7 @@
 use Prim.Native.Nat.{ℕ}
 use mathlib.Core.Bool.{cond}
 use mathlib.Core.List.{List}
-use lib.IntN.{pos}
+use lib.IntN.{ℤ, pos}
 use Rattle.places.specs.declared.Shelf.{Shelf}
 use Rattle.places.specs.declared.Verdict.{Verdict}
 use Rattle.places.specs.declared.Verdict.the-variants.{Accepted, Refused}
@@ -18,11 +18,13 @@ use Rattle.operations.specs.declared.Valued.{Valued}
 use Rattle.operations.specs.declared.Valued.the-variants as value
 use Rattle.shelf.specs.Calls.{loadCall, dropCall, writeCall, bytesAfter}
 use Rattle.operations.specs.Operations.{productCall, inverseCall, converseCall, submatrixCall, transposeCall, minorCall}
-use Rattle.lists.specs.declared.Counted.{Counted}
-use Rattle.lists.specs.declared.Counted.the-variants as counted
+use Rattle.shelf.specs.declared.Reversals.{Reversals}
+use Rattle.shelf.specs.declared.Reversals.the-variants as reversals
+use Rattle.shelf.specs.ListCalls.{carryCall, itemsAfter}
 use Rattle.tnb_c.specs.declared.Answer.{Answer}
 use Rattle.tnb_c.specs.declared.Length.{Length}
 use Rattle.tnb_c.specs.declared.Minor.{Minor}
+use Rattle.tnb_c.specs.declared.Status.{Status}
 
 -- THE SHELF'S ANSWERS as structs
 abbrev pub ofVerdict : Shelf → Verdict → Answer
@@ -47,10 +49,13 @@ abbrev pub ofValued : Valued → Minor
 ofValued (value.Value m e) = record { number = 0; offset = 0; mantissa = m; exponent = e }
 ofValued (value.Refused w) = record { number = w .number; offset = w .offset; mantissa = 0; exponent = pos 0 }
 
--- of a list only 9 can be said
-abbrev pub ofCounted : Counted → Length
-ofCounted (counted.Reversals k) = record { number = 0; offset = 0; length = k }
-ofCounted (counted.Refused k) = record { number = 9; offset = 0; length = 0 }
+abbrev pub ofCounted : Reversals → Length
+ofCounted (reversals.Count k) = record { number = 0; offset = 0; length = k }
+ofCounted (reversals.Refused w) = record { number = w .number; offset = w .offset; length = 0 }
+
+abbrev pub ofCarried : Verdict → Status
+ofCarried Accepted = record { number = 0; offset = 0 }
+ofCarried (Refused w) = record { number = w .number; offset = w .offset }
 
 -- A SHELF THAT IS NOT GOOD
 abbrev pub foreign : Shelf → Answer
@@ -61,6 +66,9 @@ foreignLength = record { number = 255; offset = 0; length = 0 }
 
 abbrev pub foreignMinor : Minor
 foreignMinor = record { number = 255; offset = 0; mantissa = 0; exponent = pos 0 }
+
+abbrev pub foreignStatus : Status
+foreignStatus = record { number = 255; offset = 0 }
 
 -- THE CALLS
 abbrev pub loadAnswer : Shelf → ℕ → List ℕ → Answer
@@ -92,3 +100,9 @@ transposeAnswer s p t = cond (isGood s) (ofOperated (transposeCall s p t)) (fore
 
 abbrev pub minorAnswer : Shelf → ℕ → ℕ → ℕ → Minor
 minorAnswer s p I J = cond (isGood s) (ofValued (minorCall s p I J)) foreignMinor
+
+abbrev pub carryAnswer : Shelf → ℕ → (items out : List ℤ) → Status
+carryAnswer s p items out = cond (isGood s) (ofCarried (carryCall s p items out)) foreignStatus
+
+abbrev pub carriedAfter : Shelf → ℕ → (items out : List ℤ) → List ℤ
+carriedAfter s p items out = cond (isGood s) (itemsAfter s p items out) out

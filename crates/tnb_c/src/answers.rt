@@ -1,16 +1,17 @@
 // The shelf's answers as structs that C can hold. A number of 0 says accepted.
 ghost use mathlib.Core.Path.{_≡_};
-ghost use Rattle.tnb_c.specs.Answers.{foreign, ofChanged, ofOperated, ofWritten, ofValued, ofCounted};
+ghost use Rattle.tnb_c.specs.Answers.{foreign, ofChanged, ofOperated, ofWritten, ofValued, ofCounted, ofCarried};
 use crate::Answer;
 use crate::Length;
 use crate::Minor;
-use lists::Counted;
+use crate::Status;
 use operations::Bounded;
 use operations::Operated;
 use operations::Valued;
 use places::Shelf;
 use places::Verdict;
 use shelf::Changed;
+use shelf::Reversals;
 use shelf::Written;
 
 // A shelf that is not a good one is handed back.
@@ -103,20 +104,34 @@ pub fn valued(x: Valued) -> Minor
     }
 }
 
-// Of a list only 9 can be said.
-pub fn counted(x: Counted) -> Length
+pub fn counted(x: Reversals) -> Length
     ensures { λ r. ⌜ r ≡ ofCounted x ⌝ }
 {
     match x {
-        Counted::Reversals(k) => Length {
+        Reversals::Count(k) => Length {
             number: 0,
             offset: 0,
             length: k as usize,
         },
-        Counted::Refused(_) => Length {
-            number: 9,
-            offset: 0,
+        Reversals::Refused(why) => Length {
+            number: why.number,
+            offset: why.offset,
             length: 0,
+        },
+    }
+}
+
+pub fn carried(x: Verdict) -> Status
+    ensures { λ r. ⌜ r ≡ ofCarried x ⌝ }
+{
+    match x {
+        Verdict::Accepted => Status {
+            number: 0,
+            offset: 0,
+        },
+        Verdict::Refused(why) => Status {
+            number: why.number,
+            offset: why.offset,
         },
     }
 }

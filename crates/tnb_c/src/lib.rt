@@ -4,9 +4,9 @@ ghost use mathlib.Core.Path.{_≡_};
 ghost use lib.ListN.{length};
 ghost use Rattle.places.specs.Shelf.{emptyShelf};
 ghost use Rattle.reader.specs.Matrix.{behindOf};
-ghost use Rattle.tnb_c.specs.Answers.{loadAnswer, dropAnswer, writeAnswer, writtenAfter, ofCounted};
+ghost use Rattle.tnb_c.specs.Answers.{loadAnswer, dropAnswer, writeAnswer, writtenAfter, carryAnswer, carriedAfter, ofCounted};
 ghost use Rattle.tnb_c.specs.Answers.{productAnswer, inverseAnswer, converseAnswer, submatrixAnswer, transposeAnswer, minorAnswer};
-ghost use Rattle.lists.specs.Lists.{reversalsOf};
+ghost use Rattle.shelf.specs.ListCalls.{reversalsCall};
 use places::Shelf;
 use places::check;
 
@@ -21,7 +21,14 @@ pub struct Answer {
     pub shelf: Shelf,
 }
 
-// How many bytes were written, or items counted.
+// Whether a call was accepted that answers nothing else.
+#[repr(C)]
+pub struct Status {
+    pub number: u8,
+    pub offset: usize,
+}
+
+// How many bytes were written, or reversals counted.
 #[repr(C)]
 pub struct Length {
     pub number: u8,
@@ -170,10 +177,25 @@ pub extern "C" fn tnb_rest(bytes: &[u8]) -> usize
     part.len()
 }
 
+// Carries as many items as the matrix of a place has rows into a second list. An item is three numbers: sign, mantissa, exponent.
+#[no_mangle]
+pub extern "C" fn tnb_carry(shelf: Shelf, place: usize, items: &[i64], out: &mut [i64]) -> Status
+    ensures { λ r. ⌜ r ≡ carryAnswer shelf place (now (items .entry)) (now (out .entry)) ⌝ }
+    ensures { λ _. ⌜ now (out .exit) ≡ carriedAfter shelf place (now (items .entry)) (now (out .entry)) ⌝ }
+{
+    if check::is_good(shelf) {
+        return answers::carried(shelf::carry(shelf, place, items, out));
+    }
+    Status {
+        number: 255,
+        offset: 0,
+    }
+}
+
 // Counts the reversals of a list of 1 to 8 items.
 #[no_mangle]
 pub extern "C" fn tnb_reversals(items: &[i64]) -> Length
-    ensures { λ r. ⌜ r ≡ ofCounted (reversalsOf (now (items .entry))) ⌝ }
+    ensures { λ r. ⌜ r ≡ ofCounted (reversalsCall (now (items .entry))) ⌝ }
 {
-    answers::counted(lists::reversals(items))
+    answers::counted(shelf::count_reversals(items))
 }

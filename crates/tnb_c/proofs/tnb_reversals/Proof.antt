@@ -6,12 +6,12 @@ use Rattle.tnb_c.proofs.tnb_reversals.Statement.{statement}
 use Rattle.tnb_c.proofs.tnb_reversals.Tie as tie
 use Rattle.tnb_c.proofs.tnb_reversals.Reads as reads
 use Rattle.tnb_c.proofs.tnb_reversals.Lts as lts
-use Rattle.lists.proofs.reversals.Reads as reversals-reads
+use Rattle.shelf.proofs.count_reversals.Reads as count-reversals-reads
 use Rattle.tnb_c.proofs.answers.counted.Reads as counted-reads
 
 -- src/lib.rt:164:22
-reversals-requires : tie.Need-reversals-requires
-reversals-requires c κs = search needs
+count-reversals-requires : tie.Need-count-reversals-requires
+count-reversals-requires c κs = search needs
 
 -- src/lib.rt:164:5
 counted-requires : tie.Need-counted-requires
@@ -19,7 +19,7 @@ counted-requires c κs = search needs
 
 -- src/lib.rt:160:1
 returns : tie.Need-returns
-returns c = c .counted .ensures ∙ ap ofCounted (c .before .reversals .ensures)
+returns c = c .counted .ensures ∙ ap ofCounted (c .before .count-reversals .ensures)
 
 pub tnb-reversals-spec : {M : Type 1} → statement M
-tnb-reversals-spec = tie.close (tie.spec reversals-requires counted-requires returns)
+tnb-reversals-spec = tie.close (tie.spec count-reversals-requires counted-requires returns)
