@@ -2,6 +2,7 @@
 ghost use mathlib.Core.Path.{_≡_};
 ghost use Rattle.places.specs.Shelf.{Good};
 ghost use Rattle.shelf.specs.Calls.{changed, loadCall, dropCall, writeCall, bytesAfter};
+ghost use Rattle.shelf.specs.ListCalls.{carryCall, itemsAfter, reversalsCall};
 pub use operations::Bounded;
 pub use operations::Operated;
 pub use operations::Valued;
@@ -28,6 +29,11 @@ pub struct Changed {
 pub enum Written {
     // So many bytes were written.
     Length(usize),
+    Refused(Refusal),
+}
+
+pub enum Reversals {
+    Count(u64),
     Refused(Refusal),
 }
 
@@ -107,6 +113,38 @@ pub fn write(shelf: Shelf, place: usize, out: &mut [u8]) -> Written
         writer::Written::Bytes(length) => Written::Length(length),
         writer::Written::TooShort => Written::Refused(Refusal {
             number: 10,
+            offset: 0,
+        }),
+    }
+}
+
+// Carries a list of items through the word of a place, to a second list, past whose first n items nothing is changed. An item is lent as three numbers: sign, mantissa, exponent.
+pub fn carry(shelf: Shelf, place: usize, items: &[i64], out: &mut [i64]) -> Verdict
+    requires { ⌜ Good shelf ⌝ }
+    ensures { λ r. ⌜ r ≡ carryCall shelf place (now (items .entry)) (now (out .entry)) ⌝ }
+    ensures { λ _. ⌜ now (out .exit) ≡ itemsAfter shelf place (now (items .entry)) (now (out .entry)) ⌝ }
+{
+    let first = judge::source(shelf, place);
+    if let Verdict::Refused(why) = first {
+        return Verdict::Refused(why);
+    }
+    let n = places::rows_at(shelf, place);
+    let answer = lists::carry(places::table_at(shelf, place), n, items, out);
+    match answer {
+        lists::Answer::Done => Verdict::Accepted,
+        lists::Answer::Refused(number) => judge::refused(number as u8),
+    }
+}
+
+// Counts the reversals in a list of 1 to 8 items.
+pub fn count_reversals(items: &[i64]) -> Reversals
+    ensures { λ r. ⌜ r ≡ reversalsCall (now (items .entry)) ⌝ }
+{
+    let answer = lists::reversals(items);
+    match answer {
+        lists::Counted::Reversals(count) => Reversals::Count(count),
+        lists::Counted::Refused(number) => Reversals::Refused(Refusal {
+            number: number as u8,
             offset: 0,
         }),
     }
