@@ -64,6 +64,12 @@ typedef struct {
     size_t length;
 } tnb_length;
 
+/* Whether a call was accepted that answers nothing else. */
+typedef struct {
+    uint8_t number;
+    size_t offset;
+} tnb_status;
+
 /* A minor: mantissa times 2 to the power exponent; both 0 for a refusal. */
 typedef struct {
     uint8_t number;
@@ -106,7 +112,12 @@ tnb_value tnb_minor(tnb_shelf shelf, size_t place, uint8_t rows, uint8_t columns
  * them, where a load would refuse that matrix for a fault in its own bytes. Never refused. */
 size_t tnb_rest(const uint8_t *bytes, size_t count);
 
-/* Counts the reversals of a list of 1 to 8 items: neighbours of which one is positive and one negative. Refusal 9. */
+/* Carries n items through the matrix of a place, n being its rows, into a second list. An item is three numbers: sign (-1, 0 or 1),
+ * mantissa and exponent; zero is 0, 0, 0. count and room count numbers, three to an item. Nothing past the first 3 n numbers of out is
+ * changed. Refusals 1, 11, 9, 14, 10. */
+tnb_status tnb_carry(tnb_shelf shelf, size_t place, const int64_t *items, size_t count, int64_t *out, size_t room);
+
+/* Counts the reversals of a list of 1 to 8 items, three numbers each: neighbours of which one is positive and one negative. Refusal 9. */
 tnb_length tnb_reversals(const int64_t *items, size_t count);
 
 #ifdef __cplusplus
