@@ -13,6 +13,7 @@ pub mod signed; // signed.rt: numbers with a sign
 const BIAS: u64 = 4194304;
 
 // m times 2 to the power x - BIAS. Zero has m 0 and x BIAS.
+#[repr(C)]
 pub struct Number {
     pub m: u64,
     pub x: u64,

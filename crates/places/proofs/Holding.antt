@@ -79,7 +79,7 @@ module _ (s : Shelf) (p n : ℕ) (t : List Number) (small : p < 8) (eight : leng
   put-put m u l = shelf-fields _ _ (sets-over (s .numbers) (p * 64) u t (l ∙ sym long) (omega arith)) (set-set (s .sizes) p m n)
 
 -- the number at k of place p
-number-at : (s : Shelf) (p k : ℕ) → k < 64 → getD (tableAt s p) k zeroNumber ≡ getD (s .numbers) (p * 64 + k) zeroNumber
+pub number-at : (s : Shelf) (p k : ℕ) → k < 64 → getD (tableAt s p) k zeroNumber ≡ getD (s .numbers) (p * 64 + k) zeroNumber
 unfolding tableAt
 number-at s p k h = getD-take 64 (drop (p * 64) (s .numbers)) k zeroNumber h ∙ getD-drop (p * 64) (s .numbers) k zeroNumber
 

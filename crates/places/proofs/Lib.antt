@@ -4,3 +4,4 @@ pub mod RowByRow
 pub mod Table
 pub mod Holding
 pub mod Verdicts
+pub mod Checking

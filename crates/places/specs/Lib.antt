@@ -1,3 +1,4 @@
 pub mod Table
 pub mod Shelf
 pub mod Refusal
+pub mod Check

@@ -4,10 +4,12 @@ ghost use Prim.Native.Nat.{_≤_, _<_};
 ghost use Rattle.places.specs.Shelf.{rowsAt, tableAt, withTable, emptyShelf, Good};
 use number::Number;
 
+pub mod check; // check.rt: the test of a shelf that nothing vouches for
 pub mod judge; // judge.rt: the tests of the calls
 pub mod tables; // tables.rt: the 64 numbers of a place
 
 // Eight places of 64 numbers each, and the rows of the matrix at each, 0 where the place is empty.
+#[repr(C)]
 pub struct Shelf {
     numbers: [Number; 512],
     sizes: [u8; 8],

@@ -1,0 +1,57 @@
+/* Loads two matrices, multiplies them, prints the product's factors and its bytes; then shows a refusal. */
+#include "beechcrib.h"
+#include <stdio.h>
+
+/* n = 2, all factors one */
+static const uint8_t ones[] = {0x02, 0xca, 0x07, 0x00, 0xca, 0x07, 0x00, 0xca, 0x07, 0x00, 0xca, 0x07, 0x00};
+
+static int refused(uint8_t number, size_t offset)
+{
+    if (number != 0)
+        printf("refused %d at %zu\n", number, offset);
+    return number != 0;
+}
+
+int main(void)
+{
+    tnb_shelf shelf = tnb_new();
+
+    tnb_answer a = tnb_load(shelf, 0, ones, sizeof ones);
+    if (refused(a.number, a.offset))
+        return 1;
+    a = tnb_load(a.shelf, 1, ones, sizeof ones);
+    if (refused(a.number, a.offset))
+        return 1;
+    a = tnb_product(a.shelf, 0, 1, 2);
+    if (refused(a.number, a.offset))
+        return 1;
+    shelf = a.shelf;
+
+    int n = shelf.sizes[2];
+    printf("%d rows, within %u unit roundings\n", n, a.bound);
+    for (int i = 1; i <= n; i++)
+        for (int j = 1; j <= n; j++) {
+            tnb_number b = shelf.numbers[2 * 64 + (i - 1) * 8 + (j - 1)];
+            printf("%d %d %llu %lld\n", i, j, (unsigned long long)b.m, (long long)b.x - 4194304);
+        }
+
+    uint8_t bytes[449];
+    tnb_length w = tnb_write(shelf, 2, bytes, sizeof bytes);
+    if (refused(w.number, w.offset))
+        return 1;
+    printf("%zu bytes:", w.length);
+    for (size_t k = 0; k < w.length; k++)
+        printf(" %02X", bytes[k]);
+    printf("\n");
+
+    /* a refusal: the last byte is missing, and the shelf stays as it was */
+    a = tnb_load(shelf, 3, ones, sizeof ones - 1);
+    refused(a.number, a.offset);
+    printf("place 3 holds %d rows\n", a.shelf.sizes[3]);
+
+    /* a shelf that this library did not make */
+    shelf.sizes[0] = 9;
+    w = tnb_write(shelf, 2, bytes, sizeof bytes);
+    refused(w.number, w.offset);
+    return 0;
+}

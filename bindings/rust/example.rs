@@ -1,0 +1,127 @@
+// Loads two matrices, multiplies them, prints the product's factors and its bytes; then shows a refusal.
+use std::process::exit;
+
+#[repr(C)]
+#[derive(Clone, Copy)]
+pub struct Number {
+    pub m: u64,
+    pub x: u64,
+}
+
+#[repr(C)]
+#[derive(Clone, Copy)]
+pub struct Shelf {
+    pub numbers: [Number; 512],
+    pub sizes: [u8; 8],
+}
+
+#[repr(C)]
+pub struct Answer {
+    pub number: u8,
+    pub bound: u32,
+    pub offset: usize,
+    pub shelf: Shelf,
+}
+
+#[repr(C)]
+pub struct Length {
+    pub number: u8,
+    pub offset: usize,
+    pub length: usize,
+}
+
+// A slice crosses the border as a pointer and a length.
+extern "C" {
+    fn tnb_new() -> Shelf;
+    fn tnb_load(shelf: Shelf, place: usize, bytes: *const u8, count: usize) -> Answer;
+    fn tnb_product(shelf: Shelf, left: usize, right: usize, target: usize) -> Answer;
+    fn tnb_write(shelf: Shelf, place: usize, out: *mut u8, room: usize) -> Length;
+}
+
+// What turned a call down.
+pub struct Refusal {
+    pub number: u8,
+    pub offset: usize,
+}
+
+fn checked(a: Answer) -> Result<(Shelf, u32), Refusal> {
+    match a.number {
+        0 => Ok((a.shelf, a.bound)),
+        number => Err(Refusal { number, offset: a.offset }),
+    }
+}
+
+fn new() -> Shelf {
+    unsafe { tnb_new() }
+}
+
+fn load(shelf: Shelf, place: usize, bytes: &[u8]) -> Result<Shelf, Refusal> {
+    checked(unsafe { tnb_load(shelf, place, bytes.as_ptr(), bytes.len()) }).map(|r| r.0)
+}
+
+fn product(shelf: Shelf, left: usize, right: usize, target: usize) -> Result<(Shelf, u32), Refusal> {
+    checked(unsafe { tnb_product(shelf, left, right, target) })
+}
+
+fn write(shelf: Shelf, place: usize, out: &mut [u8]) -> Result<usize, Refusal> {
+    let w = unsafe { tnb_write(shelf, place, out.as_mut_ptr(), out.len()) };
+    match w.number {
+        0 => Ok(w.length),
+        number => Err(Refusal { number, offset: w.offset }),
+    }
+}
+
+fn say(why: &Refusal) {
+    println!("refused {} at {}", why.number, why.offset);
+}
+
+fn multiplied(ones: &[u8]) -> Result<(Shelf, u32), Refusal> {
+    let shelf = load(new(), 0, ones)?;
+    let shelf = load(shelf, 1, ones)?;
+    product(shelf, 0, 1, 2)
+}
+
+fn main() {
+    // n = 2, all factors one
+    let ones = [0x02, 0xca, 0x07, 0x00, 0xca, 0x07, 0x00, 0xca, 0x07, 0x00, 0xca, 0x07, 0x00];
+    let (mut shelf, bound) = match multiplied(&ones) {
+        Ok(r) => r,
+        Err(why) => {
+            say(&why);
+            exit(1)
+        }
+    };
+
+    let n = shelf.sizes[2] as usize;
+    println!("{} rows, within {} unit roundings", n, bound);
+    for i in 1..=n {
+        for j in 1..=n {
+            let b = shelf.numbers[2 * 64 + (i - 1) * 8 + (j - 1)];
+            println!("{} {} {} {}", i, j, b.m, b.x as i64 - 4194304);
+        }
+    }
+
+    let mut bytes = [0u8; 449];
+    match write(shelf, 2, &mut bytes) {
+        Ok(length) => {
+            print!("{} bytes:", length);
+            for b in &bytes[..length] {
+                print!(" {:02X}", b);
+            }
+            println!();
+        }
+        Err(why) => say(&why),
+    }
+
+    // a refusal: the last byte is missing, and the shelf stays as it was
+    if let Err(why) = load(shelf, 3, &ones[..ones.len() - 1]) {
+        say(&why);
+    }
+    println!("place 3 holds {} rows", shelf.sizes[3]);
+
+    // a shelf that this library did not make
+    shelf.sizes[0] = 9;
+    if let Err(why) = write(shelf, 2, &mut bytes) {
+        say(&why);
+    }
+}

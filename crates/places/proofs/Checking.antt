@@ -1,0 +1,194 @@
+-- The test of a shelf holds of no shelf but good ones (`tested-good`), and of every good one (`good-tested`). Its loops are tests of all numbers below one (`all-below`, `all-fails`).
+use Prim.Native.Nat.{ℕ, zero, suc, _+_, _-_, _*_, _/_, _%_, _^_, _<_, _≤_}
+use native.Mathlib.Nat.{mul-add-div-right, mul-add-mod-self-right, div-eq-of-lt, mod-eq-of-lt, add-zero, div-add-mod', div-lt-iff-lt-mul, mod-lt}
+use native.Mathlib.Decide.{ℕ-discrete}
+use native.Mathlib.Omega.{arith}
+use mathlib.Core.Path.{_≡_, refl, sym, ap, ap₂, subst, _∙_}
+use mathlib.Core.Bool.{Bool, true, false, cond, _&&_, and-eq-true-iff, true≢false}
+use mathlib.Core.List.{List}
+use lib.Dec.{leb, ltb, eqb}
+use lib.ListN.{length, getD, drop, length-drop}
+use lib.Seq.{length-take-le}
+use borrow.Author.Tests.{leb-true, le-leb, ltb-true, lt-ltb, eqb-true}
+use Rattle.number.specs.declared.Number.{Number}
+use Rattle.number.specs.Number.{bias, zeroNumber, inRange, Stored}
+use Rattle.words.specs.Word.{Factors}
+use Rattle.minors.specs.Matrix.{In}
+use Rattle.factors.specs.Demand.{Each}
+use Rattle.walk.specs.Table.{absent, factorsOf, within, tableOf}
+use Rattle.places.specs.declared.Shelf.{Shelf}
+use Rattle.places.specs.Shelf.{rowsAt, tableAt, factorsAt, Good}
+use Rattle.places.specs.Check.{allBelow, isStored, isZero, sound, fewRows, soundAt, soundNumbers, isGood}
+use Rattle.places.proofs.Filled.{read-any}
+use Rattle.places.proofs.Holding.{number-at}
+use Rattle.places.proofs.RowByRow.{row-below}
+use Rattle.places.proofs.Table.{table-at, table-list}
+
+-- A TEST OF ALL NUMBERS BELOW n
+module _ (f : ℕ → Bool) where
+  pub all-below : (n : ℕ) → ((i : ℕ) → i < n → f i ≡ true) → allBelow n f ≡ true
+  unfolding allBelow
+  all-below zero h = refl
+  all-below (suc n) h = and-eq-true-iff (allBelow n f) (f n) .1 (all-below n (λ i g. h i (omega arith)), h n (omega arith))
+
+  pub all-each : (n : ℕ) → allBelow n f ≡ true → (i : ℕ) → i < n → f i ≡ true
+  unfolding allBelow
+  all-each zero e i h = absurd (omega arith)
+  all-each (suc n) e i h =
+      let p = and-eq-true-iff (allBelow n f) (f n) .0 e in
+      elim (ℕ-discrete i n) [
+        | yes q ↦ rw q (p .1)
+        | no q ↦ all-each n (p .0) i (omega arith)
+      ]
+
+  pub all-fails : (n i : ℕ) → i < n → f i ≡ false → allBelow n f ≡ false
+  all-fails n i h e = untrue (allBelow n f) (λ g. true≢false (sym (all-each n g i h) ∙ e))
+    where
+      untrue : (t : Bool) → (t ≡ true → ⊥) → t ≡ false
+      untrue true h = absurd (h refl)
+      untrue false h = refl
+
+  -- what a loop has seen so far
+  pub record Seen (n k : ℕ) : Type 0 where
+    pub few : k ≤ n
+    pub each : (i : ℕ) → i < k → f i ≡ true
+
+  pub seen-none : (n : ℕ) → Seen n 0
+  seen-none n = record { few = omega arith; each = λ i h. absurd (omega arith) }
+
+  pub seen-more : {n k : ℕ} → Seen n k → k < n → f k ≡ true → Seen n (k + 1)
+  seen-more {n} {k} w h e =
+      record {
+        few = omega arith;
+        each = λ i g.
+            elim (ℕ-discrete i k) [
+              | yes q ↦ rw q e
+              | no q ↦ w .each i (omega arith)
+            ];
+      }
+
+  pub seen-all : {n k : ℕ} → Seen n k → n ≤ k → allBelow n f ≡ true
+  seen-all {n} {k} w h = all-below n (λ i g. w .each i (omega arith))
+
+-- NUMBERS
+zero-is : (a : Number) → isZero a ≡ true → a ≡ zeroNumber
+unfolding isZero
+zero-is a e =
+    let p = and-eq-true-iff (eqb (a .m) 0) (eqb (a .x) bias) .0 e in
+    ap₂ (λ (m x : ℕ). let r : Number = record { m = m; x = x } in r) (eqb-true (a .m) 0 (p .0)) (eqb-true (a .x) bias (p .1))
+
+zero-tested : isZero zeroNumber ≡ true
+unfolding isZero
+zero-tested = refl
+
+stored-is : (a : Number) → isStored a ≡ true → Stored a
+unfolding isStored inRange
+stored-is a e =
+    let p = and-eq-true-iff (leb (2 ^ 31) (a .m)) _ .0 e in
+    let q = and-eq-true-iff (ltb (a .m) (2 ^ 32)) _ .0 (p .1) in
+    let r = and-eq-true-iff (leb bias (a .x + 1000)) _ .0 (q .1) in
+    record {
+      low = leb-true (2 ^ 31) (a .m) (p .0);
+      high = ltb-true (a .m) (2 ^ 32) (q .0);
+      start = leb-true bias (a .x + 1000) (r .0);
+      stop = leb-true (a .x) (bias + 1000) (r .1);
+    }
+
+stored-tested : (a : Number) → Stored a → isStored a ≡ true
+unfolding isStored inRange
+stored-tested a h =
+    rw (le-leb (2 ^ 31) (a .m) (h .low), lt-ltb (a .m) (2 ^ 32) (h .high), le-leb bias (a .x + 1000) (h .start), le-leb (a .x) (bias + 1000) (h .stop))
+
+-- what a tested number is, at row i and column j
+tested-within : (t u : Bool) (a : Number) → cond (t && u) (isStored a) (isZero a) ≡ true → a ≡ cond (t && u) a zeroNumber
+tested-within true true a e = refl
+tested-within true false a e = zero-is a e
+tested-within false u a e = zero-is a e
+
+within-tested : (n : ℕ) (b : Factors Number) → Each Stored n b → (i j : ℕ) → 1 ≤ i → 1 ≤ j → (t u : Bool) → leb i n ≡ t → leb j n ≡ u
+    → cond (t && u) (isStored (cond (t && u) (b i j) zeroNumber)) (isZero (cond (t && u) (b i j) zeroNumber)) ≡ true
+within-tested n b s i j h g true true p q = stored-tested (b i j) (s i j (h, leb-true i n p) (g, leb-true j n q))
+within-tested n b s i j h g true false p q = zero-tested
+within-tested n b s i j h g false u p q = zero-tested
+
+-- p * m + k, taken apart
+quotient-of : (m p k : ℕ) → k < m → (p * m + k) / m ≡ p
+quotient-of m p k h = mul-add-div-right {m = m} (omega arith) p k ∙ ap (λ (q : ℕ). p + q) (div-eq-of-lt h) ∙ add-zero p
+
+rest-of : (m p k : ℕ) → k < m → (p * m + k) % m ≡ k
+rest-of m p k h = mul-add-mod-self-right p m k ∙ mod-eq-of-lt h
+
+module _ (s : Shelf) (eight : length (s .sizes) ≡ 8) (all : length (s .numbers) ≡ 512) where
+  table-long : (p : ℕ) → p < 8 → length (tableAt s p) ≡ 64
+  unfolding tableAt
+  table-long p h = length-take-le 64 (drop (p * 64) (s .numbers)) (omega (arith, length-drop (p * 64) (s .numbers)))
+
+  number-of : (p k : ℕ) → p < 8 → k < 64 → getD (s .numbers) (p * 64 + k) absent ≡ getD (tableAt s p) k zeroNumber
+  number-of p k h g = read-any (s .numbers) (p * 64 + k) absent zeroNumber (omega arith) ∙ sym (number-at s p k g)
+
+  module _ (tested : isGood s ≡ true) where
+    parts : (fewRows s ≡ true) × (soundNumbers s ≡ true)
+    unfolding isGood
+    parts = and-eq-true-iff (fewRows s) (soundNumbers s) .0 tested
+
+    sound-of : (p k : ℕ) → p < 8 → k < 64 → sound (rowsAt s p) k (getD (tableAt s p) k zeroNumber) ≡ true
+    unfolding soundNumbers
+    sound-of p k h g =
+        let e : soundAt s (p * 64 + k) ≡ true = all-each (soundAt s) 512 (parts .1) (p * 64 + k) (omega arith) in
+        rw (quotient-of 64 p k g, rest-of 64 p k g, number-of p k h g) at e
+
+    cell-of : (p i j : ℕ) → p < 8 → i < 8 → j < 8 → (a : Number) → a ≡ getD (tableAt s p) (i * 8 + j) zeroNumber
+        → cond (leb (suc i) (rowsAt s p) && leb (suc j) (rowsAt s p)) (isStored a) (isZero a) ≡ true
+    unfolding sound
+    cell-of p i j h k l a e =
+        let f : sound (rowsAt s p) (i * 8 + j) a ≡ true = rw e (sound-of p (i * 8 + j) h (omega arith)) in
+        rw (quotient-of 8 i j l, rest-of 8 i j l) at f
+
+    few-of : (p : ℕ) → p < 8 → rowsAt s p ≤ 8
+    unfolding fewRows
+    few-of p h = leb-true (rowsAt s p) 8 (all-each (λ p. leb (rowsAt s p) 8) 8 (parts .0) p h)
+
+    stored-of : (p : ℕ) → p < 8 → Each Stored (rowsAt s p) (factorsAt s p)
+    unfolding factorsOf
+    stored-of p h i j x y =
+        let n = few-of p h in
+        let e : suc (i - 1) ≡ i = omega arith in
+        let f : suc (j - 1) ≡ j = omega arith in
+        let c = cell-of p (i - 1) (j - 1) h (omega arith) (omega arith) (factorsAt s p i j) refl in
+        stored-is (factorsAt s p i j) (rw (e, f, le-leb i (rowsAt s p) (x .1), le-leb j (rowsAt s p) (y .1)) at c)
+
+    rest-is : (p : ℕ) → p < 8 → tableAt s p ≡ tableOf (rowsAt s p) (factorsAt s p)
+    unfolding factorsOf
+    rest-is p h =
+        table-list (rowsAt s p) (factorsAt s p) zeroNumber (tableAt s p) (table-long p h)
+        (λ i j k l.
+        let x : suc i - 1 ≡ i = omega arith in
+        let y : suc j - 1 ≡ j = omega arith in
+        let e : factorsAt s p (suc i) (suc j) ≡ getD (tableAt s p) (i * 8 + j) zeroNumber = rw (x, y) in
+        sym e ∙ tested-within (leb (suc i) (rowsAt s p)) (leb (suc j) (rowsAt s p)) (factorsAt s p (suc i) (suc j)) (cell-of p i j h k l (factorsAt s p (suc i) (suc j)) e))
+
+    pub tested-good : Good s
+    tested-good = record { places = eight; numbers = all; few = few-of; stored = stored-of; rest = rest-is }
+
+pub good-tested : (s : Shelf) → Good s → isGood s ≡ true
+unfolding isGood fewRows soundNumbers sound
+good-tested s g =
+    and-eq-true-iff (fewRows s) (soundNumbers s) .1 (
+      all-below (λ p. leb (rowsAt s p) 8) 8 (λ p h. le-leb (rowsAt s p) 8 (g .few p h)),
+      all-below (soundAt s) 512
+          (λ k h.
+          let p : k / 64 < 8 = div-lt-iff-lt-mul {k = 64} {x = k} {y = 8} (omega arith) .1 (omega arith) in
+          let r : k % 64 < 64 = mod-lt k (omega arith) in
+          let n = rowsAt s (k / 64) in
+          let b = factorsAt s (k / 64) in
+          let i : k % 64 / 8 < 8 = row-below zeroNumber 8 (omega arith) (k % 64) r in
+          let j : k % 64 % 8 < 8 = mod-lt (k % 64) (omega arith) in
+          let e : getD (s .numbers) k absent ≡ within n b (suc (k % 64 / 8)) (suc (k % 64 % 8)) =
+          ap (λ (x : ℕ). getD (s .numbers) x absent) (sym (div-add-mod' k 64))
+          ∙ number-of s (g .places) (g .numbers) (k / 64) (k % 64) p r
+          ∙ ap (λ (t : List Number). getD t (k % 64) zeroNumber) (g .rest (k / 64) p)
+          ∙ ap (λ (x : ℕ). getD (tableOf n b) x zeroNumber) (sym (div-add-mod' (k % 64) 8))
+          ∙ table-at n b zeroNumber (k % 64 / 8) (k % 64 % 8) i j in
+          subst (λ (a : Number). cond (leb (suc (k % 64 / 8)) n && leb (suc (k % 64 % 8)) n) (isStored a) (isZero a) ≡ true) (sym e)
+          (within-tested n b (g .stored (k / 64) p) (suc (k % 64 / 8)) (suc (k % 64 % 8)) (omega arith) (omega arith) (leb (suc (k % 64 / 8)) n) (leb (suc (k % 64 % 8)) n) refl refl)),
+    )

@@ -1,0 +1,38 @@
+-- The test of a shelf that nothing vouches for (`isGood`): it holds of the good shelves and of no others.
+use Prim.Native.Nat.{ℕ, zero, suc, _/_, _%_, _^_}
+use mathlib.Core.Bool.{Bool, true, cond, _&&_}
+use lib.Dec.{eqb, leb, ltb}
+use lib.ListN.{getD}
+use Rattle.number.specs.declared.Number.{Number}
+use Rattle.number.specs.Number.{bias, inRange}
+use Rattle.walk.specs.Table.{absent}
+use Rattle.places.specs.declared.Shelf.{Shelf}
+use Rattle.places.specs.Shelf.{rowsAt}
+
+-- a test of 0 .. n - 1
+unfoldable pub allBelow : ℕ → (ℕ → Bool) → Bool
+allBelow zero f = true
+allBelow (suc n) f = allBelow n f && f n
+
+unfoldable pub isStored : Number → Bool
+isStored a = leb (2 ^ 31) (a .m) && (ltb (a .m) (2 ^ 32) && inRange a)
+
+unfoldable pub isZero : Number → Bool
+isZero a = eqb (a .m) 0 && eqb (a .x) bias
+
+-- what may stand at k in the table of a matrix of n rows
+unfoldable pub sound : ℕ → ℕ → Number → Bool
+sound n k a = cond (leb (suc (k / 8)) n && leb (suc (k % 8)) n) (isStored a) (isZero a)
+
+-- at most eight rows at each place
+unfoldable pub fewRows : Shelf → Bool
+fewRows s = allBelow 8 (λ p. leb (rowsAt s p) 8)
+
+abbrev pub soundAt : Shelf → ℕ → Bool
+soundAt s k = sound (rowsAt s (k / 64)) (k % 64) (getD (s .numbers) k absent)
+
+unfoldable pub soundNumbers : Shelf → Bool
+soundNumbers s = allBelow 512 (soundAt s)
+
+unfoldable pub isGood : Shelf → Bool
+isGood s = fewRows s && soundNumbers s

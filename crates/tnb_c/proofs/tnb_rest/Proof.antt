@@ -1,0 +1,20 @@
+-- `tnb_rest` meets its contract.
+use mathlib.Core.Path.{ap}
+use lib.ListN.{length}
+use borrow.Author.Needs.{needs}
+use Rattle.tnb_c.proofs.tnb_rest.Statement.{statement}
+use Rattle.tnb_c.proofs.tnb_rest.Tie as tie
+use Rattle.tnb_c.proofs.tnb_rest.Reads as reads
+use Rattle.tnb_c.proofs.tnb_rest.Lts as lts
+use Rattle.reader.proofs.behind.Reads as behind-reads
+
+-- src/lib.rt:206:9
+behind-requires : tie.Need-behind-requires
+behind-requires c κs = search needs
+
+-- src/lib.rt:202:1
+returns : tie.Need-returns
+returns c = ap length (c .behind .ensures)
+
+pub tnb-rest-spec : {M : Type 1} → statement M
+tnb-rest-spec = tie.close (tie.spec behind-requires returns)
