@@ -1,0 +1,5 @@
+-- Laws that belong to no one function.
+pub mod Words
+pub mod Numerals
+pub mod Pairs
+pub mod Text
