@@ -6,6 +6,7 @@ pub use reading::Bytes;
 pub use reading::Signed;
 pub use reading::Whole;
 pub use reading::before;
+pub use reading::next_word;
 pub use reading::read_bytes;
 pub use reading::read_signed;
 pub use reading::read_whole;

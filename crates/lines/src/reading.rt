@@ -3,7 +3,7 @@ ghost use mathlib.Core.Path.{_≡_};
 ghost use Prim.Native.Nat.{_/_, _<_, _≤_};
 ghost use lib.ListN.{length};
 ghost use lib.Seq.{sets};
-ghost use Rattle.lines.specs.Words.{before, wordAt};
+ghost use Rattle.lines.specs.Words.{before, wordAt, nextWord};
 ghost use Rattle.lines.specs.Decimal.{isNumeral, wholeOf, plus, minus, signedOf, WholeUpTo, SignedFits};
 ghost use Rattle.lines.specs.Hexadecimal.{isLetter, nibbleOf, byteOf, allDigits, hexadecimal, bytesOf, bytesRead, bytesAfter};
 
@@ -40,7 +40,7 @@ pub fn before(s: &[u8], stop: u8) -> usize
     i
 }
 
-// The word that starts at an index: up to the next space, or to the line's end.
+// The word that starts at an index: up to the next space, or to the line's end. No word starts past the end.
 pub fn word(s: &[u8], at: usize) -> &[u8]
     ensures { λ r. ⌜ now r ≡ wordAt (now (s .entry)) at ⌝ }
 {
@@ -50,6 +50,16 @@ pub fn word(s: &[u8], at: usize) -> &[u8]
     let rest = &s[at..];
     let n = before(rest, b' ');
     &rest[0..n]
+}
+
+// Where the word behind it starts: past the word and a space. Behind the last word that is past the end.
+pub fn next_word(s: &[u8], at: usize) -> usize
+    ensures { λ r. ⌜ r ≡ nextWord (now (s .entry)) at ⌝ }
+{
+    if s.len() < at {
+        return at;
+    }
+    at + before(&s[at..], b' ') + 1
 }
 
 fn is_numeral(b: u8) -> bool
