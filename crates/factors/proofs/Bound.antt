@@ -1,47 +1,33 @@
 -- THE BOUND: the new factors of m stored sources of n rows, rounded and exact, are within 4 m (2n² - n) + 3 (refactored-near), with exponents that the numbers allow.
-use mathlib.Core.Path.{_≡_, refl, sym, ap, ap₂, _∙_, subst}
-use mathlib.Core.List.{List, [], _∷_}
-use Prim.Native.Nat.{ℕ, zero, suc, _+_, _-_, _*_, _≤_, _<_}
-use native.Mathlib.Nat.{mul-le-mul}
+use mathlib.Core.Path.{_≡_, ap, _∙_}
+use mathlib.Core.List.{List, _∷_}
+use Prim.Native.Nat.{ℕ, suc, _+_, _-_, _*_, _≤_, _<_}
 use native.Mathlib.Omega.{arith}
 use lib.ListN.{length}
-use Rattle.fraction.specs.Fraction.{Fraction, exact}
+use Rattle.fraction.specs.Fraction.{exact}
 use Rattle.number.specs.declared.Number.{Number}
-use Rattle.number.specs.Number.{bias, rounded, value, Stored}
+use Rattle.number.specs.Number.{rounded, value, Stored}
 use Rattle.number.proofs.Value.{value-positive}
 use Rattle.words.specs.RowSet.{RowSet, count, among}
-use Rattle.words.specs.Word.{Factors, Word}
+use Rattle.words.specs.Word.{Word}
 use Rattle.words.specs.Walk.{minor}
-use Rattle.words.specs.Operation.{Step, step, joinedWord, refactored, boundOf, eachStep, eachSteps}
-use Rattle.words.proofs.Alike.{AlikeStep, AlikeSteps, alike, letters-joined}
-use Rattle.words.proofs.Counts.{joined-cost}
+use Rattle.words.specs.Operation.{Step, joinedWord, refactored, boundOf, eachStep, eachSteps}
+use Rattle.words.proofs.Chosen.{length-among}
+use Rattle.words.proofs.Steps.{sources-map}
+use Rattle.words.proofs.Alike.{letters-joined, alike-each}
+use Rattle.words.proofs.Counts.{joined-cost, joined-square, row-square}
+use Rattle.words.proofs.Exponents.{runReach}
 use Rattle.minors.specs.Matrix.{In}
-use Rattle.minors.proofs.Chosen.{length-among}
-use Rattle.factors.specs.Demand.{Each}
+use Rattle.factors.specs.Demand.{Accepted}
 use Rattle.factors.proofs.Near.{Near, near-more, near-stored}
 use Rattle.factors.proofs.Error.{NearWeight, NearEntry, roundings, exponents, minor-near, factor-near}
-use Rattle.factors.proofs.Exact.{AcceptedStep, AcceptedSteps, exact-minor-positive}
-
--- stored sources
-abbrev pub StoredStep : ℕ → Step Number → Type 0
-StoredStep n (step w b) = Each Stored n b
-
-abbrev pub StoredSteps : ℕ → List (Step Number) → Type 0
-StoredSteps n [] = Unit {0}
-StoredSteps n (s ∷ L) = StoredStep n s × StoredSteps n L
+use Rattle.factors.proofs.Exact.{AcceptedSteps, exact-minor-positive}
+pub use Rattle.words.proofs.Exponents.{StoredStep, StoredSteps}
 
 pub stored-positive : (a : Number) → Stored a → 0 < value a .top
 stored-positive a s = value-positive a .0 (omega (arith, s .low))
 
--- what the sources' squares and the letters come to
-row-square : (n : ℕ) → 1 ≤ n → n ≤ n * n
-row-square n l = let h : 1 * n ≤ n * n = mul-le-mul l (let z : n ≤ n = omega arith in z) in omega arith
-
-letters-square : (m n : ℕ) → 1 ≤ n → m * (1035 * (n * n - n) + n * 1035) ≡ 1035 * (m * (n * n))
-letters-square m n l =
-    let e : 1035 * (n * n - n) + n * 1035 ≡ 1035 * (n * n) = omega (arith, row-square n l) in
-    ap (λ (z : ℕ). m * z) e ∙ omega arith
-
+-- four minors, two products and a quotient
 letters-bound : (m n : ℕ) → 1 ≤ n → 4 * (m * ((2 + 0) * (n * n - n) + n * (1 + 0))) + 3 ≡ boundOf m n
 letters-bound m n l =
     let e : (2 + 0) * (n * n - n) + n * (1 + 0) ≡ 2 * n * n - n = omega (arith, row-square n l) in
@@ -51,45 +37,35 @@ letters-bound m n l =
     regroup m z = omega arith
 
 module _ (n : ℕ) where
-  step-near : (s : Step Number) → StoredStep n s → AlikeStep (NearWeight 0) (NearEntry 0) n s (eachStep value s)
-  step-near (step w b) h =
-      alike (record { off = λ i j p q r s e. near-stored (h i j (p, q) (r, s)); on = λ i p q. (near-stored (h i i (p, q) (p, q)), stored-positive (b i i) (h i i (p, q) (p, q))) })
-
-  steps-near : (L : List (Step Number)) → StoredSteps n L → AlikeSteps (NearWeight 0) (NearEntry 0) n L (eachSteps value L)
-  steps-near [] h = tt
-  steps-near (s ∷ L) h = (step-near s (h .0), steps-near L (h .1))
-
-  step-accepted : (s : Step Number) → StoredStep n s → AcceptedStep n (eachStep value s)
-  step-accepted (step w b) h = λ i j x y. stored-positive (b i j) (h i j x y)
-
+  -- are accepted as the fractions that they stand for
   pub steps-accepted : (L : List (Step Number)) → StoredSteps n L → AcceptedSteps n (eachSteps value L)
-  steps-accepted [] h = tt
-  steps-accepted (s ∷ L) h = (step-accepted s (h .0), steps-accepted L (h .1))
+  steps-accepted = sources-map Stored Accepted n value stored-positive
 
   -- six sources of eight rows have 6 * 64 = 384 of the 1012 for which there is room
   module _ (s : Step Number) (L : List (Step Number)) (stored : StoredSteps n (s ∷ L)) (some : 1 ≤ n) (room : suc (length L) * (n * n) ≤ 1012) where
     abbrev W : Word Number
     W = joinedWord n (s ∷ L)
 
-    reach-is : exponents 0 n W ≡ 31 + 1035 * (suc (length L) * (n * n))
-    reach-is = ap (λ (z : ℕ). 31 + z) (joined-cost 1035 (n * 1035) n (s ∷ L) some ∙ letters-square (suc (length L)) n some)
+    reach-is : exponents 0 n W ≡ runReach (suc (length L)) n
+    reach-is = ap (λ (z : ℕ). 31 + z) (joined-square 1035 n (s ∷ L) some)
 
     -- A MINOR, at any sets
     pub joined-minor-near : (I J : RowSet) → length I ≡ n
-        → Near (roundings 0 n W) (31 + 1035 * (suc (length L) * (n * n))) (minor rounded W I J) (minor exact (joinedWord n (eachSteps value (s ∷ L))) I J)
+        → Near (roundings 0 n W) (runReach (suc (length L)) n) (minor rounded W I J) (minor exact (joinedWord n (eachSteps value (s ∷ L))) I J)
     joined-minor-near I J i =
         near-more (omega arith) (omega (arith, reach-is))
-        (minor-near 0 n W (joinedWord n (eachSteps value (s ∷ L))) (letters-joined (NearWeight 0) (NearEntry 0) n (s ∷ L) (eachSteps value (s ∷ L)) (steps-near (s ∷ L) stored))
+        (minor-near 0 n W (joinedWord n (eachSteps value (s ∷ L))) (letters-joined (NearWeight 0) (NearEntry 0) n (s ∷ L) (eachSteps value (s ∷ L))
+        (alike-each (NearWeight 0) (NearEntry 0) n Stored value (λ a h. near-stored h) (λ a h. (near-stored h, stored-positive a h)) (s ∷ L) stored))
         (omega (arith, reach-is)) I J i)
 
     -- A NEW FACTOR
     pub refactored-near : (P Q : RowSet) → length P ≡ n → length Q ≡ n → count Q ≡ count P → (i j : ℕ) → In (count P) i → In (count P) j
-        → Near (boundOf (suc (length L)) n) (4 * (31 + 1035 * (suc (length L) * (n * n))) + 98)
+        → Near (boundOf (suc (length L)) n) (4 * runReach (suc (length L)) n + 98)
         (refactored rounded n (s ∷ L) P Q i j) (refactored exact n (eachSteps value (s ∷ L)) P Q i j)
     unfolding refactored
     refactored-near P Q p q e i j x y =
         near-more (omega (arith, ap (λ (z : ℕ). 4 * z + 3) (joined-cost (2 + 0) (n * (1 + 0)) n (s ∷ L) some), letters-bound (suc (length L)) n some)) (omega arith)
-        (factor-near (roundings 0 n W) (31 + 1035 * (suc (length L) * (n * n))) (count P) (omega arith) _ _
+        (factor-near (roundings 0 n W) (runReach (suc (length L)) n) (count P) (omega arith) _ _
         (λ I J u v w. (
           joined-minor-near (among P I) (among Q J) (length-among P I u ∙ p),
           exact-minor-positive n (eachStep value s) (eachSteps value L) (steps-accepted (s ∷ L) stored) P Q p q e I J u v w,

@@ -1,17 +1,15 @@
 -- THE ERROR OF A RUN: a letter E or Et rounds twice, an entry of D once (near-related); so minors (minor-near) and new factors (factor-near).
 -- A letter's own error c is a parameter: 0 for a stored number taken as exact.
-use mathlib.Core.Path.{_≡_, refl, sym, ap, _∙_, subst}
-use mathlib.Core.List.{List, [], _∷_}
-use Prim.Native.Nat.{ℕ, zero, suc, _+_, _-_, _*_, _≤_, _<_}
+use mathlib.Core.Path.{_≡_, refl}
+use Prim.Native.Nat.{ℕ, _+_, _*_, _≤_, _<_}
 use native.Mathlib.Omega.{arith}
 use lib.ListN.{length}
-use Rattle.fraction.specs.Arithmetic.{Arithmetic}
 use Rattle.fraction.specs.Fraction.{Fraction, exact}
 use Rattle.fraction.proofs.Fraction.{product-positive}
 use Rattle.number.specs.declared.Number.{Number}
 use Rattle.number.specs.Number.{bias, rounded}
 use Rattle.words.specs.RowSet.{RowSet, count}
-use Rattle.words.specs.Word.{Factors, Word}
+use Rattle.words.specs.Word.{Word}
 use Rattle.words.specs.Walk.{minor}
 use Rattle.words.specs.Formula.{newFactor}
 use Rattle.words.proofs.Related.{Related, Each, Letters, total, letterCost, after, after-measure, minor-related}

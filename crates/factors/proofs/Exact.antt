@@ -1,25 +1,26 @@
 -- THE EXACT RUN in fractions beside the rational numbers: each fraction of the run stands for the number of the mathematics (refactored-rational); so its factors are positive (exact-positive),
 -- multiply out (exact-multiplied), and are the only ones (exact-only).
-use mathlib.Core.Path.{_≡_, refl, sym, ap, ap₂, _∙_, subst}
-use mathlib.Core.List.{List, [], _∷_}
-use Prim.Native.Nat.{ℕ, zero, suc, _≤_, _<_}
+use mathlib.Core.Path.{_≡_, refl, sym, ap₂, _∙_, subst}
+use mathlib.Core.List.{List, _∷_}
+use Prim.Native.Nat.{ℕ, _<_}
 use lib.ListN.{length}
 use Rattle.fraction.specs.Arithmetic.{Arithmetic}
-use Rattle.fraction.specs.Fraction.{Fraction, Same, whole, sum, product, quotient, exact}
+use Rattle.fraction.specs.Fraction.{Fraction, Same, product, exact}
 use Rattle.fraction.specs.Ring.{arithmetic}
 use Rattle.fraction.specs.Rational.{rationals, rationals-ordered, rational}
 use Rattle.fraction.proofs.Fraction.{product-positive}
 use Rattle.fraction.proofs.Rational.{same-rational, rational-zero, rational-one, rational-sum, rational-product, rational-quotient, positive-rational}
 use Rattle.words.specs.RowSet.{RowSet, count, among}
-use Rattle.words.specs.Word.{Factors, Word}
+use Rattle.words.specs.Word.{Factors}
 use Rattle.words.specs.Walk.{minor}
-use Rattle.words.specs.Operation.{Step, step, joinedWord, refactored, eachFactor, eachStep, eachSteps}
+use Rattle.words.specs.Operation.{Step, joinedWord, refactored, eachFactor, eachStep, eachSteps}
+use Rattle.words.proofs.Chosen.{length-among}
 use Rattle.words.proofs.Related.{Related, minor-related}
-use Rattle.words.proofs.Alike.{Alike, AlikeStep, AlikeSteps, alike, letters-joined}
+use Rattle.words.proofs.Steps.{Source, Sources, sources-map}
+use Rattle.words.proofs.Alike.{letters-joined, alike-each}
 use Rattle.words.proofs.Formulas.{newFactor-related}
-use Rattle.minors.specs.Matrix.{In, Matrix, Equal, submatrixOf, wordMatrix, multiplied, Positive}
-use Rattle.minors.proofs.Chosen.{length-among}
-use Rattle.minors.proofs.Positive.{PositiveStep, PositiveSteps}
+use Rattle.minors.specs.Matrix.{In, Equal, submatrixOf, wordMatrix}
+use Rattle.minors.proofs.Positive.{PositiveSteps}
 use Rattle.factors.specs.Demand.{Each, Accepted, product-of}
 use Rattle.factors.proofs.Refactored.{multiplied-equal, minor-positive, refactored-positive, refactored-multiplied, refactored-unique}
 
@@ -46,33 +47,23 @@ rational-related = record {
 
 -- sources whose factors are accepted
 abbrev pub AcceptedStep : ℕ → Step Fraction → Type 0
-AcceptedStep n (step w b) = Each Accepted n b
+AcceptedStep = Source Accepted
 
 abbrev pub AcceptedSteps : ℕ → List (Step Fraction) → Type 0
-AcceptedSteps n [] = Unit {0}
-AcceptedSteps n (s ∷ L) = AcceptedStep n s × AcceptedSteps n L
+AcceptedSteps = Sources Accepted
 
 module _ (n : ℕ) where
-  step-alike : (s : Step Fraction) → AcceptedStep n s → AlikeStep Stands (λ x y. Stands x y × (0 < x .top)) n s (eachStep rational s)
-  step-alike (step w b) h = alike (record { off = λ i j p q r s e. refl; on = λ i p q. (refl, h i i (p, q) (p, q)) })
-
-  steps-alike : (L : List (Step Fraction)) → AcceptedSteps n L → AlikeSteps Stands (λ x y. Stands x y × (0 < x .top)) n L (eachSteps rational L)
-  steps-alike [] h = tt
-  steps-alike (s ∷ L) h = (step-alike s (h .0), steps-alike L (h .1))
-
-  step-positive : (s : Step Fraction) → AcceptedStep n s → PositiveStep rationals rationals-ordered n (eachStep rational s)
-  step-positive (step w b) h = λ i j x y. positive-rational (b i j) .0 (h i j x y)
-
+  -- stand for positive rational numbers
   steps-positive : (L : List (Step Fraction)) → AcceptedSteps n L → PositiveSteps rationals rationals-ordered n (eachSteps rational L)
-  steps-positive [] h = tt
-  steps-positive (s ∷ L) h = (step-positive s (h .0), steps-positive L (h .1))
+  steps-positive = sources-map Accepted (rationals-ordered .Pos) n rational (λ x h. positive-rational x .0 h)
 
   module _ (s : Step Fraction) (L : List (Step Fraction)) (accepted : AcceptedSteps n (s ∷ L))
       (P Q : RowSet) (lengthP : length P ≡ n) (lengthQ : length Q ≡ n) (counts : count Q ≡ count P) where
     minor-rational : (I J : RowSet) → length I ≡ n → rational (minor exact (joinedWord n (s ∷ L)) I J) ≡ minor ℚ (joinedWord n (eachSteps rational (s ∷ L))) I J
     minor-rational I J i =
         minor-related exact ℚ (Unit {0}) (λ g x y. Stands x y) rational-related n (joinedWord n (s ∷ L)) (joinedWord n (eachSteps rational (s ∷ L)))
-        (letters-joined Stands (λ x y. Stands x y × (0 < x .top)) n (s ∷ L) (eachSteps rational (s ∷ L)) (steps-alike (s ∷ L) accepted)) tt rational-zero rational-one I J i
+        (letters-joined Stands (λ x y. Stands x y × (0 < x .top)) n (s ∷ L) (eachSteps rational (s ∷ L))
+        (alike-each Stands (λ x y. Stands x y × (0 < x .top)) n Accepted rational (λ x h. refl) (λ x h. (refl, h)) (s ∷ L) accepted)) tt rational-zero rational-one I J i
 
     -- the exact minors are positive
     pub exact-minor-positive : (I J : RowSet) → length I ≡ count P → length J ≡ count P → count I ≡ count J → 0 < minor exact (joinedWord n (s ∷ L)) (among P I) (among Q J) .top

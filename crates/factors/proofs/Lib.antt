@@ -5,3 +5,4 @@ pub mod Near
 pub mod Error
 pub mod Bound
 pub mod Demanded
+pub mod Examples

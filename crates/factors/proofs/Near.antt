@@ -1,10 +1,9 @@
 -- A rounded number near a fraction: its exponent in range and the two within k unit roundings. Laws: near-sum, near-product, near-quotient. Zero is near zero only.
-use mathlib.Core.Path.{_≡_, refl, sym, ap, _∙_, subst}
-use Prim.Native.Nat.{ℕ, zero, suc, _+_, _-_, _*_, _^_, _≤_, _<_}
+use Prim.Native.Nat.{ℕ, _+_, _≤_, _<_}
 use native.Mathlib.Omega.{arith}
-use Rattle.fraction.specs.Fraction.{Fraction, whole, sum, product, quotient, Same}
+use Rattle.fraction.specs.Fraction.{Fraction, whole, sum, product, quotient}
 use Rattle.fraction.specs.Within.{Within}
-use Rattle.fraction.proofs.Within.{within-refl, within-same, within-sym, within-trans, within-mono, within-sum, within-mul, within-div, within-positive}
+use Rattle.fraction.proofs.Within.{within-refl, within-same, within-trans, within-mono, within-sum, within-mul, within-div, within-positive}
 use Rattle.number.specs.declared.Number.{Number}
 use Rattle.number.specs.Number.{bias, zeroNumber, oneNumber, sumOf, productOf, quotientOf, value, Ranged, Stored}
 use Rattle.number.proofs.Value.{value-zero, value-one, value-positive}
@@ -36,7 +35,7 @@ pub near-sum : {k r : ℕ} {x x′ : Number} {y y′ : Fraction} → Near k r x 
 near-sum {k} {r} u v h =
     record {
       ranged = ranged-sum (u .ranged) (v .ranged) (omega arith);
-      within = within-mono (omega arith) (within-trans (sum-within (u .ranged) (v .ranged) (omega arith) (omega arith)) (within-sum (u .within) (v .within)));
+      within = within-mono (omega arith) (within-trans (sum-within (u .ranged) (v .ranged) (omega arith)) (within-sum (u .within) (v .within)));
     }
 
 pub near-product : {j k r s : ℕ} {x x′ : Number} {y y′ : Fraction} → Near j r x y → Near k s x′ y′ → r + s + 64 ≤ bias → Near (j + k + 1) (r + s + 33) (productOf x x′) (product y y′)

@@ -1,33 +1,30 @@
 -- THE REQUESTED MATRIX: the exact factors of product, re-signed inverse, converse and submatrix multiply out to it (exact-requested).
 use mathlib.Core.Path.{_≡_, refl, sym, ap, ap₂, _∙_, subst}
 use mathlib.Core.List.{List, [], _∷_}
-use Prim.Native.Nat.{ℕ, _≤_, _-_, _+_ as _+ℕ_}
-use native.Mathlib.Omega.{arith}
+use Prim.Native.Nat.{ℕ, _+_ as _+ℕ_}
 use lib.ListN.{length}
 use Rattle.fraction.specs.Fraction.{Fraction, exact}
 use Rattle.fraction.specs.Ring.{CRing, Ordered}
 use Rattle.fraction.specs.Rational.{rationals, rationals-ordered, rational}
 use Rattle.fraction.proofs.Ring.{*-assoc, one-*}
-use Rattle.words.specs.RowSet.{RowSet, rows, count}
-use Rattle.words.specs.Word.{Factors, Word, word, inverseWord}
-use Rattle.words.specs.Operation.{Step, step, plain, inverted, conversed, joinedWord, refactored, Operation, product, inverse, converse, submatrix, steps, keptRows, keptColumns, size, result, eachFactor, eachStep, eachSteps, eachSource}
+use Rattle.words.specs.RowSet.{rows, count}
+use Rattle.words.specs.Word.{Factors, word, inverseWord}
+use Rattle.words.specs.Operation.{Step, step, plain, inverted, conversed, joinedWord, refactored, Operation, product, inverse, converse, submatrix, size, result, eachFactor, eachSteps, eachSource}
 use Rattle.words.proofs.RowSets.{length-rows}
-use Rattle.words.proofs.Walks.{All}
+use Rattle.words.proofs.Chosen.{count-all, chosen-all}
 use Rattle.words.proofs.Stages.{word-rows}
-use Rattle.minors.specs.Matrix.{In, Matrix, Equal, identity, times, sign, resigned, chosen, submatrixOf, wordMatrix, multiplied, Positive}
-use Rattle.minors.proofs.Chosen.{count-all, chosen-all}
+use Rattle.minors.specs.Matrix.{In, Matrix, Equal, identity, times, sign, resigned, wordMatrix, multiplied, Positive}
 use Rattle.minors.proofs.Products.{times-equal-left, times-equal-right}
-use Rattle.minors.proofs.Weights.{weights-weaken}
-use Rattle.minors.proofs.Positive.{word-weights}
+use Rattle.minors.proofs.Complement.{word-diagonal}
 use Rattle.minors.proofs.Multiply.{wordMatrix-converse, joined-multiplied}
 use Rattle.minors.proofs.Inverse.{inverse-unique, inverse-left, inverse-right, sign-square}
 use Rattle.factors.specs.Requested.{ResignedInverse, Requested}
-use Rattle.factors.specs.Demand.{Each, Proper, Accepted, product-of}
+use Rattle.factors.specs.Demand.{Proper, Accepted, product-of}
 use Rattle.factors.proofs.Exact.{AcceptedSteps, exact-multiplied}
 
 -- THE RE-SIGNED INVERSE: the matrix of the inverse's word is it
 module _ (K : CRing) (O : Ordered K) where
-  open CRing K using (R, 𝟙, mul as _*_)
+  open CRing K using (R, mul as _*_)
 
   infixl 70 _*_
   signed-twice : (i : ℕ) (x y : R) → y ≡ sign K i * x → x ≡ sign K i * y
@@ -45,14 +42,11 @@ module _ (K : CRing) (O : Ordered K) where
       signs : Equal K n (resigned K X) (resigned K (wordMatrix K O n (inverseWord (word n b))))
       signs i j x y = ap (λ z. sign K (i +ℕ j) * z) (e i j x y)
 
-      diagonal : All (Rattle.minors.proofs.Weights.Weights (λ w. Unit {0}) (O .Pos) n) (word n b)
-      diagonal = weights-weaken (O .Pos) (λ w. Unit {0}) (O .Pos) (λ w h. tt) n (word n b) (word-weights K O n b p)
-
       left : Equal K n (times K n (resigned K X) (multiplied K O n b)) (identity K)
-      left i j x y = times-equal-left K n _ _ (multiplied K O n b) signs i j x y ∙ inverse-left K O n (word n b) (word-rows n b) diagonal i j x y
+      left i j x y = times-equal-left K n _ _ (multiplied K O n b) signs i j x y ∙ inverse-left K O n (word n b) (word-rows n b) (word-diagonal K O n b p) i j x y
 
       right : Equal K n (times K n (multiplied K O n b) (resigned K X)) (identity K)
-      right i j x y = times-equal-right K n (multiplied K O n b) _ _ signs i j x y ∙ inverse-right K O n (word n b) (word-rows n b) diagonal i j x y
+      right i j x y = times-equal-right K n (multiplied K O n b) _ _ signs i j x y ∙ inverse-right K O n (word n b) (word-rows n b) (word-diagonal K O n b p) i j x y
 
 module _ (n : ℕ) where
   all-rows : length (rows n 1 n) ≡ n
@@ -60,7 +54,8 @@ module _ (n : ℕ) where
 
   -- of all rows and columns
   whole-multiplied : (s : Step Fraction) (L : List (Step Fraction)) → AcceptedSteps n (s ∷ L)
-      → Equal rationals n (product-of (count (rows n 1 n)) (refactored exact n (s ∷ L) (rows n 1 n) (rows n 1 n))) (wordMatrix rationals rationals-ordered n (joinedWord n (eachSteps rational (s ∷ L))))
+      → Equal rationals n (product-of (count (rows n 1 n)) (refactored exact n (s ∷ L) (rows n 1 n) (rows n 1 n)))
+      (wordMatrix rationals rationals-ordered n (joinedWord n (eachSteps rational (s ∷ L))))
   whole-multiplied s L h i j x y =
       exact-multiplied n s L h (rows n 1 n) (rows n 1 n) all-rows all-rows refl i j (subst (λ k. In k i) (sym (count-all n)) x) (subst (λ k. In k j) (sym (count-all n)) y)
       ∙ ap₂ (wordMatrix rationals rationals-ordered n (joinedWord n (eachSteps rational (s ∷ L)))) (chosen-all n i x) (chosen-all n j y)

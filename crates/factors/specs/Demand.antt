@@ -1,15 +1,17 @@
 -- DEMAND 3: the module's run by the rounded rule beside the exact run of the same operation in fractions, source numbers taken as exact.
 use mathlib.Core.Path.{_≡_}
-use Prim.Native.Nat.{ℕ, _≤_, _<_}
+use Prim.Native.Nat.{ℕ, _<_}
 use lib.ListN.{length}
+use Rattle.fraction.specs.Arithmetic.{Arithmetic}
 use Rattle.fraction.specs.Fraction.{Fraction, Same, exact}
 use Rattle.fraction.specs.Within.{Within}
 use Rattle.fraction.specs.Rational.{rationals, rationals-ordered, rational}
 use Rattle.number.specs.declared.Number.{Number}
-use Rattle.number.specs.Number.{rounded, value, Stored}
-use Rattle.words.specs.RowSet.{count}
+use Rattle.number.specs.Number.{rounded, value, Ranged, reach}
+use Rattle.words.specs.RowSet.{RowSet, count, among}
+use Rattle.words.specs.Walk.{minor}
 use Rattle.words.specs.Word.{Factors}
-use Rattle.words.specs.Operation.{Operation, product, inverse, converse, submatrix, size, bound, rowByRow, result, eachFactor, eachSource}
+use Rattle.words.specs.Operation.{Operation, product, inverse, converse, submatrix, steps, joinedWord, keptRows, keptColumns, size, bound, rowByRow, result, eachFactor, eachSource}
 use Rattle.minors.specs.Matrix.{In, Equal, multiplied}
 use Rattle.factors.specs.Requested.{Requested}
 
@@ -32,8 +34,19 @@ Accepted x = 0 < x .top
 abbrev pub product-of : ℕ → Factors Fraction → ℕ → ℕ → rationals .R
 product-of k c = multiplied rationals rationals-ordered k (eachFactor rational c)
 
--- THE EXACT RUN of an operation on fractions: its factors are positive and multiply out to the requested matrix, and no other positive fractions do.
+-- the minor that the formulas of an operation ask for at row set I and column set J, which count among the kept rows and columns
+abbrev pub askedMinor : (K : Arithmetic) → ℕ → Operation (K .Num) → RowSet → RowSet → K .Num
+askedMinor K n o I J = minor K (joinedWord n (steps o)) (among (keptRows n o) I) (among (keptColumns n o) J)
+
+-- sets of k rows with equally many members
+pub record Pair (k : ℕ) (I J : RowSet) : Type 0 where
+  pub rows : length I ≡ k
+  pub columns : length J ≡ k
+  pub counts : count I ≡ count J
+
+-- THE EXACT RUN of an operation on fractions: no divisor is zero; its factors are positive and multiply out to the requested matrix, and no other positive fractions do.
 pub record Factored (n : ℕ) (o : Operation Fraction) : Type 0 where
+  pub divisors : (I J : RowSet) → Pair (size n o) I J → Accepted (askedMinor exact n o I J)
   pub positive : Each Accepted (size n o) (result exact n o)
   pub requested : Requested rationals rationals-ordered n (eachSource rational o) (product-of (size n o) (result exact n o))
   pub only : (c : Factors Fraction) → Each Accepted (size n o) c → Equal rationals (size n o) (product-of (size n o) c) (product-of (size n o) (result exact n o))
@@ -43,9 +56,11 @@ pub record Factored (n : ℕ) (o : Operation Fraction) : Type 0 where
 abbrev pub exactly : Operation Number → Operation Fraction
 exactly o = eachSource value o
 
--- BOTH RUNS give equally many factors, all positive; at each row and column the two have a ratio within the bound returned.
+-- BOTH RUNS meet no divisor that is zero and give equally many factors, all positive; at each row and column the two have a ratio within the bound returned.
 pub record Demand (n : ℕ) (o : Operation Number) : Type 0 where
+  pub divisors : (I J : RowSet) → Pair (size n o) I J → 0 < askedMinor rounded n o I J .m
   pub counts : length (rowByRow (size n o) (result rounded n o)) ≡ length (rowByRow (size n (exactly o)) (result exact n (exactly o)))
   pub positive : Each (λ a. 0 < a .m) (size n o) (result rounded n o)
+  pub ranged : Each (Ranged reach) (size n o) (result rounded n o)
   pub within : (i j : ℕ) → In (size n o) i → In (size n o) j → Within (bound n o) (value (result rounded n o i j)) (result exact n (exactly o) i j)
   pub factored : Factored n (exactly o)

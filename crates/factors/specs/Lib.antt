@@ -1,2 +1,3 @@
 pub mod Requested
 pub mod Demand
+pub mod Examples

@@ -1,6 +1,5 @@
 -- The requested matrix of an operation (document 01, "The matrix and its letters"): what ordinary matrix arithmetic on the sources' own entries gives.
 -- A source's entries are what its factors multiply out to (`multiplied`).
-use mathlib.Core.Path.{_≡_}
 use Prim.Native.Nat.{ℕ, _+_, _-_}
 use Rattle.fraction.specs.Ring.{CRing, Ordered}
 use Rattle.words.specs.RowSet.{count}

@@ -1,4 +1,5 @@
--- Jacobi's complementary minors: the minors of the inverse's word are those of the word at the complements of the sets, exchanged, over the word's determinant (minor-inverse).
+-- JACOBI'S COMPLEMENTARY MINORS: the minors of the inverse's word are those of the word at the complements of the sets, exchanged, over the word's determinant (minor-inverse).
+-- The determinant is the product of all diagonal entries (wordDeterminant), positive where these are (Diagonal, word-diagonal, wordDeterminant-positive).
 use mathlib.Core.Path.{_≡_, refl, sym, ap, ap₂, _∙_, fun-ext, subst}
 use mathlib.Core.Bool.{Bool, true, false, not, cond, _&&_, Bool·not-not}
 use mathlib.Core.List.{[], _∷_, _++_, map}
@@ -11,17 +12,18 @@ use Rattle.fraction.specs.Arithmetic.{Arithmetic}
 use Rattle.fraction.specs.Ring.{CRing, Ordered, arithmetic}
 use Rattle.fraction.proofs.Ring.{ring, one-*, *-one, *-assoc, *-comm, *-left}
 use Rattle.fraction.proofs.Ordered.{inv-mul-pos}
-use Rattle.words.specs.RowSet.{RowSet, has, put, replaced, count}
-use Rattle.words.specs.Word.{Letter, E, Et, D, Dinv, Word, inverseLetter, inverseWord}
+use Rattle.words.specs.RowSet.{In, RowSet, has, put, replaced, count}
+use Rattle.words.specs.Word.{Factors, Letter, E, Et, D, Dinv, Word, word, inverseLetter, inverseWord}
 use Rattle.words.specs.Walk.{State, oneAt, moved, movedIf, scaled, act, walk, minor}
-use Rattle.words.proofs.RowSets.{length-put}
+use Rattle.words.proofs.RowSets.{in-under, in-top, length-put}
 use Rattle.words.proofs.Walks.{Rows, All}
 use Rattle.words.proofs.Agree.{act-agree}
-use Rattle.minors.specs.Matrix.{In}
+use Rattle.words.proofs.Words.{transposed-transposed, inverse-all, inverse-row, transposed-rows}
+use Rattle.words.proofs.Steps.{Weights, weights-weaken, word-weights}
+use Rattle.minors.specs.Matrix.{Positive}
 use Rattle.minors.proofs.Transpose.{transposedLetter, transposedWord, minor-transposed}
-use Rattle.minors.proofs.Weights.{Weights}
 use Rattle.minors.proofs.Mapped.{moved-mapped, oneAt-mapped}
-use Rattle.minors.proofs.Entries.{*-right, product, wholeProduct, scaled-product, wholeProduct-positive}
+use Rattle.minors.proofs.Entries.{*-right, entryProduct, wholeProduct, scaled-product, wholeProduct-positive}
 
 -- the rows that are not in S
 abbrev pub complement : RowSet → RowSet
@@ -92,34 +94,28 @@ module _ {A : Type 0} where
       by (D e) = refl
       by (Dinv e) = refl
 
+  -- it is the inverse's word transposed
   pub complement-rows : (n : ℕ) (W : Word A) → All (Rows n) W → All (Rows n) (complementWord W)
-  unfolding complementWord
-  complement-rows n [] h = tt
-  complement-rows n (l ∷ W) h = (by l (h .0), complement-rows n W (h .1))
-    where
-      by : (l : Letter A) → Rows n l → Rows n (complementLetter l)
-      by (E j w) h = h
-      by (Et j w) h = h
-      by (D e) h = tt
-      by (Dinv e) h = tt
+  complement-rows n W h = subst (All (Rows n)) (ap transposedWord (inverse-transposed W) ∙ transposed-transposed (complementWord W))
+      (transposed-rows n (inverseWord W) (inverse-all (Rows n) (Rows n) (inverse-row n) W h))
 
 module _ (K : CRing) where
   open CRing K using (R, 𝟙, mul as _*_)
 
   infixl 70 _*_
   -- where u holds the inverses of v
-  product-complement : (v u : ℕ → R) (S : RowSet) → ((i : ℕ) → In (length S) i → v i * u i ≡ 𝟙) → product K v (complement S) ≡ wholeProduct K v (length S) * product K u S
-  unfolding product wholeProduct
-  product-complement v u [] h = sym (*-one K 𝟙)
-  product-complement v u (true ∷ S) h = product-complement v u S (λ i x. h i (x .0, omega (arith, x .1))) ∙ cancel _ _ _ _ (h (suc (length S)) (omega arith, omega arith))
+  entryProduct-complement : (v u : ℕ → R) (S : RowSet) → ((i : ℕ) → In (length S) i → v i * u i ≡ 𝟙) → entryProduct K v (complement S) ≡ wholeProduct K v (length S) * entryProduct K u S
+  unfolding entryProduct wholeProduct
+  entryProduct-complement v u [] h = sym (*-one K 𝟙)
+  entryProduct-complement v u (true ∷ S) h = entryProduct-complement v u S (λ i x. h i (in-under x)) ∙ cancel _ _ _ _ (h (suc (length S)) (in-top (length S)))
     where
       cancel : (a b c d : R) → c * d ≡ 𝟙 → a * b ≡ a * c * (b * d)
       cancel a b c d e = sym (regroup a b c d ∙ ap (λ x. a * b * x) e ∙ *-one K (a * b))
         where
           regroup : (a b c d : R) → a * c * (b * d) ≡ a * b * (c * d)
           regroup a b c d = simp ring
-  product-complement v u (false ∷ S) h =
-      ap₂ (λ x k. x * v (suc k)) (product-complement v u S (λ i x. h i (x .0, omega (arith, x .1)))) (length-map S not) ∙ *-right K _ _ _
+  entryProduct-complement v u (false ∷ S) h =
+      ap₂ (λ x k. x * v (suc k)) (entryProduct-complement v u S (λ i x. h i (in-under x))) (length-map S not) ∙ *-right K _ _ _
 
 module _ (K : CRing) (O : Ordered K) where
   open CRing K using (R, 𝟙, add as _+_, mul as _*_)
@@ -144,6 +140,9 @@ module _ (K : CRing) (O : Ordered K) where
   -- any weights, positive diagonals
   abbrev pub Diagonal : ℕ → Letter R → Type 0
   Diagonal n = Weights (λ w. Unit {0}) Pos n
+
+  pub word-diagonal : (n : ℕ) (b : Factors R) → Positive K O n b → All (Diagonal n) (word n b)
+  word-diagonal n b p = weights-weaken Pos (λ w. Unit {0}) Pos (λ w h. tt) n (word n b) (word-weights Pos n b p)
 
   pub wordDeterminant-positive : (n : ℕ) (W : Word R) → All (Diagonal n) W → Pos (wordDeterminant n W)
   unfolding wordDeterminant
@@ -197,7 +196,7 @@ module _ (K : CRing) (O : Ordered K) where
       → scaled F (λ y z. y * f z) e (complement S) x ≡ wholeProduct K (λ i. f (e i)) n * scaled F (λ y z. y * g z) e S x
   scaled-complement f g n e S x s h =
       scaled-product K O f e (complement S) x
-      ∙ ap (λ y. x * y) (product-complement K (λ i. f (e i)) (λ i. g (e i)) S (λ i y. h i (subst (λ m. In m i) s y)))
+      ∙ ap (λ y. x * y) (entryProduct-complement K (λ i. f (e i)) (λ i. g (e i)) S (λ i y. h i (subst (λ m. In m i) s y)))
       ∙ *-left K _ _ _ ∙ ap₂ (λ m y. wholeProduct K (λ i. f (e i)) m * y) s (sym (scaled-product K O g e S x))
 
   act-complement : (n : ℕ) (l : Letter R) → Rows n l → Diagonal n l → (ω : State F) (S : RowSet) → length S ≡ n

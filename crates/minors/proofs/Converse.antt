@@ -1,24 +1,23 @@
--- The converse: its minors are those of the word, row sets and column sets counted from the other end (minor-converse; rows-reverse for consecutive rows).
+-- The converse: its minors are those of the word, row sets and column sets counted from the other end (minor-converse), with equally many rows (count-reverse).
 use mathlib.Core.Path.{_≡_, refl, sym, ap, ap₂, _∙_, fun-ext}
-use mathlib.Core.Bool.{Bool, true, false, not, cond, _&&_, and-comm}
+use mathlib.Core.Bool.{Bool, true, false, not, cond, _&&_}
 use mathlib.Core.List.{[], _∷_, _++_, reverse, reverse-cons, reverse-reverse}
 use Prim.Native.Nat.{ℕ, zero, suc, _+_ as _+ℕ_, _-_, _≤_}
 use native.Mathlib.Omega.{arith}
-use lib.Dec.{eqb, leb, eqb·suc-suc}
+use lib.Dec.{eqb, eqb·suc-suc}
 use lib.ListN.{length, length-append, length-reverse}
-use borrow.Author.Tests.{ne-eqb, leb-true, leb-false}
+use borrow.Author.Tests.{ne-eqb}
 use Rattle.fraction.specs.Arithmetic.{Arithmetic}
 use Rattle.fraction.specs.Ring.{CRing, Ordered, arithmetic}
 use Rattle.fraction.proofs.Ring.{one-*, *-one}
-use Rattle.words.specs.RowSet.{RowSet, has, put, count, rows}
+use Rattle.words.specs.RowSet.{In, RowSet, has, put, count}
 use Rattle.words.specs.Word.{Letter, E, Et, D, Dinv, Word, converseLetter, converseWord}
 use Rattle.words.specs.Walk.{State, oneAt, moved, scaled, act, walk, minor}
-use Rattle.words.proofs.RowSets.{has-top, has-under, put-top, put-under, length-put, length-rows, has-rows}
+use Rattle.words.proofs.RowSets.{has-top, has-under, put-top, put-under, length-put}
 use Rattle.words.proofs.Walks.{Rows, All}
 use Rattle.words.proofs.Agree.{act-agree}
-use Rattle.minors.specs.Matrix.{In}
 use Rattle.minors.proofs.Mapped.{moved-mapped, oneAt-mapped}
-use Rattle.minors.proofs.Entries.{*-right, product, scaled-product}
+use Rattle.minors.proofs.Entries.{*-right, entryProduct, scaled-product}
 
 -- a row x under all others
 length-end : (S : RowSet) (x : Bool) → length (S ++ (x ∷ [])) ≡ suc (length S)
@@ -83,69 +82,35 @@ count-reverse [] = refl
 count-reverse (true ∷ S) = ap count (reverse-cons true S) ∙ count-end (reverse S) true ∙ ap suc (count-reverse S)
 count-reverse (false ∷ S) = ap count (reverse-cons false S) ∙ count-end (reverse S) false ∙ count-reverse S
 
--- consecutive rows are consecutive from the other end
-rows-equal : (S T : RowSet) → length S ≡ length T → ((i : ℕ) → In (length S) i → has i S ≡ has i T) → S ≡ T
-rows-equal [] [] l h = refl
-rows-equal [] (y ∷ T) l h = absurd (omega arith)
-rows-equal (x ∷ S) [] l h = absurd (omega arith)
-rows-equal (x ∷ S) (y ∷ T) l h =
-    let m : length S ≡ length T = omega arith in
-    ap₂ _∷_ (sym (has-top x S) ∙ h (suc (length S)) (omega arith, omega arith) ∙ ap (λ k. has (suc k) (y ∷ T)) m ∙ has-top y T)
-    (rows-equal S T m (λ i p. sym (has-under i x S (p .1)) ∙ h i (p .0, omega (arith, p .1)) ∙ has-under i y T (omega (arith, p .1))))
-
-leb-equal : (a b c d : ℕ) → (a ≤ b → c ≤ d) → (c ≤ d → a ≤ b) → leb a b ≡ leb c d
-leb-equal a b c d f g = by (leb a b) (leb c d) refl refl
-  where
-    by : (s t : Bool) → leb a b ≡ s → leb c d ≡ t → s ≡ t
-    by true true e h = refl
-    by true false e h = absurd (omega (arith, f (leb-true a b e), leb-false c d h))
-    by false true e h = absurd (omega (arith, g (leb-true c d h), leb-false a b e))
-    by false false e h = refl
-
-pub rows-reverse : (n a b : ℕ) → reverse (rows n a b) ≡ rows n (n +ℕ 1 - b) (n +ℕ 1 - a)
-rows-reverse n a b = rows-equal (reverse (rows n a b)) (rows n (n +ℕ 1 - b) (n +ℕ 1 - a)) (reversed ∙ sym (length-rows n _ _)) (λ i x. same i (x .0) (omega (arith, x .1, reversed)))
-  where
-    reversed : length (reverse (rows n a b)) ≡ n
-    reversed = length-reverse (rows n a b) ∙ length-rows n a b
-
-    same : (i : ℕ) → 1 ≤ i → i ≤ n → has i (reverse (rows n a b)) ≡ has i (rows n (n +ℕ 1 - b) (n +ℕ 1 - a))
-    same zero p q = absurd (omega arith)
-    same (suc k) p q =
-        has-reverse k (n - k) (rows n a b) (omega arith) (omega (arith, length-rows n a b))
-        ∙ has-rows n (n - k) a b (omega arith) (omega arith)
-        ∙ ap₂ _&&_ (leb-equal a (n - k) (suc k) (n +ℕ 1 - a) (λ h. omega arith) (λ h. omega arith)) (leb-equal (n - k) b (n +ℕ 1 - b) (suc k) (λ h. omega arith) (λ h. omega arith))
-        ∙ and-comm (leb (suc k) (n +ℕ 1 - a)) (leb (n +ℕ 1 - b) (suc k))
-        ∙ sym (has-rows n (suc k) (n +ℕ 1 - b) (n +ℕ 1 - a) p q)
-
 module _ (K : CRing) where
   open CRing K using (R, 𝟙, mul as _*_)
 
   infixl 70 _*_
-  product-end : (v : ℕ → R) (S : RowSet) (x : Bool) → product K v (S ++ (x ∷ [])) ≡ product K (λ i. v (suc i)) S * product K v (x ∷ [])
-  unfolding product
-  product-end v [] x = sym (one-* K _)
-  product-end v (true ∷ S) x = ap₂ (λ y k. y * v (suc k)) (product-end v S x) (length-end S x) ∙ *-right K _ _ _
-  product-end v (false ∷ S) x = product-end v S x
+  entryProduct-end : (v : ℕ → R) (S : RowSet) (x : Bool) → entryProduct K v (S ++ (x ∷ [])) ≡ entryProduct K (λ i. v (suc i)) S * entryProduct K v (x ∷ [])
+  unfolding entryProduct
+  entryProduct-end v [] x = sym (one-* K _)
+  entryProduct-end v (true ∷ S) x = ap₂ (λ y k. y * v (suc k)) (entryProduct-end v S x) (length-end S x) ∙ *-right K _ _ _
+  entryProduct-end v (false ∷ S) x = entryProduct-end v S x
 
   -- the entries read backwards
-  product-reverse : (v : ℕ → R) (n : ℕ) (S : RowSet) → length S ≡ n → product K (λ i. v (n +ℕ 1 - i)) (reverse S) ≡ product K v S
-  unfolding product
-  product-reverse v n [] s = refl
-  product-reverse v zero (x ∷ S) s = absurd (omega arith)
-  product-reverse v (suc n) (x ∷ S) s =
-      ap (product K (λ i. v (suc n +ℕ 1 - i))) (reverse-cons x S) ∙ product-end (λ i. v (suc n +ℕ 1 - i)) (reverse S) x
-      ∙ ap₂ _*_ (ap (λ u. product K u (reverse S)) (fun-ext (λ i. ap v (shift i))) ∙ product-reverse v n S (omega arith)) (lowest x)
+  entryProduct-reverse : (v : ℕ → R) (n : ℕ) (S : RowSet) → length S ≡ n → entryProduct K (λ i. v (n +ℕ 1 - i)) (reverse S) ≡ entryProduct K v S
+  unfolding entryProduct
+  entryProduct-reverse v n [] s = refl
+  entryProduct-reverse v zero (x ∷ S) s = absurd (omega arith)
+  entryProduct-reverse v (suc n) (x ∷ S) s =
+      ap (entryProduct K (λ i. v (suc n +ℕ 1 - i))) (reverse-cons x S) ∙ entryProduct-end (λ i. v (suc n +ℕ 1 - i)) (reverse S) x
+      ∙ ap₂ _*_ (ap (λ u. entryProduct K u (reverse S)) (fun-ext (λ i. ap v (shift i))) ∙ entryProduct-reverse v n S (omega arith)) (lowest x)
       ∙ sym (top x)
     where
       shift : (i : ℕ) → suc n +ℕ 1 - suc i ≡ n +ℕ 1 - i
       shift i = omega arith
 
-      lowest : (x : Bool) → product K (λ i. v (suc n +ℕ 1 - i)) (x ∷ []) ≡ cond x (v (suc n)) 𝟙
+      lowest : (x : Bool) → entryProduct K (λ i. v (suc n +ℕ 1 - i)) (x ∷ []) ≡ cond x (v (suc n)) 𝟙
       lowest true = one-* K _ ∙ ap v (omega arith)
       lowest false = refl
 
-      top : (x : Bool) → product K v (x ∷ S) ≡ product K v S * cond x (v (suc n)) 𝟙
-      top true = ap (λ k. product K v S * v (suc k)) (omega arith)
+      top : (x : Bool) → entryProduct K v (x ∷ S) ≡ entryProduct K v S * cond x (v (suc n)) 𝟙
+      top true = ap (λ k. entryProduct K v S * v (suc k)) (omega arith)
       top false = sym (*-one K _)
 
 module _ (K : CRing) (O : Ordered K) where
@@ -168,7 +133,7 @@ module _ (K : CRing) (O : Ordered K) where
   scaled-reverse : (f : R → R) (n : ℕ) (e : ℕ → R) (S : RowSet) (x : R) → length S ≡ n
       → scaled F (λ y z. y * f z) (λ i. e (n +ℕ 1 - i)) (reverse S) x ≡ scaled F (λ y z. y * f z) e S x
   scaled-reverse f n e S x s =
-      scaled-product K O f (λ i. e (n +ℕ 1 - i)) (reverse S) x ∙ ap (λ y. x * y) (product-reverse K (λ i. f (e i)) n S s) ∙ sym (scaled-product K O f e S x)
+      scaled-product K O f (λ i. e (n +ℕ 1 - i)) (reverse S) x ∙ ap (λ y. x * y) (entryProduct-reverse K (λ i. f (e i)) n S s) ∙ sym (scaled-product K O f e S x)
 
   act-reverse : (n : ℕ) (l : Letter R) → Rows n l → (ω : State F) (S : RowSet) → length S ≡ n
       → act F (converseLetter n l) ω (reverse S) ≡ act F l (λ T. ω (reverse T)) S

@@ -1,5 +1,5 @@
--- Minors are determinants: a walk's minor is the wedge of the columns of the word's matrix (minor-determinant), a function of its entries alone (determinant-equal),
--- and those within chosen rows and columns are the submatrix's (determinant-among).
+-- MINORS ARE DETERMINANTS: a walk's minor is the wedge of the columns of the word's matrix (minor-determinant), a function of its entries alone (determinant-equal).
+-- Those within chosen rows and columns are the submatrix's (determinant-among), and those of one row and one column are the entries (determinant-entry).
 use mathlib.Core.Path.{_≡_, refl, sym, ap, ap₂, _∙_, subst, fun-ext}
 use mathlib.Core.Bool.{Bool, true, false, cond}
 use mathlib.Core.List.{List, [], _∷_}
@@ -7,18 +7,20 @@ use Prim.Native.Nat.{ℕ, zero, suc, _≤_, _<_}
 use native.Mathlib.Omega.{arith}
 use lib.ListN.{length}
 use borrow.Author.Tests.{eq-eqb, ne-eqb}
+use Rattle.fraction.specs.Arithmetic.{Arithmetic}
 use Rattle.fraction.specs.Ring.{CRing, Ordered, arithmetic}
 use Rattle.fraction.proofs.Ring.{ring, zero-*, *-zero, *-one, one-*}
-use Rattle.words.specs.RowSet.{RowSet, rows, count, members, among, equal}
+use Rattle.words.specs.RowSet.{In, RowSet, rows, count, members, chosen, among, equal}
 use Rattle.words.specs.Word.{Letter, Word}
 use Rattle.words.specs.Walk.{oneAt, minor, act, walk, carryLetter, carry}
-use Rattle.words.proofs.RowSets.{length-rows}
+use Rattle.words.proofs.RowSets.{in-under, in-top, length-rows}
+use Rattle.words.proofs.Runs.{rows-last, rows-own, rows-none}
+use Rattle.words.proofs.Chosen.{chosen-top, chosen-under}
 use Rattle.words.proofs.Walks.{Rows, All, under}
-use Rattle.minors.specs.Matrix.{In, chosen, Matrix, Equal, identity, submatrixOf}
-use Rattle.minors.proofs.Wedge.{in-under, in-top, wedge-agree, wedge-zero}
-use Rattle.minors.proofs.Carried.{act-agree, act-wedge, act-empty, walk-agree}
-use Rattle.minors.proofs.Runs.{rows-in, rows-above, rows-none}
-use Rattle.minors.proofs.Chosen.{chosen-top, chosen-under}
+use Rattle.words.proofs.Agree.{act-agree, walk-agree}
+use Rattle.minors.specs.Matrix.{Matrix, Equal, identity, submatrixOf}
+use Rattle.minors.proofs.Wedge.{wedge-agree, wedge-zero}
+use Rattle.minors.proofs.Carried.{act-wedge, act-empty}
 unfoldable pub use Rattle.minors.proofs.Wedge.{wedge, empty, wedges}
 
 module _ (K : CRing) where
@@ -70,8 +72,8 @@ module _ (K : CRing) where
   pub determinant-runs : (M : Matrix K) (n m a b c d : ℕ) → b ≤ n → d ≤ m → determinant M (rows n a b) (rows m c d) ≡ determinant M (rows b a b) (rows d c d)
   unfolding determinant columns
   determinant-runs M n m a b c d h g =
-      rows-above (λ I. determinant M I (rows m c d)) (λ I. determinant-above M I (rows m c d)) n a b h
-      ∙ rows-above (determinant M (rows b a b)) (λ J. refl) m c d g
+      rows-own (λ I. determinant M I (rows m c d)) (λ I. determinant-above M I (rows m c d)) n a b h
+      ∙ rows-own (determinant M (rows b a b)) (λ J. refl) m c d g
 
   pub determinant-none : (M : Matrix K) (I : RowSet) (m c d : ℕ) → d < c → determinant M I (rows m c d) ≡ empty K I
   unfolding determinant columns wedges
@@ -80,6 +82,10 @@ module _ (K : CRing) where
   pub empty-none : (n a b : ℕ) → b < a → empty K (rows n a b) ≡ 𝟙
   unfolding empty
   empty-none n a b h = rows-none (empty K) (λ S. refl) n a b h
+
+  -- the empty minor is 1
+  pub determinant-empty : (M : Matrix K) (n a b m c d : ℕ) → b < a → d < c → determinant M (rows n a b) (rows m c d) ≡ 𝟙
+  determinant-empty M n a b m c d h g = determinant-none M (rows n a b) m c d g ∙ empty-none n a b h
 
   -- the first term of an expansion whose other terms are zero
   alone : (x y : R) → y ≡ 𝟘 → x + neg y ≡ x
@@ -96,32 +102,34 @@ module _ (K : CRing) where
   determinant-zero-row M I (false ∷ J) h = determinant-zero-row M I J (λ j p. h j (in-under p))
 
 module _ (K : CRing) (O : Ordered K) where
-  open CRing K using (R, 𝟘, 𝟙, add as _+_, mul as _*_, neg)
+  open CRing K using (R, 𝟘, 𝟙, mul as _*_)
 
-  infixl 65 _+_
   infixl 70 _*_
+  abbrev F : Arithmetic
+  F = arithmetic K O
+
   -- the matrix of a word: its column j is what the word carries the j-th unit vector to
   unfoldable pub matrixOf : Word R → Matrix K
-  matrixOf W i j = carry (arithmetic K O) W (λ k. identity K k j) i
+  matrixOf W i j = carry F W (λ k. identity K k j) i
 
   -- a letter, and a word, at minors of M: the minors of the matrix with its columns carried
   act-determinant : (l : Letter R) (M : Matrix K) (I J : RowSet) → Rows (length I) l
-      → act (arithmetic K O) l (λ T. determinant K M T J) I ≡ determinant K (λ i j. carryLetter (arithmetic K O) l (λ k. M k j) i) I J
+      → act F l (λ T. determinant K M T J) I ≡ determinant K (λ i j. carryLetter F l (λ k. M k j) i) I J
   unfolding determinant columns wedges
   act-determinant l M I [] h = act-empty K O l I h
   act-determinant l M I (true ∷ J) h =
       act-wedge K O l (λ k. M k (suc (length J))) (wedges K (columns K M J)) I h
-      ∙ wedge-agree K (carryLetter (arithmetic K O) l (λ k. M k (suc (length J)))) _ _ _ I (λ i p. refl)
+      ∙ wedge-agree K (carryLetter F l (λ k. M k (suc (length J)))) _ _ _ I (λ i p. refl)
       (λ T t. act-determinant l M T J (subst (λ n. Rows n l) (sym t) h))
   act-determinant l M I (false ∷ J) h = act-determinant l M I J h
 
   pub walk-determinant : (W : Word R) (M : Matrix K) (I J : RowSet) → All (Rows (length I)) W
-      → walk (arithmetic K O) W (λ T. determinant K M T J) I ≡ determinant K (λ i j. carry (arithmetic K O) W (λ k. M k j) i) I J
+      → walk F W (λ T. determinant K M T J) I ≡ determinant K (λ i j. carry F W (λ k. M k j) i) I J
   unfolding walk carry
   walk-determinant [] M I J h = refl
   walk-determinant (l ∷ W) M I J h =
-      act-agree (arithmetic K O) l _ _ I (λ T t. walk-determinant W M T J (subst (λ n. All (Rows n) W) (sym t) (h .1)))
-      ∙ act-determinant l (λ i j. carry (arithmetic K O) W (λ k. M k j) i) I J (h .0)
+      act-agree F (length I) l _ _ (λ T t. walk-determinant W M T J (subst (λ n. All (Rows n) W) (sym t) (h .1))) I refl
+      ∙ act-determinant l (λ i j. carry F W (λ k. M k j) i) I J (h .0)
 
   -- the minors of the identity
   identity-off : (i j : ℕ) → (i ≡ j → ⊥) → identity K i j ≡ 𝟘
@@ -130,7 +138,7 @@ module _ (K : CRing) (O : Ordered K) where
   identity-column : (ω : RowSet → R) (I : RowSet) (j : ℕ) → length I < j → wedge K (λ i. identity K i j) ω I ≡ 𝟘
   identity-column ω I j e = wedge-zero K _ ω I (λ i T p t. ap (λ x. x * ω T) (identity-off i j (λ f. omega (arith, p .1))) ∙ zero-* K _)
 
-  determinant-identity : (I J : RowSet) → length I ≡ length J → determinant K (identity K) I J ≡ oneAt (arithmetic K O) J I
+  determinant-identity : (I J : RowSet) → length I ≡ length J → determinant K (identity K) I J ≡ oneAt F J I
   unfolding determinant columns wedges wedge empty oneAt equal
   determinant-identity [] [] e = refl
   determinant-identity [] (y ∷ J) e = absurd (omega arith)
@@ -144,14 +152,14 @@ module _ (K : CRing) (O : Ordered K) where
   determinant-identity (false ∷ I) (false ∷ J) e = determinant-above K (identity K) I J ∙ determinant-identity I J (omega arith)
 
   pub minor-determinant : (n : ℕ) (W : Word R) → All (Rows n) W → (I J : RowSet) → length I ≡ n → length J ≡ n
-      → minor (arithmetic K O) W I J ≡ determinant K (matrixOf W) I J
+      → minor F W I J ≡ determinant K (matrixOf W) I J
   unfolding minor matrixOf
   minor-determinant n W h I J i j =
-      walk-agree (arithmetic K O) W (oneAt (arithmetic K O) J) (λ T. determinant K (identity K) T J) I (λ T t. sym (determinant-identity T J (t ∙ i ∙ sym j)))
+      walk-agree F n W (oneAt F J) (λ T. determinant K (identity K) T J) (λ T t. sym (determinant-identity T J (t ∙ sym j))) I i
       ∙ walk-determinant W (identity K) I J (subst (λ k. All (Rows k) W) (sym i) h)
 
 module _ (K : CRing) where
-  open CRing K using (R, 𝟘, 𝟙, add as _+_, mul as _*_, neg)
+  open CRing K using (R, 𝟙, add as _+_, mul as _*_, neg)
 
   infixl 65 _+_
   infixl 70 _*_
@@ -227,6 +235,6 @@ module _ (K : CRing) where
   determinant-entry n M (suc i) zero x y = absurd (omega (arith, y .0))
   determinant-entry n M (suc i) (suc j) x y =
       determinant-runs K M n n (suc i) (suc i) (suc j) (suc j) (x .1) (y .1)
-      ∙ ap₂ (determinant K M) (rows-in i (suc i) (omega arith)) (rows-in j (suc j) (omega arith))
+      ∙ ap₂ (determinant K M) (rows-last i (suc i) (omega arith)) (rows-last j (suc j) (omega arith))
       ∙ determinant-one M _ _ i j (length-rows i (suc i) i) (length-rows j (suc j) j)
       (λ T. determinant-none K M T j (suc j) j (omega arith)) (empty-none K i (suc i) i (omega arith))

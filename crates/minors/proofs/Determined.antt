@@ -1,6 +1,6 @@
--- A matrix is determined by one minor for each corner, where the minor without the corner's row and column is not zero (corners-determined),
+-- A matrix is determined by one minor for each corner, where the minor without the corner's row and column is not zero (corner-determined, corners-determined),
 -- and so by its initial minors where they are positive (initial-determined).
-use mathlib.Core.Path.{_≡_, sym, ap, ap₂, _∙_, subst}
+use mathlib.Core.Path.{_≡_, sym, ap₂, _∙_, subst}
 use mathlib.Core.Bool.{true}
 use mathlib.Core.List.{[], _∷_}
 use Prim.Native.Nat.{ℕ, zero, suc, _-_, _≤_, _<_}
@@ -8,12 +8,13 @@ use native.Mathlib.Omega.{arith}
 use native.Mathlib.Decide.{ℕ-discrete}
 use lib.ListN.{length}
 use Rattle.fraction.specs.Ring.{CRing, Ordered}
-use Rattle.fraction.proofs.Ring.{+-comm, +-cancel, *-one, *-assoc}
-use Rattle.words.specs.RowSet.{RowSet, rows}
-use Rattle.words.proofs.RowSets.{length-rows}
-use Rattle.minors.specs.Matrix.{In, Matrix, Equal}
-use Rattle.minors.proofs.Wedge.{in-under, wedge-agree}
-use Rattle.minors.proofs.Runs.{rows-in}
+use Rattle.fraction.proofs.Ring.{+-comm, +-cancel}
+use Rattle.fraction.proofs.Ordered.{pos-nonzero, nonzero-cancel}
+use Rattle.words.specs.RowSet.{In, RowSet, rows}
+use Rattle.words.proofs.RowSets.{in-under, length-rows}
+use Rattle.words.proofs.Runs.{rows-last}
+use Rattle.minors.specs.Matrix.{Matrix, Equal}
+use Rattle.minors.proofs.Wedge.{wedge-agree}
 use Rattle.minors.proofs.Determinant.{empty, wedges, columns, determinant, determinant-agree, determinant-expand, determinant-runs, determinant-none, empty-none}
 
 -- The initial minor with its corner at (i, j): M(i-j+1..i | 1..j) below the diagonal and on it, M(1..i | j-i+1..j) above it and on it.
@@ -21,20 +22,11 @@ abbrev pub initial : (K : CRing) → ℕ → Matrix K → ℕ → ℕ → K .R
 initial K n M i j = determinant K M (rows n (suc i - j) i) (rows n (suc j - i) j)
 
 module _ (K : CRing) (O : Ordered K) where
-  open CRing K using (R, 𝟘, 𝟙, add as _+_, mul as _*_, neg)
-  open Ordered O using (Pos, inv)
+  open CRing K using (R, 𝟘, add as _+_, mul as _*_, neg)
+  open Ordered O using (Pos)
 
   infixl 65 _+_
   infixl 70 _*_
-  pub pos-nonzero : (x : R) → Pos x → x ≡ 𝟘 → ⊥
-  pos-nonzero x p e = O .pos-zero (subst Pos e p)
-
-  pub nonzero-cancel : (m x y : R) → (m ≡ 𝟘 → ⊥) → x * m ≡ y * m → x ≡ y
-  nonzero-cancel m x y h e = sym (back x) ∙ ap (λ z. z * inv m) e ∙ back y
-    where
-      back : (z : R) → z * m * inv m ≡ z
-      back z = *-assoc K z m (inv m) ∙ ap (λ t. z * t) (O .inv-mul m h) ∙ *-one K z
-
   -- The entry at the corner (i + 1, j + 1) from a minor there, whatever its rows S under the corner and its columns J before it:
   -- the column is known under the corner, and the columns before it up to its row.
   pub corner-determined : (M N : Matrix K) (i j : ℕ) (S J : RowSet) → length S ≡ i → length J ≡ j
@@ -51,7 +43,7 @@ module _ (K : CRing) (O : Ordered K) where
       nonzero (sym (determinant-expand K M S J i j s t) ∙ e ∙ determinant-expand K N S J i j s t)
     where
       lead : (a b m m′ x x′ : R) → m ≡ m′ → x ≡ x′ → (m ≡ 𝟘 → ⊥) → a * m + neg x ≡ b * m′ + neg x′ → a ≡ b
-      lead a b m m′ x x′ p q h g = nonzero-cancel m a b h (+-cancel K (neg x) (a * m) (b * m)
+      lead a b m m′ x x′ p q h g = nonzero-cancel K O m a b h (+-cancel K (neg x) (a * m) (b * m)
           (+-comm K _ _ ∙ g ∙ ap₂ (λ u v. b * u + neg v) (sym p) (sym q) ∙ +-comm K _ _))
 
   -- columns from the lowest, and in each the rows from the lowest, with sets S i j and J i j for each corner
@@ -83,7 +75,7 @@ module _ (K : CRing) (O : Ordered K) where
       let b : suc (suc j) - suc i ≡ suc j - i = omega arith in
       determinant-runs K M n n (suc (suc i) - suc j) (suc i) (suc (suc j) - suc i) (suc j) h g
       ∙ ap₂ (λ x y. determinant K M (rows (suc i) x (suc i)) (rows (suc j) y (suc j))) a b
-      ∙ ap₂ (determinant K M) (rows-in i (suc i - j) (omega arith)) (rows-in j (suc j - i) (omega arith))
+      ∙ ap₂ (determinant K M) (rows-last i (suc i - j) (omega arith)) (rows-last j (suc j - i) (omega arith))
 
   initial-under : (n : ℕ) (M : Matrix K) → ((i j : ℕ) → In n i → In n j → Pos (initial K n M i j))
       → (i j : ℕ) → i < n → j < n → Pos (determinant K M (rowsUnder i j) (rowsUnder j i))
@@ -99,4 +91,4 @@ module _ (K : CRing) (O : Ordered K) where
   initial-determined n M N e p =
       corners-determined n n M N rowsUnder (λ i j. rowsUnder j i) (λ i j. length-rows i (suc i - j) i) (λ i j. length-rows j (suc j - i) j)
       (λ i j h g. sym (initial-corner n M i j h g) ∙ e (suc i) (suc j) (omega arith, h) (omega arith, g) ∙ initial-corner n N i j h g)
-      (λ i j h g. pos-nonzero _ (initial-under n M p i j h g)) n (omega arith)
+      (λ i j h g. pos-nonzero K O _ (initial-under n M p i j h g)) n (omega arith)

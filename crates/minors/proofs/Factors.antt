@@ -1,25 +1,26 @@
 -- THE FACTOR THEOREM. A matrix with positive initial minors is what its new factors multiply out to (factors-multiplied), these are positive (factors-positive),
 -- and no other positive factors multiply out to it (factors-unique).
-use mathlib.Core.Path.{_≡_, refl, sym, ap, ap₂, _∙_, subst, subst₂}
-use mathlib.Core.Bool.{Bool, true, false}
-use mathlib.Core.List.{List, [], _∷_}
-use Prim.Native.Nat.{ℕ, zero, suc, _≤_, _<_, _-_, min, _+_ as _+ℕ_}
+use mathlib.Core.Path.{_≡_, sym, ap, ap₂, _∙_, subst, subst₂}
+use Prim.Native.Nat.{ℕ, zero, suc, _≤_, _-_, min, _+_ as _+ℕ_}
 use native.Mathlib.Decide.{decLe}
 use native.Mathlib.Omega.{arith}
 use lib.ListN.{length}
+use Rattle.fraction.specs.Arithmetic.{Arithmetic}
 use Rattle.fraction.specs.Ring.{CRing, Ordered, arithmetic}
-use Rattle.words.specs.RowSet.{RowSet, rows, count}
+use Rattle.words.specs.RowSet.{In, RowSet, rows, count}
 use Rattle.words.specs.Word.{Factors, word, exchanged}
 use Rattle.words.specs.Walk.{minor}
 use Rattle.words.specs.Formula.{newFactor}
 use Rattle.words.proofs.RowSets.{length-rows}
-use Rattle.words.proofs.Formulas.{rows-none, rows-zero, count-rows, newFactor-related}
-use Rattle.minors.specs.Matrix.{In, Matrix, Equal, multiplied, Positive}
-use Rattle.minors.proofs.Determinant.{determinant, columns, wedges, empty, matrixOf, minor-determinant, determinant-equal}
+use Rattle.words.proofs.Runs.{rows-zero, count-rows}
+use Rattle.words.proofs.Stages.{word-rows}
+use Rattle.words.proofs.Formulas.{newFactor-related}
+use Rattle.minors.specs.Matrix.{Matrix, Equal, multiplied, Positive}
+use Rattle.minors.proofs.Determinant.{determinant, matrixOf, minor-determinant, determinant-equal, determinant-empty}
 use Rattle.minors.proofs.Determined.{initial, initial-determined}
-use Rattle.minors.proofs.Recovery.{diagonalProduct, blockProduct, block-empty, word-rows, recovery-below, recovery-above}
+use Rattle.minors.proofs.Recovery.{diagonalProduct, blockProduct, recovery-below, recovery-above}
 use Rattle.minors.proofs.Multiply.{wordMatrix-carried}
-use Rattle.minors.proofs.Ratios.{ratioOf, lower, upper, factor-below, factor-above, all-pos, ratio-pos, block-solves, block-ratios}
+use Rattle.minors.proofs.Ratios.{ratioOf, lower, upper, factor-below, factor-above, ratio-pos, block-solves, block-ratios}
 
 -- what holds below the diagonal, on it and above it holds everywhere
 by-place : (n : ℕ) (P : ℕ → ℕ → Type 0) → ((r t : ℕ) → r +ℕ suc t ≤ n → P (suc t +ℕ r) (suc t)) → ((r t : ℕ) → r +ℕ suc t ≤ n → P (suc t) (suc t +ℕ r))
@@ -51,50 +52,33 @@ initial-counts n i j x y =
     let e : min i j ≡ min j i = omega arith in
     corner-count n i j x y ∙ e ∙ sym (corner-count n j i y x)
 
+-- its sets at the distance r from the diagonal: a run of r + 1 on, and the first rows
+corner-run : (n r t : ℕ) → rows n (suc (suc t +ℕ r) - suc t) (suc t +ℕ r) ≡ rows n (suc r) (r +ℕ suc t)
+corner-run n r t =
+    let a : suc (suc t +ℕ r) - suc t ≡ suc r = omega arith in
+    let b : suc t +ℕ r ≡ r +ℕ suc t = omega arith in
+    ap₂ (rows n) a b
+
+corner-first : (n r t : ℕ) → rows n (suc (suc t) - (suc t +ℕ r)) (suc t) ≡ rows n 1 (suc t)
+corner-first n zero t = ap (λ c. rows n c (suc t)) (let c : suc (suc t) - (suc t +ℕ 0) ≡ 1 = omega arith in c)
+corner-first n (suc r) t = ap (λ c. rows n c (suc t)) (let c : suc (suc t) - (suc t +ℕ suc r) ≡ 0 = omega arith in c) ∙ rows-zero n (suc t)
+
 module _ (K : CRing) where
-  open CRing K using (R, 𝟙)
-
-  -- the empty minor is 1
-  columns-none : (M : Matrix K) (n c d : ℕ) → d < c → columns K M (rows n c d) ≡ []
-  unfolding columns rows
-  columns-none M zero c d h = refl
-  columns-none M (suc n) c d h = ap (columns K M) (rows-none n c d h) ∙ columns-none M n c d h
-
-  empty-none : (n c d : ℕ) → d < c → empty K (rows n c d) ≡ 𝟙
-  unfolding empty rows
-  empty-none zero c d h = refl
-  empty-none (suc n) c d h = ap (empty K) (rows-none n c d h) ∙ empty-none n c d h
-
-  determinant-none : (n : ℕ) (M : Matrix K) (a b c d : ℕ) → b < a → d < c → determinant K M (rows n a b) (rows n c d) ≡ 𝟙
-  unfolding determinant wedges
-  determinant-none n M a b c d h g = ap (λ vs. wedges K vs (rows n a b)) (columns-none M n c d g) ∙ empty-none n a b h
-
-  -- initial minors by the distance r from the diagonal
+  -- INITIAL MINORS by the distance r from the diagonal
   initial-below : (n : ℕ) (M : Matrix K) (r t : ℕ) → initial K n M (suc t +ℕ r) (suc t) ≡ determinant K M (rows n (suc r) (r +ℕ suc t)) (rows n 1 (suc t))
-  initial-below n M r t =
-      let a : suc (suc t +ℕ r) - suc t ≡ suc r = omega arith in
-      let b : suc t +ℕ r ≡ r +ℕ suc t = omega arith in
-      ap₂ (λ I J. determinant K M I J) (ap₂ (rows n) a b) (first r)
-    where
-      first : (r : ℕ) → rows n (suc (suc t) - (suc t +ℕ r)) (suc t) ≡ rows n 1 (suc t)
-      first zero = ap (λ c. rows n c (suc t)) (let c : suc (suc t) - (suc t +ℕ 0) ≡ 1 = omega arith in c)
-      first (suc r) = ap (λ c. rows n c (suc t)) (let c : suc (suc t) - (suc t +ℕ suc r) ≡ 0 = omega arith in c) ∙ rows-zero n (suc t)
+  initial-below n M r t = ap₂ (determinant K M) (corner-run n r t) (corner-first n r t)
 
   initial-above : (n : ℕ) (M : Matrix K) (r t : ℕ) → initial K n M (suc t) (suc t +ℕ r) ≡ determinant K M (rows n 1 (suc t)) (rows n (suc r) (r +ℕ suc t))
-  initial-above n M r t =
-      let a : suc (suc t +ℕ r) - suc t ≡ suc r = omega arith in
-      let b : suc t +ℕ r ≡ r +ℕ suc t = omega arith in
-      ap₂ (λ I J. determinant K M I J) (first r) (ap₂ (rows n) a b)
-    where
-      first : (r : ℕ) → rows n (suc (suc t) - (suc t +ℕ r)) (suc t) ≡ rows n 1 (suc t)
-      first zero = ap (λ c. rows n c (suc t)) (let c : suc (suc t) - (suc t +ℕ 0) ≡ 1 = omega arith in c)
-      first (suc r) = ap (λ c. rows n c (suc t)) (let c : suc (suc t) - (suc t +ℕ suc r) ≡ 0 = omega arith in c) ∙ rows-zero n (suc t)
+  initial-above n M r t = ap₂ (determinant K M) (corner-first n r t) (corner-run n r t)
 
 module _ (K : CRing) (O : Ordered K) where
   open CRing K using (R, 𝟙, mul as _*_)
   open Ordered O using (Pos, pos-one, pos-mul, inv)
 
   infixl 70 _*_
+  abbrev F : Arithmetic
+  F = arithmetic K O
+
   -- block products of positive factors are positive
   diagonal-positive : (n : ℕ) (b : Factors R) → Positive K O n b → (r j : ℕ) → r +ℕ j ≤ n → Pos (diagonalProduct K b r j)
   unfolding diagonalProduct
@@ -113,40 +97,40 @@ module _ (K : CRing) (O : Ordered K) where
       ap₂ (λ x y. x * inv y) (ap₂ _*_ (e (suc r) (suc t) h) (e r t (omega arith))) (ap₂ _*_ (e (suc r) t (omega arith)) (e r (suc t) (omega arith)))
 
   -- THE FORMULAS GIVE POSITIVE FACTORS BACK from the minors of their word
-  pub factors-recovered : (n : ℕ) (b : Factors R) → Positive K O n b → (i j : ℕ) → In n i → In n j → newFactor (arithmetic K O) n (minor (arithmetic K O) (word n b)) i j ≡ b i j
-  factors-recovered n b p = by-place n (λ i j. newFactor (arithmetic K O) n (minor (arithmetic K O) (word n b)) i j ≡ b i j) below above
+  pub factors-recovered : (n : ℕ) (b : Factors R) → Positive K O n b → (i j : ℕ) → In n i → In n j → newFactor F n (minor F (word n b)) i j ≡ b i j
+  factors-recovered n b p = by-place n (λ i j. newFactor F n (minor F (word n b)) i j ≡ b i j) below above
     where
-      below : (r t : ℕ) → r +ℕ suc t ≤ n → newFactor (arithmetic K O) n (minor (arithmetic K O) (word n b)) (suc t +ℕ r) (suc t) ≡ b (suc t +ℕ r) (suc t)
+      below : (r t : ℕ) → r +ℕ suc t ≤ n → newFactor F n (minor F (word n b)) (suc t +ℕ r) (suc t) ≡ b (suc t +ℕ r) (suc t)
       below r t h =
-          factor-below K O n (minor (arithmetic K O) (word n b)) r t h
+          factor-below K O n (minor F (word n b)) r t h
           ∙ ratio-equal n _ (blockProduct K b) (λ r j l. recovery-below K O n b r j l) r t h
           ∙ block-ratios K O n b (λ r t l. block-positive n b p r (suc t) l) r t h
 
-      above : (r t : ℕ) → r +ℕ suc t ≤ n → newFactor (arithmetic K O) n (minor (arithmetic K O) (word n b)) (suc t) (suc t +ℕ r) ≡ b (suc t) (suc t +ℕ r)
+      above : (r t : ℕ) → r +ℕ suc t ≤ n → newFactor F n (minor F (word n b)) (suc t) (suc t +ℕ r) ≡ b (suc t) (suc t +ℕ r)
       above zero t h =
           let e : suc t +ℕ 0 ≡ suc t = omega arith in
-          subst₂ (λ i j. newFactor (arithmetic K O) n (minor (arithmetic K O) (word n b)) i j ≡ b i j) e (sym e) (below zero t h)
+          subst₂ (λ i j. newFactor F n (minor F (word n b)) i j ≡ b i j) e (sym e) (below zero t h)
       above (suc r) t h =
-          factor-above K O n (minor (arithmetic K O) (word n b)) r t h
+          factor-above K O n (minor F (word n b)) r t h
           ∙ ratio-equal n _ (blockProduct K (exchanged b)) (λ r j l. recovery-above K O n b r j l) (suc r) t h
           ∙ block-ratios K O n (exchanged b) (λ r t l. block-positive n (exchanged b) (λ i j x y. p j i y x) r (suc t) l) (suc r) t h
 
   -- equal minors have equal factors
   pub factors-equal : (n : ℕ) (M N : RowSet → RowSet → R) → ((I J : RowSet) → length I ≡ n → length J ≡ n → count I ≡ count J → M I J ≡ N I J)
-      → (i j : ℕ) → In n i → In n j → newFactor (arithmetic K O) n M i j ≡ newFactor (arithmetic K O) n N i j
+      → (i j : ℕ) → In n i → In n j → newFactor F n M i j ≡ newFactor F n N i j
   factors-equal n M N e i j x y =
-      newFactor-related (arithmetic K O) (arithmetic K O) n _≡_ _≡_ _≡_ (λ a a′ b b′ p q. ap₂ _*_ p q) (λ a a′ b b′ p q. ap₂ (λ u v. u * inv v) p q) (λ a a′ b b′ p q. ap₂ (λ u v. u * inv v) p q)
+      newFactor-related F F n _≡_ _≡_ _≡_ (λ a a′ b b′ p q. ap₂ _*_ p q) (λ a a′ b b′ p q. ap₂ (λ u v. u * inv v) p q) (λ a a′ b b′ p q. ap₂ (λ u v. u * inv v) p q)
       M N e i j (x .0) (x .1) (y .0) (y .1)
 
   module _ (n : ℕ) (M : Matrix K) (positive : (i j : ℕ) → In n i → In n j → Pos (initial K n M i j)) where
     abbrev f : Factors R
-    f = newFactor (arithmetic K O) n (determinant K M)
+    f = newFactor F n (determinant K M)
 
     below-one : (r : ℕ) → r ≤ n → lower K O n (determinant K M) r 0 ≡ 𝟙
-    below-one r h = determinant-none K n M (suc r) (r +ℕ 0) 1 0 (omega arith) (omega arith)
+    below-one r h = determinant-empty K M n (suc r) (r +ℕ 0) n 1 0 (omega arith) (omega arith)
 
     above-one : (r : ℕ) → r ≤ n → upper K O n (determinant K M) r 0 ≡ 𝟙
-    above-one r h = determinant-none K n M 1 0 (suc r) (r +ℕ 0) (omega arith) (omega arith)
+    above-one r h = determinant-empty K M n 1 0 n (suc r) (r +ℕ 0) (omega arith) (omega arith)
 
     below-pos : (r t : ℕ) → r +ℕ suc t ≤ n → Pos (lower K O n (determinant K M) r (suc t))
     below-pos r t h = subst Pos (initial-below K n M r t) (positive (suc t +ℕ r) (suc t) (omega arith, omega arith) (omega arith, omega arith))
@@ -178,7 +162,7 @@ module _ (K : CRing) (O : Ordered K) where
         initial-below K n M r t
         ∙ block-solves K O n (lower K O n (determinant K M)) below-one below-pos f (factor-below K O n (determinant K M)) r (suc t) h
         ∙ sym (recovery-below K O n f r (suc t) h)
-        ∙ minor-determinant K O n (word n f) (word-rows K O n f) _ _ (length-rows n _ _) (length-rows n _ _)
+        ∙ minor-determinant K O n (word n f) (word-rows n f) _ _ (length-rows n _ _) (length-rows n _ _)
         ∙ sym (initial-below K n (matrixOf K O (word n f)) r t)
 
     word-above : (r t : ℕ) → r +ℕ suc t ≤ n → initial K n M (suc t) (suc t +ℕ r) ≡ initial K n (matrixOf K O (word n f)) (suc t) (suc t +ℕ r)
@@ -186,13 +170,13 @@ module _ (K : CRing) (O : Ordered K) where
         initial-above K n M r t
         ∙ block-solves K O n (upper K O n (determinant K M)) above-one above-pos (exchanged f) above-ratio r (suc t) h
         ∙ sym (recovery-above K O n f r (suc t) h)
-        ∙ minor-determinant K O n (word n f) (word-rows K O n f) _ _ (length-rows n _ _) (length-rows n _ _)
+        ∙ minor-determinant K O n (word n f) (word-rows n f) _ _ (length-rows n _ _) (length-rows n _ _)
         ∙ sym (initial-above K n (matrixOf K O (word n f)) r t)
 
     -- THEY MULTIPLY OUT TO THE MATRIX
     pub factors-multiplied : Equal K n (multiplied K O n f) M
     factors-multiplied i j x y =
-        wordMatrix-carried K O n (word n f) (word-rows K O n f) i j x y
+        wordMatrix-carried K O n (word n f) (word-rows n f) i j x y
         ∙ sym (initial-determined K O n M (matrixOf K O (word n f))
         (by-place n (λ i j. initial K n M i j ≡ initial K n (matrixOf K O (word n f)) i j) word-below word-above) positive i j x y)
 
@@ -200,9 +184,9 @@ module _ (K : CRing) (O : Ordered K) where
     pub factors-unique : (c : Factors R) → Positive K O n c → Equal K n (multiplied K O n c) M → (i j : ℕ) → In n i → In n j → c i j ≡ f i j
     factors-unique c p e i j x y =
         sym (factors-recovered n c p i j x y)
-        ∙ factors-equal n (minor (arithmetic K O) (word n c)) (determinant K M) same i j x y
+        ∙ factors-equal n (minor F (word n c)) (determinant K M) same i j x y
       where
-        same : (I J : RowSet) → length I ≡ n → length J ≡ n → count I ≡ count J → minor (arithmetic K O) (word n c) I J ≡ determinant K M I J
+        same : (I J : RowSet) → length I ≡ n → length J ≡ n → count I ≡ count J → minor F (word n c) I J ≡ determinant K M I J
         same I J u v w =
-            minor-determinant K O n (word n c) (word-rows K O n c) I J u v
-            ∙ determinant-equal K n (matrixOf K O (word n c)) M (λ i j x y. sym (wordMatrix-carried K O n (word n c) (word-rows K O n c) i j x y) ∙ e i j x y) I J u v
+            minor-determinant K O n (word n c) (word-rows n c) I J u v
+            ∙ determinant-equal K n (matrixOf K O (word n c)) M (λ i j x y. sym (wordMatrix-carried K O n (word n c) (word-rows n c) i j x y) ∙ e i j x y) I J u v

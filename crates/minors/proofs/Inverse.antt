@@ -1,5 +1,5 @@
 -- The inverse's word, re-signed, is the inverse on both sides (inverse-left, inverse-right), and there is no other (inverse-unique).
-use mathlib.Core.Path.{_≡_, refl, sym, ap, ap₂, _∙_, subst}
+use mathlib.Core.Path.{_≡_, refl, sym, ap, ap₂, _∙_}
 use mathlib.Core.Bool.{Bool, true, false, cond, _&&_}
 use mathlib.Core.List.{[], _∷_}
 use Prim.Native.Nat.{ℕ, zero, suc, _+_ as _+ℕ_, _-_}
@@ -9,14 +9,16 @@ use lib.Dec.{eqb}
 use borrow.Author.Tests.{ne-eqb, eqb-true}
 use Rattle.fraction.specs.Ring.{CRing, Ordered, arithmetic}
 use Rattle.fraction.proofs.Ring.{ring, +-comm, +-neg, neg-*, one-*, *-one, *-zero, *-assoc, *-comm}
+use Rattle.fraction.proofs.Ordered.{inv-mul-pos}
+use Rattle.words.specs.RowSet.{In}
 use Rattle.words.specs.Word.{Letter, E, Et, D, Dinv, Word, inverseLetter, inverseWord}
 use Rattle.words.specs.Walk.{carryLetter, carry}
 use Rattle.words.proofs.Walks.{Rows, All}
-use Rattle.minors.specs.Matrix.{In, Matrix, Equal, identity, times, sign, resigned, letterMatrix, wordMatrix}
+use Rattle.minors.specs.Matrix.{Matrix, Equal, identity, times, sign, resigned, letterMatrix, wordMatrix}
 use Rattle.minors.proofs.Determinant.{matrixOf}
-use Rattle.minors.proofs.Positive.{Weights}
+use Rattle.minors.proofs.Complement.{Diagonal}
 use Rattle.minors.proofs.Sums.{sum-equal, scale-sum}
-use Rattle.minors.proofs.Products.{times-equal-left, times-equal-right, times-assoc, identity-times, times-identity, times-cancel, wordMatrix-joined}
+use Rattle.minors.proofs.Products.{times-equal-left, times-equal-right, times-assoc, identity-times, times-identity, times-cancel, wordMatrix-append}
 use Rattle.minors.proofs.Multiply.{wordMatrix-carried}
 
 module _ (K : CRing) where
@@ -106,10 +108,9 @@ module _ (K : CRing) where
       by false p = p
 
 module _ (K : CRing) (O : Ordered K) where
-  open CRing K using (R, 𝟘, 𝟙, add as _+_, mul as _*_, neg)
+  open CRing K using (R, 𝟙, mul as _*_, neg)
   open Ordered O using (Pos)
 
-  infixl 65 _+_
   infixl 70 _*_
   -- the letter whose matrix is the inverse: the inverse's letter, re-signed
   abbrev undone : Letter R → Letter R
@@ -137,13 +138,10 @@ module _ (K : CRing) (O : Ordered K) where
   scaled-undone : (x e f : R) → e * f ≡ 𝟙 → x * e * f ≡ x
   scaled-undone x e f h = *-assoc K x e f ∙ ap (λ y. x * y) h ∙ *-one K x
 
-  inv-positive : (e : R) → Pos e → e * O .inv e ≡ 𝟙
-  inv-positive e p = O .inv-mul e (λ z. O .pos-zero (subst Pos z p))
-
   positive-inv : (e : R) → Pos e → O .inv e * e ≡ 𝟙
-  positive-inv e p = *-comm K _ _ ∙ inv-positive e p
+  positive-inv e p = *-comm K _ _ ∙ inv-mul-pos K O e p
 
-  letter-undone : (n : ℕ) (l : Letter R) → Rows n l → Weights (λ w. Unit {0}) Pos n l → Undoes n (undone l) l × Undoes n l (undone l)
+  letter-undone : (n : ℕ) (l : Letter R) → Rows n l → Diagonal K O n l → Undoes n (undone l) l × Undoes n l (undone l)
   unfolding carryLetter
   letter-undone n (E j w) h p = (
     λ v i x. moved-undone K j (j - 1) w (neg w) (λ e. absurd (omega (arith, h .0))) (+-neg K w) v _ (λ k. refl) i,
@@ -153,8 +151,8 @@ module _ (K : CRing) (O : Ordered K) where
     λ v i x. moved-undone K (j - 1) j w (neg w) (λ e. absurd (omega (arith, h .0))) (+-neg K w) v _ (λ k. refl) i,
     λ v i x. moved-undone K (j - 1) j (neg w) w (λ e. absurd (omega (arith, h .0))) (+-comm K _ _ ∙ +-neg K w) v _ (λ k. refl) i,
   )
-  letter-undone n (D e) h p = (λ v i x. scaled-undone (v i) (e i) _ (inv-positive (e i) (p i x)), λ v i x. scaled-undone (v i) _ (e i) (positive-inv (e i) (p i x)))
-  letter-undone n (Dinv e) h p = (λ v i x. scaled-undone (v i) _ (e i) (positive-inv (e i) (p i x)), λ v i x. scaled-undone (v i) (e i) _ (inv-positive (e i) (p i x)))
+  letter-undone n (D e) h p = (λ v i x. scaled-undone (v i) (e i) _ (inv-mul-pos K O (e i) (p i x)), λ v i x. scaled-undone (v i) _ (e i) (positive-inv (e i) (p i x)))
+  letter-undone n (Dinv e) h p = (λ v i x. scaled-undone (v i) _ (e i) (positive-inv (e i) (p i x)), λ v i x. scaled-undone (v i) (e i) _ (inv-mul-pos K O (e i) (p i x)))
 
   times-undone : (n : ℕ) (m l : Letter R) → Rows n m → Rows n l → Undoes n m l → Equal K n (times K n (letterMatrix K O m) (letterMatrix K O l)) (identity K)
   unfolding wordMatrix matrixOf carry
@@ -168,12 +166,12 @@ module _ (K : CRing) (O : Ordered K) where
       → Equal K n (resigned K (wordMatrix K O n (inverseWord (l ∷ W)))) (times K n (resigned K (wordMatrix K O n (inverseWord W))) (letterMatrix K O (undone l)))
   unfolding wordMatrix inverseWord
   inverse-last n l W h i j x y =
-      ap (λ m. sign K (i +ℕ j) * m) (wordMatrix-joined K O n (inverseWord W) (inverseLetter l ∷ []) i j x y
+      ap (λ m. sign K (i +ℕ j) * m) (wordMatrix-append K O n (inverseWord W) (inverseLetter l ∷ []) i j x y
       ∙ times-equal-right K n (wordMatrix K O n (inverseWord W)) _ _ (times-identity K n (letterMatrix K O (inverseLetter l))) i j x y)
       ∙ times-resigned K n _ _ i j
       ∙ times-equal-right K n (resigned K (wordMatrix K O n (inverseWord W))) _ _ (λ r c z w. letter-resigned n l h r c) i j x y
 
-  pub inverse-left : (n : ℕ) (W : Word R) → All (Rows n) W → All (Weights (λ w. Unit {0}) Pos n) W
+  pub inverse-left : (n : ℕ) (W : Word R) → All (Rows n) W → All (Diagonal K O n) W
       → Equal K n (times K n (resigned K (wordMatrix K O n (inverseWord W))) (wordMatrix K O n W)) (identity K)
   unfolding wordMatrix inverseWord
   inverse-left n [] h p i j x y = times-identity K n _ i j x y ∙ diagonal-resigned K 𝟙 i j
@@ -183,7 +181,7 @@ module _ (K : CRing) (O : Ordered K) where
       ∙ times-cancel K n _ (letterMatrix K O (undone l)) (letterMatrix K O l) (wordMatrix K O n W) u i j x y
       ∙ inverse-left n W (h .1) (p .1) i j x y
 
-  pub inverse-right : (n : ℕ) (W : Word R) → All (Rows n) W → All (Weights (λ w. Unit {0}) Pos n) W
+  pub inverse-right : (n : ℕ) (W : Word R) → All (Rows n) W → All (Diagonal K O n) W
       → Equal K n (times K n (wordMatrix K O n W) (resigned K (wordMatrix K O n (inverseWord W)))) (identity K)
   unfolding wordMatrix inverseWord
   inverse-right n [] h p i j x y = identity-times K n _ i j x y ∙ diagonal-resigned K 𝟙 i j

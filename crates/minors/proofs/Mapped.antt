@@ -1,12 +1,12 @@
 -- Walks read through a map of row sets, as the complement or the reversal: moves go through (moved-mapped), and so does the state that is 1 at one set
 -- if the map is its own inverse (oneAt-mapped).
 use mathlib.Core.Path.{_≡_, refl, sym, ap, _∙_}
-use mathlib.Core.Bool.{Bool, true, false, not, cond, _&&_, false≢true}
-use mathlib.Core.List.{[], _∷_}
+use mathlib.Core.Bool.{Bool, true, false, not, cond, _&&_}
 use Prim.Native.Nat.{ℕ}
 use Rattle.fraction.specs.Arithmetic.{Arithmetic}
 use Rattle.words.specs.RowSet.{RowSet, has, replaced, equal}
 use Rattle.words.specs.Walk.{State, oneAt, moved, movedIf}
+use Rattle.words.proofs.RowSets.{equal-same, equal-true}
 
 module _ (K : Arithmetic) where
   open Arithmetic K using (Num, add, mul)
@@ -21,22 +21,6 @@ module _ (K : Arithmetic) where
       by : (t : Bool) → movedIf K t c p w ω (f S) ≡ movedIf K t a o w (λ T. ω (f T)) S
       by true = ap (λ T. add (ω (f S)) (mul w (ω T))) r
       by false = refl
-
-pub equal-same : (S : RowSet) → equal S S ≡ true
-unfolding equal
-equal-same [] = refl
-equal-same (true ∷ S) = equal-same S
-equal-same (false ∷ S) = equal-same S
-
-equal-true : (S T : RowSet) → equal S T ≡ true → S ≡ T
-unfolding equal
-equal-true [] [] h = refl
-equal-true [] (y ∷ T) h = absurd (false≢true h)
-equal-true (x ∷ S) [] h = absurd (false≢true h)
-equal-true (true ∷ S) (true ∷ T) h = ap (λ X. true ∷ X) (equal-true S T h)
-equal-true (true ∷ S) (false ∷ T) h = absurd (false≢true h)
-equal-true (false ∷ S) (true ∷ T) h = absurd (false≢true h)
-equal-true (false ∷ S) (false ∷ T) h = ap (λ X. false ∷ X) (equal-true S T h)
 
 module _ (f : RowSet → RowSet) (back : (S : RowSet) → f (f S) ≡ S) where
   equal-mapped : (S T : RowSet) → equal S (f T) ≡ equal (f S) T
@@ -56,7 +40,3 @@ module _ (f : RowSet → RowSet) (back : (S : RowSet) → f (f S) ≡ S) where
   pub oneAt-mapped : (K : Arithmetic) (J S : RowSet) → oneAt K J (f S) ≡ oneAt K (f J) S
   unfolding oneAt
   oneAt-mapped K J S = ap (λ t. cond t (K .one) (K .zero)) (equal-mapped J S)
-
-pub oneAt-same : (K : Arithmetic) (S : RowSet) → oneAt K S S ≡ K .one
-unfolding oneAt
-oneAt-same K S = ap (λ t. cond t (K .one) (K .zero)) (equal-same S)

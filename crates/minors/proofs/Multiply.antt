@@ -1,7 +1,7 @@
--- The letters of a word multiplied as matrices give the matrix that the word carries the unit vectors to (wordMatrix-carried), and joined words multiply
--- (wordMatrix-append, joined-multiplied). The converse's word gives the matrix read backwards, exchanged factors its transpose.
+-- The letters of a word multiplied as matrices give the matrix that the word carries the unit vectors to (wordMatrix-carried), and joined steps multiply
+-- (joined-multiplied). The converse's word gives the matrix read backwards (wordMatrix-converse), exchanged factors its transpose (multiplied-exchanged).
 use mathlib.Core.Path.{refl, sym, ap, _∙_}
-use mathlib.Core.List.{List, [], _∷_, _++_}
+use mathlib.Core.List.{List, [], _∷_}
 use Prim.Native.Nat.{ℕ, _+_ as _+ℕ_, _-_}
 use Rattle.fraction.specs.Ring.{CRing, Ordered}
 use Rattle.words.specs.Word.{Factors, Word, word, converseWord, exchanged}
@@ -12,7 +12,7 @@ use Rattle.minors.specs.Matrix.{Equal, times, letterMatrix, wordMatrix, 
 use Rattle.minors.proofs.Determinant.{matrixOf}
 use Rattle.minors.proofs.Transpose.{transposedLetter, transposedWord, transposed-word}
 use Rattle.minors.proofs.Sums.{sum-equal}
-use Rattle.minors.proofs.Products.{identity-symmetric, times-equal, times-identity, times-transposed, times-reversed, wordMatrix-joined}
+use Rattle.minors.proofs.Products.{identity-symmetric, times-equal, times-identity, times-transposed, times-reversed, wordMatrix-append}
 use Rattle.minors.proofs.LetterMatrices.{identity-reversed, letter-carry, letter-converse, letter-transposed}
 
 module _ (K : CRing) (O : Ordered K) where
@@ -26,14 +26,11 @@ module _ (K : CRing) (O : Ordered K) where
       sum-equal K n _ _ (λ k z. ap (λ m. letterMatrix K O l i k * m) (wordMatrix-carried n W (h .1) k j z y))
       ∙ letter-carry K O n l (h .0) (λ k. matrixOf K O W k j) i x
 
-  pub wordMatrix-append : (n : ℕ) (U W : Word R) → All (Rows n) U → All (Rows n) W → Equal K n (wordMatrix K O n (U ++ W)) (times K n (wordMatrix K O n U) (wordMatrix K O n W))
-  wordMatrix-append n U W u w = wordMatrix-joined K O n U W
-
   -- of two steps or more: the first step's matrix times the others'
   pub joined-multiplied : (n : ℕ) (s t : Step R) (L : List (Step R))
       → Equal K n (wordMatrix K O n (joinedWord n (s ∷ t ∷ L))) (times K n (wordMatrix K O n (stepWord n s)) (wordMatrix K O n (joinedWord n (t ∷ L))))
   unfolding joinedWord
-  joined-multiplied n s t L = wordMatrix-joined K O n (stepWord n s) (joinedWord n (t ∷ L))
+  joined-multiplied n s t L = wordMatrix-append K O n (stepWord n s) (joinedWord n (t ∷ L))
 
   pub wordMatrix-converse : (n : ℕ) (W : Word R) → All (Rows n) W → Equal K n (wordMatrix K O n (converseWord n W)) (λ i j. wordMatrix K O n W (n +ℕ 1 - i) (n +ℕ 1 - j))
   unfolding wordMatrix converseWord
@@ -46,7 +43,7 @@ module _ (K : CRing) (O : Ordered K) where
   unfolding wordMatrix transposedWord
   wordMatrix-transposed n [] i j x y = identity-symmetric K i j
   wordMatrix-transposed n (l ∷ W) i j x y =
-      wordMatrix-joined K O n (transposedWord W) (transposedLetter l ∷ []) i j x y
+      wordMatrix-append K O n (transposedWord W) (transposedLetter l ∷ []) i j x y
       ∙ times-equal K n _ _ _ _ (wordMatrix-transposed n W)
       (λ r c z w. times-identity K n _ r c z w ∙ letter-transposed K O l r c) i j x y
       ∙ sym (times-transposed K n (letterMatrix K O l) (wordMatrix K O n W) i j)

@@ -8,14 +8,15 @@ use lib.ListN.{length}
 use Rattle.fraction.specs.Arithmetic.{Arithmetic}
 use Rattle.fraction.specs.Ring.{CRing, Ordered, arithmetic, NonNegative, positive, zero}
 use Rattle.fraction.proofs.Ordered.{nonnegative-add, nonnegative-mul, positive-add-nonnegative}
-use Rattle.words.specs.RowSet.{RowSet, has, replaced, count, equal}
+use Rattle.words.specs.RowSet.{In, RowSet, has, replaced, count, equal}
 use Rattle.words.specs.Word.{Letter, E, Et, D, Dinv, Word}
 use Rattle.words.specs.Walk.{State, oneAt, moved, movedIf, scaled, act, walk, minor}
 use Rattle.words.proofs.RowSets.{length-replaced}
 use Rattle.words.proofs.Walks.{All, walk-append}
-use Rattle.minors.specs.Matrix.{In}
-use Rattle.minors.proofs.Weights.{Weights, weights-weaken}
-use Rattle.minors.proofs.Entries.{scaled-product, product-positive}
+use Rattle.words.proofs.Steps.{Weights, weights-weaken}
+use Rattle.words.proofs.Related.{Related, walk-related}
+use Rattle.words.proofs.Alike.{letters-self}
+use Rattle.minors.proofs.Entries.{scaled-product, entryProduct-positive}
 
 module _ (K : CRing) (O : Ordered K) where
   open CRing K using (R, 𝟘, 𝟙, mul as _*_)
@@ -37,14 +38,29 @@ module _ (K : CRing) (O : Ordered K) where
   abbrev pub KeepsSign : ℕ → Letter R → Type 0
   KeepsSign n = Weights (NonNegative K O) Pos n
 
-  moved-nonnegative : (n a o : ℕ) (w : R) (ω : State F) → NonNegative K O w → NonNegatives n ω → NonNegatives n (moved F a o w ω)
-  unfolding moved
-  moved-nonnegative n a o w ω p h S s = by (has a S && not (has o S))
-    where
-      by : (t : Bool) → NonNegative K O (movedIf F t a o w ω S)
-      by true = nonnegative-add K O _ _ (h S s) (nonnegative-mul K O _ _ p (h (replaced a o S) (length-replaced a o S ∙ s)))
-      by false = h S s
+  -- POSITIVE OR ZERO is kept: the walk lemma with one grade, and a relation that looks at one side only
+  abbrev nonnegative-related : Related F F (Unit {0}) (λ g x y. NonNegative K O x)
+  nonnegative-related = record {
+    Weight = λ w v. NonNegative K O w;
+    Entry = λ e f. Pos e;
+    afterMove = λ g. g;
+    rel-stays = λ g x y h. h;
+    rel-moves = λ g x x′ w y y′ v h p h′. nonnegative-add K O _ _ h (nonnegative-mul K O _ _ p h′);
+    afterEntry = λ g. g;
+    rel-skips = λ g x y h. h;
+    rel-times = λ g x e y f h p. nonnegative-mul K O _ _ h (positive p);
+    rel-over = λ g x e y f h p. nonnegative-mul K O _ _ h (positive (inv-pos _ p));
+  }
 
+  pub walk-nonnegative : (n : ℕ) (W : Word R) (ω : State F) → All (KeepsSign n) W → NonNegatives n ω → NonNegatives n (walk F W ω)
+  walk-nonnegative n W ω p h =
+      walk-related F F (Unit {0}) (λ g x y. NonNegative K O x) nonnegative-related n W W (letters-self (NonNegative K O) Pos n W p) tt ω ω h
+
+  pub act-nonnegative : (n : ℕ) (l : Letter R) (ω : State F) → KeepsSign n l → NonNegatives n ω → NonNegatives n (act F l ω)
+  unfolding walk
+  act-nonnegative n l ω p h = walk-nonnegative n (l ∷ []) ω (p, tt) h
+
+  -- A POSITIVE NUMBER is kept where the others are positive or zero
   moved-positive : (n a o : ℕ) (w : R) (ω : State F) → NonNegative K O w → NonNegatives n ω → (S : RowSet) → length S ≡ n → Pos (ω S) → Pos (moved F a o w ω S)
   unfolding moved
   moved-positive n a o w ω p h S s q = by (has a S && not (has o S))
@@ -53,20 +69,8 @@ module _ (K : CRing) (O : Ordered K) where
       by true = positive-add-nonnegative K O _ _ q (nonnegative-mul K O _ _ p (h (replaced a o S) (length-replaced a o S ∙ s)))
       by false = q
 
-  -- scaling by f (e i), all positive
-  module _ (f : R → R) (e : ℕ → R) (S : RowSet) (h : (i : ℕ) → In (length S) i → Pos (f (e i))) where
-    scaled-nonnegative : (x : R) → NonNegative K O x → NonNegative K O (scaled F (λ y z. y * f z) e S x)
-    scaled-nonnegative x p = subst (NonNegative K O) (sym (scaled-product K O f e S x)) (nonnegative-mul K O _ _ p (positive (product-positive K O (λ i. f (e i)) S h)))
-
-    scaled-positive : (x : R) → Pos x → Pos (scaled F (λ y z. y * f z) e S x)
-    scaled-positive x p = subst Pos (sym (scaled-product K O f e S x)) (pos-mul _ _ p (product-positive K O (λ i. f (e i)) S h))
-
-  pub act-nonnegative : (n : ℕ) (l : Letter R) (ω : State F) → KeepsSign n l → NonNegatives n ω → NonNegatives n (act F l ω)
-  unfolding act
-  act-nonnegative n (E j w) ω p h = moved-nonnegative n j (j - 1) w ω p h
-  act-nonnegative n (Et j w) ω p h = moved-nonnegative n (j - 1) j w ω p h
-  act-nonnegative n (D e) ω p h = λ S s. scaled-nonnegative (λ x. x) e S (λ i x. p i (subst (λ m. In m i) s x)) (ω S) (h S s)
-  act-nonnegative n (Dinv e) ω p h = λ S s. scaled-nonnegative inv e S (λ i x. inv-pos _ (p i (subst (λ m. In m i) s x))) (ω S) (h S s)
+  scaled-positive : (f : R → R) (e : ℕ → R) (S : RowSet) → ((i : ℕ) → In (length S) i → Pos (f (e i))) → (x : R) → Pos x → Pos (scaled F (λ y z. y * f z) e S x)
+  scaled-positive f e S h x p = subst Pos (sym (scaled-product K O f e S x)) (pos-mul _ _ p (entryProduct-positive K O (λ i. f (e i)) S h))
 
   pub act-positive : (n : ℕ) (l : Letter R) (ω : State F) → KeepsSign n l → NonNegatives n ω → (S : RowSet) → length S ≡ n → Pos (ω S) → Pos (act F l ω S)
   unfolding act
@@ -74,11 +78,6 @@ module _ (K : CRing) (O : Ordered K) where
   act-positive n (Et j w) ω p h S s q = moved-positive n (j - 1) j w ω p h S s q
   act-positive n (D e) ω p h S s q = scaled-positive (λ x. x) e S (λ i x. p i (subst (λ m. In m i) s x)) (ω S) q
   act-positive n (Dinv e) ω p h S s q = scaled-positive inv e S (λ i x. inv-pos _ (p i (subst (λ m. In m i) s x))) (ω S) q
-
-  pub walk-nonnegative : (n : ℕ) (W : Word R) (ω : State F) → All (KeepsSign n) W → NonNegatives n ω → NonNegatives n (walk F W ω)
-  unfolding walk
-  walk-nonnegative n [] ω p h = h
-  walk-nonnegative n (l ∷ W) ω p h = act-nonnegative n l (walk F W ω) (p .0) (walk-nonnegative n W ω (p .1) h)
 
   pub walk-positive : (n : ℕ) (W : Word R) (ω : State F) → All (KeepsSign n) W → NonNegatives n ω → (S : RowSet) → length S ≡ n → Pos (ω S) → Pos (walk F W ω S)
   unfolding walk

@@ -1,4 +1,5 @@
--- Every minor of the words of positive factors is positive: the plain word (word-positive), the inverse's, the converse's, and words joined.
+-- EVERY MINOR OF THE WORDS OF POSITIVE FACTORS IS POSITIVE: of the plain word (word-positive), the inverse's (inverse-positive), the converse's (converse-positive),
+-- words joined (append-positive), and so of joined steps (joined-positive).
 use mathlib.Core.Path.{_≡_, sym, ap, _∙_, subst}
 use mathlib.Core.List.{List, [], _∷_, _++_, reverse}
 use Prim.Native.Nat.{ℕ, _-_}
@@ -13,18 +14,16 @@ use Rattle.words.specs.Word.{Factors, Letter, D, Word, word, exchanged, inverse
 use Rattle.words.specs.Walk.{State, oneAt, act, walk, minor}
 use Rattle.words.specs.Operation.{Step, step, plain, inverted, conversed, transposed, stepWord, joinedWord}
 use Rattle.words.proofs.RowSets.{length-rows}
-use Rattle.words.proofs.Walks.{Rows, All, all-append, walk-append}
-use Rattle.words.proofs.Words.{transposedLetter, transposedWord, transposed-all}
-use Rattle.words.proofs.Stages.{stages, stages-all, stages-rows, word-stages, word-all, word-rows}
+use Rattle.words.proofs.Walks.{Rows, All, walk-append, oneAt-same}
+use Rattle.words.proofs.Words.{transposedWord}
+use Rattle.words.proofs.Stages.{stages, transposed-stages-all, stages-rows, word-stages, word-rows}
+use Rattle.words.proofs.Steps.{Source, Sources, Weights, step-weights, joined-weights}
 use Rattle.minors.specs.Matrix.{Positive}
-use Rattle.minors.proofs.Mapped.{oneAt-same}
 use Rattle.minors.proofs.Transpose.{minor-transposed}
-use Rattle.minors.proofs.Weights.{weights-weaken, inverse-rows, inverse-weights, converse-rows, converse-weights}
 use Rattle.minors.proofs.Nonnegative.{NonNegatives, KeepsSign, positive-keeps, act-nonnegative, act-positive, walk-nonnegative, oneAt-nonnegative, append-keeps}
-use Rattle.minors.proofs.Complement.{complement, count-complement, Diagonal, wordDeterminant, wordDeterminant-positive, minor-inverse}
+use Rattle.minors.proofs.Complement.{complement, count-complement, Diagonal, word-diagonal, wordDeterminant, wordDeterminant-positive, minor-inverse}
 use Rattle.minors.proofs.Converse.{count-reverse, minor-converse}
 use Rattle.minors.proofs.Sorting.{PositiveBelow, stages-positive}
-pub use Rattle.minors.proofs.Weights.{Weights}
 pub use Rattle.minors.proofs.Nonnegative.{AllPositive}
 
 module _ (K : CRing) (O : Ordered K) where
@@ -35,13 +34,9 @@ module _ (K : CRing) (O : Ordered K) where
   abbrev F : Arithmetic
   F = arithmetic K O
 
-  pub word-weights : (n : ℕ) (b : Factors R) → Positive K O n b → All (Weights Pos Pos n) (word n b)
-  word-weights n b p = word-all (Weights Pos Pos n) n b (λ i j x y z. p i j (omega arith, z) (x, omega arith)) (λ i x. p i i x x) (λ i j x y z. p j i (x, omega arith) (omega arith, z))
-
   -- the upper half of the word leads from every set to the lowest rows, the lower half from these to every set
   upper-keeps : (n : ℕ) (b : Factors R) → PositiveBelow K O n b → All (KeepsSign K O n) (transposedWord (stages n 1 (n - 1) b))
-  upper-keeps n b p = transposed-all (λ l. KeepsSign K O n (transposedLetter l)) (KeepsSign K O n) (λ l h. h) (stages n 1 (n - 1) b)
-      (stages-all (λ l. KeepsSign K O n (transposedLetter l)) n 1 (n - 1) b (omega arith) (λ i j x y z. positive (p i j x y z)))
+  upper-keeps n b p = transposed-stages-all (KeepsSign K O n) n 1 (n - 1) b (omega arith) (λ i j x y z. positive (p i j x y z))
 
   upper-positive : (n : ℕ) (b : Factors R) → PositiveBelow K O n b → (J : RowSet) → length J ≡ n
       → Pos (minor F (transposedWord (stages n 1 (n - 1) b)) (rows n 1 (count J)) J)
@@ -81,33 +76,21 @@ module _ (K : CRing) (O : Ordered K) where
       (subst Pos (minor-inverse K O n W r d I J i j) (h (complement J) (complement I) (length-map J _ ∙ j) (length-map I _ ∙ i) e))
 
   pub inverse-positive : (n : ℕ) (b : Factors R) → Positive K O n b → AllPositive K O n (inverseWord (word n b))
-  inverse-positive n b p = inverseWord-positive n (word n b) (word-rows n b) (weights-weaken Pos (λ w. Unit {0}) Pos (λ w x. tt) n (word n b) (word-weights n b p)) (word-positive n b p)
+  inverse-positive n b p = inverseWord-positive n (word n b) (word-rows n b) (word-diagonal K O n b p) (word-positive n b p)
 
   pub converse-positive : (n : ℕ) (W : Word R) → All (Rows n) W → AllPositive K O n W → AllPositive K O n (converseWord n W)
   converse-positive n W h p I J i j c = subst Pos (sym (minor-converse K O n W h I J i j))
       (p (reverse I) (reverse J) (length-reverse I ∙ i) (length-reverse J ∙ j) (count-reverse I ∙ c ∙ sym (count-reverse J)))
 
-  pub append-positive : (n : ℕ) (U W : Word R) → All (Rows n) U → All (Rows n) W → All (Weights Pos Pos n) U → All (Weights Pos Pos n) W → AllPositive K O n W → AllPositive K O n (U ++ W)
-  append-positive n U W u w p q h = append-keeps K O n U W (positive-keeps K O n U p) (positive-keeps K O n W q) h
+  pub append-positive : (n : ℕ) (U W : Word R) → All (Weights Pos Pos n) U → All (Weights Pos Pos n) W → AllPositive K O n W → AllPositive K O n (U ++ W)
+  append-positive n U W p q h = append-keeps K O n U W (positive-keeps K O n U p) (positive-keeps K O n W q) h
 
+  -- steps whose sources' factors are positive
   abbrev pub PositiveStep : ℕ → Step R → Type 0
-  PositiveStep n (step w b) = Positive K O n b
+  PositiveStep = Source Pos
 
   abbrev pub PositiveSteps : ℕ → List (Step R) → Type 0
-  PositiveSteps n [] = Unit {0}
-  PositiveSteps n (s ∷ L) = PositiveStep n s × PositiveSteps n L
-
-  pub step-rows : (n : ℕ) (s : Step R) → All (Rows n) (stepWord n s)
-  step-rows n (step plain b) = word-rows n b
-  step-rows n (step inverted b) = inverse-rows n (word n b) (word-rows n b)
-  step-rows n (step conversed b) = converse-rows n (word n b) (word-rows n b)
-  step-rows n (step transposed b) = word-rows n (exchanged b)
-
-  pub step-weights : (n : ℕ) (s : Step R) → PositiveStep n s → All (Weights Pos Pos n) (stepWord n s)
-  step-weights n (step plain b) p = word-weights n b p
-  step-weights n (step inverted b) p = inverse-weights Pos Pos n (word n b) (word-weights n b p)
-  step-weights n (step conversed b) p = converse-weights Pos Pos n (word n b) (word-weights n b p)
-  step-weights n (step transposed b) p = word-weights n (exchanged b) (λ i j x y. p j i y x)
+  PositiveSteps = Sources Pos
 
   pub step-positive : (n : ℕ) (s : Step R) → PositiveStep n s → AllPositive K O n (stepWord n s)
   step-positive n (step plain b) p = word-positive n b p
@@ -115,21 +98,8 @@ module _ (K : CRing) (O : Ordered K) where
   step-positive n (step conversed b) p = converse-positive n (word n b) (word-rows n b) (word-positive n b p)
   step-positive n (step transposed b) p = word-positive n (exchanged b) (λ i j x y. p j i y x)
 
-  pub joined-rows : (n : ℕ) (L : List (Step R)) → All (Rows n) (joinedWord n L)
-  unfolding joinedWord
-  joined-rows n [] = tt
-  joined-rows n (s ∷ []) = step-rows n s
-  joined-rows n (s ∷ t ∷ L) = all-append (Rows n) (stepWord n s) (joinedWord n (t ∷ L)) (step-rows n s) (joined-rows n (t ∷ L))
-
-  pub joined-weights : (n : ℕ) (L : List (Step R)) → PositiveSteps n L → All (Weights Pos Pos n) (joinedWord n L)
-  unfolding joinedWord
-  joined-weights n [] p = tt
-  joined-weights n (s ∷ []) p = step-weights n s (p .0)
-  joined-weights n (s ∷ t ∷ L) p = all-append (Weights Pos Pos n) (stepWord n s) (joinedWord n (t ∷ L)) (step-weights n s (p .0)) (joined-weights n (t ∷ L) (p .1))
-
   -- of one step or more
   pub joined-positive : (n : ℕ) (s : Step R) (L : List (Step R)) → PositiveSteps n (s ∷ L) → AllPositive K O n (joinedWord n (s ∷ L))
   unfolding joinedWord
   joined-positive n s [] p = step-positive n s (p .0)
-  joined-positive n s (t ∷ L) p = append-positive n (stepWord n s) (joinedWord n (t ∷ L)) (step-rows n s) (joined-rows n (t ∷ L))
-      (step-weights n s (p .0)) (joined-weights n (t ∷ L) (p .1)) (joined-positive n t L (p .1))
+  joined-positive n s (t ∷ L) p = append-positive n (stepWord n s) (joinedWord n (t ∷ L)) (step-weights Pos n s (p .0)) (joined-weights Pos n (t ∷ L) (p .1)) (joined-positive n t L (p .1))

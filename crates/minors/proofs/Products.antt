@@ -1,5 +1,5 @@
 -- Laws of the product of matrices of n rows: equal factors (times-equal), times-assoc, identity-times, times-identity, times-transposed, times-reversed.
--- So the matrix of joined words is the product of theirs (wordMatrix-joined).
+-- So the matrix of joined words is the product of theirs (wordMatrix-append).
 use mathlib.Core.Path.{_≡_, refl, sym, ap, ap₂, _∙_}
 use mathlib.Core.Bool.{cond}
 use mathlib.Core.List.{[], _∷_, _++_}
@@ -9,8 +9,9 @@ use lib.Dec.{eqb}
 use borrow.Author.Tests.{eq-eqb, ne-eqb}
 use Rattle.fraction.specs.Ring.{CRing, Ordered}
 use Rattle.fraction.proofs.Ring.{zero-*, one-*, *-assoc, *-comm}
+use Rattle.words.specs.RowSet.{In}
 use Rattle.words.specs.Word.{Word}
-use Rattle.minors.specs.Matrix.{In, Matrix, Equal, identity, sum, times, letterMatrix, wordMatrix}
+use Rattle.minors.specs.Matrix.{Matrix, Equal, identity, sum, times, letterMatrix, wordMatrix}
 use Rattle.minors.proofs.Sums.{sum-equal, sum-single, scale-sum, sum-scale, sum-swap, sum-reversed}
 
 -- two tests that stand and fall together
@@ -83,8 +84,8 @@ module _ (K : CRing) (n : ℕ) where
 module _ (K : CRing) (O : Ordered K) (n : ℕ) where
   open CRing K using (R)
 
-  pub wordMatrix-joined : (U W : Word R) → Equal K n (wordMatrix K O n (U ++ W)) (times K n (wordMatrix K O n U) (wordMatrix K O n W))
+  pub wordMatrix-append : (U W : Word R) → Equal K n (wordMatrix K O n (U ++ W)) (times K n (wordMatrix K O n U) (wordMatrix K O n W))
   unfolding wordMatrix
-  wordMatrix-joined [] W i j x y = sym (identity-times K n _ i j x y)
-  wordMatrix-joined (l ∷ U) W i j x y =
-      times-equal-right K n (letterMatrix K O l) _ _ (wordMatrix-joined U W) i j x y ∙ sym (times-assoc K n _ _ _ i j)
+  wordMatrix-append [] W i j x y = sym (identity-times K n _ i j x y)
+  wordMatrix-append (l ∷ U) W i j x y =
+      times-equal-right K n (letterMatrix K O l) _ _ (wordMatrix-append U W) i j x y ∙ sym (times-assoc K n _ _ _ i j)

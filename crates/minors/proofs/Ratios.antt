@@ -1,10 +1,11 @@
 -- The formulas of the new factors by the distance from the diagonal (factor-below, factor-above), solved for minors (block-solves) and for factors (block-ratios).
-use mathlib.Core.Path.{_≡_, refl, sym, ap, ap₂, _∙_, subst}
-use mathlib.Core.Bool.{Bool, true, false}
-use Prim.Native.Nat.{ℕ, zero, suc, _≤_, _<_, _-_, _+_ as _+ℕ_}
+use mathlib.Core.Path.{_≡_, sym, ap, ap₂, _∙_, subst}
+use mathlib.Core.Bool.{Bool, true}
+use Prim.Native.Nat.{ℕ, zero, suc, _≤_, _-_, _+_ as _+ℕ_}
 use native.Mathlib.Omega.{arith}
-use lib.Dec.{eqb, ltb}
+use lib.Dec.{ltb}
 use borrow.Author.Tests.{eq-eqb, ne-eqb, lt-ltb, le-ltb}
+use Rattle.fraction.specs.Arithmetic.{Arithmetic}
 use Rattle.fraction.specs.Ring.{CRing, Ordered, arithmetic}
 use Rattle.fraction.proofs.Ordered.{pos-cancel, pos-nonzero, quotient-mul, quotient-unique}
 use Rattle.words.specs.RowSet.{RowSet, put, rows}
@@ -14,10 +15,13 @@ use Rattle.words.proofs.Formulas.{corner-is, corner-before, before-is}
 use Rattle.minors.proofs.Recovery.{blockProduct, block-ratio, block-diagonal, block-empty}
 
 module _ (K : CRing) (O : Ordered K) where
-  open CRing K using (R, 𝟘, 𝟙, mul as _*_)
+  open CRing K using (R, 𝟙, mul as _*_)
   open Ordered O using (Pos, pos-one, pos-mul, inv, inv-pos)
 
   infixl 70 _*_
+  abbrev F : Arithmetic
+  F = arithmetic K O
+
   -- THE FORMULAS by the distance r from the diagonal: m r j stands for M(r+1..r+j | 1..j), or for M(1..j | r+1..r+j)
   unfoldable pub ratioOf : (ℕ → ℕ → R) → ℕ → ℕ → R
   ratioOf m zero t = m 0 (suc t) * inv (m 0 t)
@@ -30,7 +34,7 @@ module _ (K : CRing) (O : Ordered K) where
     abbrev pub upper : ℕ → ℕ → R
     upper r j = M (rows n 1 j) (rows n (suc r) (r +ℕ j))
 
-    diagonal-ratio : (t : ℕ) → onDiagonal (arithmetic K O) n M (suc t) ≡ ratioOf lower 0 t
+    diagonal-ratio : (t : ℕ) → onDiagonal F n M (suc t) ≡ ratioOf lower 0 t
     unfolding onDiagonal ratioOf
     diagonal-ratio t =
         let e : suc t - 1 ≡ t = omega arith in
@@ -40,7 +44,7 @@ module _ (K : CRing) (O : Ordered K) where
         ∙ ap (λ b. M (rows n 1 (0 +ℕ suc t)) (rows n 1 (suc t)) * inv (M (rows n 1 b) (rows n 1 t))) g
 
   below-ratio : (n : ℕ) (M : RowSet → RowSet → R) (r t : ℕ) → suc r +ℕ suc t ≤ n
-      → belowDiagonal (arithmetic K O) n (runBefore n) M (suc t +ℕ suc r) (suc t) ≡ ratioOf (lower n M) (suc r) t
+      → belowDiagonal F n (runBefore n) M (suc t +ℕ suc r) (suc t) ≡ ratioOf (lower n M) (suc r) t
   unfolding belowDiagonal ratioOf
   below-ratio n M r t h = ap₂ (λ x y. x * inv y) (ap₂ _*_ corner before) (ap₂ _*_ run corner′)
     where
@@ -71,20 +75,20 @@ module _ (K : CRing) (O : Ordered K) where
           ap (λ I. M I (rows n 1 (suc t))) (corner-before n (suc t +ℕ suc r) (suc t) (omega arith) (omega arith) (omega arith) ∙ ap₂ (rows n) a b)
 
   -- where the formulas put the factors
-  pub factor-below : (n : ℕ) (M : RowSet → RowSet → R) (r t : ℕ) → r +ℕ suc t ≤ n → newFactor (arithmetic K O) n M (suc t +ℕ r) (suc t) ≡ ratioOf (lower n M) r t
+  pub factor-below : (n : ℕ) (M : RowSet → RowSet → R) (r t : ℕ) → r +ℕ suc t ≤ n → newFactor F n M (suc t +ℕ r) (suc t) ≡ ratioOf (lower n M) r t
   unfolding newFactor
   factor-below n M zero t h =
       let e : suc t +ℕ 0 ≡ suc t = omega arith in
-      ap (λ (s : Bool). factorBy (arithmetic K O) n s (ltb (suc t) (suc t +ℕ 0)) M (suc t +ℕ 0) (suc t)) (eq-eqb (suc t +ℕ 0) (suc t) e)
-      ∙ ap (onDiagonal (arithmetic K O) n M) e ∙ diagonal-ratio n M t
+      ap (λ (s : Bool). factorBy F n s (ltb (suc t) (suc t +ℕ 0)) M (suc t +ℕ 0) (suc t)) (eq-eqb (suc t +ℕ 0) (suc t) e)
+      ∙ ap (onDiagonal F n M) e ∙ diagonal-ratio n M t
   factor-below n M (suc r) t h =
-      ap₂ (λ s u. factorBy (arithmetic K O) n s u M (suc t +ℕ suc r) (suc t)) (ne-eqb (suc t +ℕ suc r) (suc t) (λ e. omega arith)) (lt-ltb (suc t) (suc t +ℕ suc r) (omega arith))
+      ap₂ (λ s u. factorBy F n s u M (suc t +ℕ suc r) (suc t)) (ne-eqb (suc t +ℕ suc r) (suc t) (λ e. omega arith)) (lt-ltb (suc t) (suc t +ℕ suc r) (omega arith))
       ∙ below-ratio n M r t h
 
-  pub factor-above : (n : ℕ) (M : RowSet → RowSet → R) (r t : ℕ) → suc r +ℕ suc t ≤ n → newFactor (arithmetic K O) n M (suc t) (suc t +ℕ suc r) ≡ ratioOf (upper n M) (suc r) t
+  pub factor-above : (n : ℕ) (M : RowSet → RowSet → R) (r t : ℕ) → suc r +ℕ suc t ≤ n → newFactor F n M (suc t) (suc t +ℕ suc r) ≡ ratioOf (upper n M) (suc r) t
   unfolding newFactor
   factor-above n M r t h =
-      ap₂ (λ s u. factorBy (arithmetic K O) n s u M (suc t) (suc t +ℕ suc r)) (ne-eqb (suc t) (suc t +ℕ suc r) (λ e. omega arith)) (le-ltb (suc t +ℕ suc r) (suc t) (omega arith))
+      ap₂ (λ s u. factorBy F n s u M (suc t) (suc t +ℕ suc r)) (ne-eqb (suc t) (suc t +ℕ suc r) (λ e. omega arith)) (le-ltb (suc t +ℕ suc r) (suc t) (omega arith))
       ∙ below-ratio n (λ I J. M J I) r t h
 
   -- minors that are positive, 1 where empty, and solve the formulas for b are b's block products

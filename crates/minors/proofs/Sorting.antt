@@ -11,7 +11,7 @@ use Rattle.fraction.proofs.Ordered.{nonnegative-add-positive}
 use Rattle.words.specs.RowSet.{RowSet, count, rows}
 use Rattle.words.specs.Word.{Factors, E}
 use Rattle.words.specs.Walk.{State, act, walk}
-use Rattle.words.proofs.RowSets.{topped, length-topped, rows-run}
+use Rattle.words.proofs.Runs.{topped, length-topped, rows-run}
 use Rattle.words.proofs.Walks.{All, under, walk-append, raise-top}
 use Rattle.words.proofs.Stages.{stage, stages, stages-zero, stage-all, stages-all, stage-under, stage-false}
 use Rattle.minors.proofs.Nonnegative.{NonNegatives, KeepsSign, act-nonnegative, walk-nonnegative, walk-positive}

@@ -5,14 +5,9 @@ use native.Mathlib.Decide.{ℕ-discrete}
 use native.Mathlib.Omega.{arith}
 use Rattle.fraction.specs.Ring.{CRing}
 use Rattle.fraction.proofs.Ring.{ring, +-assoc, +-comm, +-zero, zero-+, *-zero, *-comm, *-+}
-use Rattle.minors.specs.Matrix.{In, sum}
-
--- the rows of one row more
-in-under : (n k : ℕ) → In n k → In (suc n) k
-in-under n k x = (x .0, omega (arith, x .1))
-
-in-last : (n : ℕ) → In (suc n) (suc n)
-in-last n = (omega arith, omega arith)
+use Rattle.words.specs.RowSet.{In}
+use Rattle.words.proofs.RowSets.{in-under, in-top}
+use Rattle.minors.specs.Matrix.{sum}
 
 module _ (K : CRing) where
   open CRing K using (R, 𝟘, add as _+_, mul as _*_)
@@ -22,21 +17,21 @@ module _ (K : CRing) where
   pub sum-equal : (n : ℕ) (f g : ℕ → R) → ((k : ℕ) → In n k → f k ≡ g k) → sum K n f ≡ sum K n g
   unfolding sum
   sum-equal zero f g h = refl
-  sum-equal (suc n) f g h = ap₂ _+_ (sum-equal n f g (λ k x. h k (in-under n k x))) (h (suc n) (in-last n))
+  sum-equal (suc n) f g h = ap₂ _+_ (sum-equal n f g (λ k x. h k (in-under x))) (h (suc n) (in-top n))
 
   pub sum-zero : (n : ℕ) (f : ℕ → R) → ((k : ℕ) → In n k → f k ≡ 𝟘) → sum K n f ≡ 𝟘
   unfolding sum
   sum-zero zero f h = refl
-  sum-zero (suc n) f h = ap₂ _+_ (sum-zero n f (λ k x. h k (in-under n k x))) (h (suc n) (in-last n)) ∙ +-zero K 𝟘
+  sum-zero (suc n) f h = ap₂ _+_ (sum-zero n f (λ k x. h k (in-under x))) (h (suc n) (in-top n)) ∙ +-zero K 𝟘
 
   -- no term but the p-th
   pub sum-single : (n : ℕ) (f : ℕ → R) (p : ℕ) → In n p → ((k : ℕ) → In n k → (k ≡ p → ⊥) → f k ≡ 𝟘) → sum K n f ≡ f p
   unfolding sum
   sum-single zero f p x h = absurd (omega (arith, x .0, x .1))
   sum-single (suc n) f p x h = elim (ℕ-discrete p (suc n)) [
-    | yes e ↦ ap₂ _+_ (sum-zero n f (λ k y. h k (in-under n k y) (λ z. absurd (omega (arith, y .1))))) (ap f (sym e)) ∙ zero-+ K _
+    | yes e ↦ ap₂ _+_ (sum-zero n f (λ k y. h k (in-under y) (λ z. absurd (omega (arith, y .1))))) (ap f (sym e)) ∙ zero-+ K _
     | no e ↦
-        ap₂ _+_ (sum-single n f p (x .0, omega (arith, x .1)) (λ k y. h k (in-under n k y))) (h (suc n) (in-last n) (λ z. e (sym z)))
+        ap₂ _+_ (sum-single n f p (x .0, omega (arith, x .1)) (λ k y. h k (in-under y))) (h (suc n) (in-top n) (λ z. e (sym z)))
         ∙ +-zero K _
   ]
 

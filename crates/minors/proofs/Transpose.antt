@@ -1,13 +1,13 @@
 -- A word reversed with E and Et exchanged has row sets and column sets exchanged (minor-transposed), and is the word of the factors exchanged
--- (transposed-word). The proof pairs two states, Σ f S * ω S over the sets S of n rows: a letter on one side is the exchanged letter on the other.
+-- (transposed-word). The proof pairs two states, the sum of f S * ω S over the sets S of n rows: a letter on one side is the exchanged letter on the other (pairing-walk).
 use mathlib.Core.Path.{_≡_, refl, sym, ap, ap₂, _∙_}
 use mathlib.Core.Bool.{Bool, true, false}
 use mathlib.Core.List.{[], _∷_, _++_, append-assoc}
 use Prim.Native.Nat.{ℕ, zero, suc, _-_, _≤_}
+use native.Mathlib.Decide.{decLe}
 use native.Mathlib.Omega.{arith}
-use lib.Dec.{leb}
 use lib.ListN.{length}
-use borrow.Author.Tests.{leb-true, leb-false}
+use Rattle.fraction.specs.Arithmetic.{Arithmetic}
 use Rattle.fraction.specs.Ring.{CRing, Ordered, arithmetic}
 use Rattle.fraction.proofs.Ring.{ring, +-zero, zero-+, *-assoc, *-comm, zero-*, one-*}
 use Rattle.words.specs.RowSet.{RowSet, equal}
@@ -17,6 +17,7 @@ use Rattle.words.proofs.Walks.{Rows, All, under, walk-append, raised, lowered, 
 use Rattle.words.proofs.Agree.{Agree, agree-under, rows-under}
 use Rattle.words.proofs.Words.{transposed-append, transposed-transposed}
 use Rattle.words.proofs.Stages.{stages, word-stages}
+use Rattle.minors.proofs.Entries.{scaled-product}
 pub use Rattle.words.proofs.Words.{transposedLetter}
 unfoldable pub use Rattle.words.proofs.Words.{transposedWord}
 
@@ -31,7 +32,7 @@ transposed-word n b =
     ∙ sym (word-stages n (exchanged b))
 
 module _ (K : CRing) where
-  open CRing K using (R, 𝟘, 𝟙, add as _+_, mul as _*_)
+  open CRing K using (R, 𝟘, add as _+_, mul as _*_)
 
   infixl 65 _+_
   infixl 70 _*_
@@ -49,7 +50,7 @@ module _ (K : CRing) where
   unfolding pairing
   pairing-agree zero f g ω η h k = ap₂ _*_ (h [] refl) (k [] refl)
   pairing-agree (suc n) f g ω η h k = ap₂ _+_
-      (pairing-agree n _ _ _ _ (agree-under n f g h false) (agree-under n ω η k false)) (pairing-agree n _ _ _ _ (agree-under n f g h true) (agree-under n ω η k true))
+      (pairing-agree n _ _ _ _ (agree-under false h) (agree-under false k)) (pairing-agree n _ _ _ _ (agree-under true h) (agree-under true k))
 
   -- it is linear
   step-times : (w a b c : R) → (a + w * b) * c ≡ a * c + w * (b * c)
@@ -69,11 +70,14 @@ module _ (K : CRing) where
   pairing-zero (suc n) ω = ap₂ _+_ (pairing-zero n (under false ω)) (pairing-zero n (under true ω)) ∙ +-zero K _
 
 module _ (K : CRing) (O : Ordered K) where
-  open CRing K using (R, 𝟘, 𝟙, add as _+_, mul as _*_)
+  open CRing K using (R, add as _+_, mul as _*_)
 
   infixl 65 _+_
   infixl 70 _*_
-  pub pairing-one : (n : ℕ) (J : RowSet) (ω : RowSet → R) → length J ≡ n → pairing K n (oneAt (arithmetic K O) J) ω ≡ ω J
+  abbrev F : Arithmetic
+  F = arithmetic K O
+
+  pub pairing-one : (n : ℕ) (J : RowSet) (ω : RowSet → R) → length J ≡ n → pairing K n (oneAt F J) ω ≡ ω J
   unfolding pairing oneAt equal
   pairing-one zero [] ω e = one-* K _
   pairing-one zero (x ∷ J) ω e = absurd (omega arith)
@@ -83,7 +87,7 @@ module _ (K : CRing) (O : Ordered K) where
 
   -- a letter on one side is the exchanged letter on the other
   abbrev Adjoint : ℕ → Letter R → Type 0
-  Adjoint n l = (f ω : RowSet → R) → pairing K n (act (arithmetic K O) l f) ω ≡ pairing K n f (act (arithmetic K O) (transposedLetter l) ω)
+  Adjoint n l = (f ω : RowSet → R) → pairing K n (act F l f) ω ≡ pairing K n f (act F (transposedLetter l) ω)
 
   -- E at the two highest rows
   exchange : (w a b c d x : R) → (a + b) + ((c + w * x) + d) ≡ (a + (b + w * x)) + (c + d)
@@ -96,13 +100,13 @@ module _ (K : CRing) (O : Ordered K) where
       ∙ exchange w _ _ _ _ _
       ∙ sym (ap₂ _+_ (ap₂ _+_ (lowering false false) (lowering false true ∙ step-right)) (ap₂ _+_ (lowering true false) (lowering true true)))
     where
-      raising : (x y : Bool) → pairing K n (under y (under x (act (arithmetic K O) (E j w) f))) (under y (under x ω)) ≡ pairing K n (raised (arithmetic K O) w f x y) (under y (under x ω))
-      raising x y = pairing-agree K n _ _ _ _ (λ S s. raise-top (arithmetic K O) j w f x y S (omega (arith, e, s))) (λ S s. refl)
+      raising : (x y : Bool) → pairing K n (under y (under x (act F (E j w) f))) (under y (under x ω)) ≡ pairing K n (raised F w f x y) (under y (under x ω))
+      raising x y = pairing-agree K n _ _ _ _ (λ S s. raise-top F j w f x y S (omega (arith, e, s))) (λ S s. refl)
 
-      lowering : (x y : Bool) → pairing K n (under y (under x f)) (under y (under x (act (arithmetic K O) (Et j w) ω))) ≡ pairing K n (under y (under x f)) (lowered (arithmetic K O) w ω x y)
-      lowering x y = pairing-agree K n _ _ _ _ (λ S s. refl) (λ S s. lower-top (arithmetic K O) j w ω x y S (omega (arith, e, s)))
+      lowering : (x y : Bool) → pairing K n (under y (under x f)) (under y (under x (act F (Et j w) ω))) ≡ pairing K n (under y (under x f)) (lowered F w ω x y)
+      lowering x y = pairing-agree K n _ _ _ _ (λ S s. refl) (λ S s. lower-top F j w ω x y S (omega (arith, e, s)))
 
-      step-right : pairing K n (under true (under false f)) (lowered (arithmetic K O) w ω false true)
+      step-right : pairing K n (under true (under false f)) (lowered F w ω false true)
           ≡ pairing K n (under true (under false f)) (under true (under false ω)) + w * pairing K n (under true (under false f)) (under false (under true ω))
       step-right = pairing-comm K n _ _ ∙ pairing-step K n w _ _ _ ∙ ap₂ (λ x y. x + w * y) (pairing-comm K n _ _) (pairing-comm K n _ _)
 
@@ -111,30 +115,22 @@ module _ (K : CRing) (O : Ordered K) where
   unfolding pairing
   adjoint-under n j w h g e f ω = ap₂ _+_ (part false) (part true)
     where
-      part : (x : Bool) → pairing K n (under x (act (arithmetic K O) (E j w) f)) (under x ω) ≡ pairing K n (under x f) (under x (act (arithmetic K O) (Et j w) ω))
-      part x = pairing-agree K n _ _ (under x ω) _ (rows-under (arithmetic K O) n x (E j w) tt (h, g) f) (λ S s. refl)
-          ∙ e (under x f) (under x ω) ∙ sym (pairing-agree K n (under x f) _ _ _ (λ S s. refl) (rows-under (arithmetic K O) n x (Et j w) tt (h, g) ω))
+      part : (x : Bool) → pairing K n (under x (act F (E j w) f)) (under x ω) ≡ pairing K n (under x f) (under x (act F (Et j w) ω))
+      part x = pairing-agree K n _ _ (under x ω) _ (rows-under F n x (E j w) tt (h, g) f) (λ S s. refl)
+          ∙ e (under x f) (under x ω) ∙ sym (pairing-agree K n (under x f) _ _ _ (λ S s. refl) (rows-under F n x (Et j w) tt (h, g) ω))
 
   adjoint-raise : (n j : ℕ) (w : R) → 2 ≤ j → j ≤ n → Adjoint n (E j w)
   adjoint-raise zero j w h g = absurd (omega arith)
   adjoint-raise (suc zero) j w h g = absurd (omega arith)
-  adjoint-raise (suc (suc n)) j w h g = by (leb j (suc n)) refl (λ p. adjoint-raise (suc n) j w h p)
-    where
-      by : (t : Bool) → leb j (suc n) ≡ t → (j ≤ suc n → Adjoint (suc n) (E j w)) → Adjoint (suc (suc n)) (E j w)
-      by true e r = let p : j ≤ suc n = leb-true j (suc n) e in adjoint-under (suc n) j w h p (r p)
-      by false e r = adjoint-top n j w (omega (arith, leb-false j (suc n) e))
+  adjoint-raise (suc (suc n)) j w h g =
+      elim (decLe j (suc n)) [
+        | yes p ↦ adjoint-under (suc n) j w h p (adjoint-raise (suc n) j w h p)
+        | no p ↦ adjoint-top n j w (omega arith)
+      ]
 
   -- D and Dinv multiply the number at each set by one number
-  scaled-times : (op : R → R → R) (g : R → R) → ((x y : R) → op x y ≡ x * g y) → (e : ℕ → R) (S : RowSet) (x y : R)
-      → scaled (arithmetic K O) op e S x * y ≡ x * scaled (arithmetic K O) op e S y
-  unfolding scaled
-  scaled-times op g h e [] x y = refl
-  scaled-times op g h e (false ∷ S) x y = scaled-times op g h e S x y
-  scaled-times op g h e (true ∷ S) x y =
-      ap (λ z. z * y) (h _ _) ∙ inwards _ _ _ ∙ ap (λ z. z * g (e (suc (length S)))) (scaled-times op g h e S x y) ∙ *-assoc K _ _ _ ∙ ap (λ z. x * z) (sym (h _ _))
-    where
-      inwards : (a b c : R) → a * b * c ≡ a * c * b
-      inwards a b c = simp ring
+  scaled-times : (f : R → R) (e : ℕ → R) (S : RowSet) (x y : R) → scaled F (λ p q. p * f q) e S x * y ≡ x * scaled F (λ p q. p * f q) e S y
+  scaled-times f e S x y = ap (λ z. z * y) (scaled-product K O f e S x) ∙ *-assoc K _ _ _ ∙ ap (λ z. x * z) (*-comm K _ _ ∙ sym (scaled-product K O f e S y))
 
   pairing-scaled : (n : ℕ) (s : RowSet → R → R) → ((S : RowSet) (x y : R) → s S x * y ≡ x * s S y) → (f ω : RowSet → R)
       → pairing K n (λ S. s S (f S)) ω ≡ pairing K n f (λ S. s S (ω S))
@@ -147,20 +143,20 @@ module _ (K : CRing) (O : Ordered K) where
   unfolding act
   adjoint-letter n (E j w) h f ω = adjoint-raise n j w (h .0) (h .1) f ω
   adjoint-letter n (Et j w) h f ω = pairing-comm K n _ _ ∙ sym (adjoint-raise n j w (h .0) (h .1) ω f) ∙ pairing-comm K n _ _
-  adjoint-letter n (D e) h f ω = pairing-scaled n (scaled (arithmetic K O) _*_ e) (scaled-times _*_ (λ x. x) (λ x y. refl) e) f ω
-  adjoint-letter n (Dinv e) h f ω = pairing-scaled n (scaled (arithmetic K O) (λ x y. x * O .inv y) e) (scaled-times (λ x y. x * O .inv y) (O .inv) (λ x y. refl) e) f ω
+  adjoint-letter n (D e) h f ω = pairing-scaled n (scaled F _*_ e) (scaled-times (λ x. x) e) f ω
+  adjoint-letter n (Dinv e) h f ω = pairing-scaled n (scaled F (λ x y. x * O .inv y) e) (scaled-times (O .inv) e) f ω
 
   pub pairing-walk : (n : ℕ) (W : Word R) → All (Rows n) W → (f ω : RowSet → R)
-      → pairing K n (walk (arithmetic K O) W f) ω ≡ pairing K n f (walk (arithmetic K O) (transposedWord W) ω)
+      → pairing K n (walk F W f) ω ≡ pairing K n f (walk F (transposedWord W) ω)
   unfolding walk transposedWord
   pairing-walk n [] h f ω = refl
   pairing-walk n (l ∷ W) h f ω =
-      adjoint-letter n l (h .0) (walk (arithmetic K O) W f) ω
-      ∙ pairing-walk n W (h .1) f (act (arithmetic K O) (transposedLetter l) ω)
-      ∙ ap (pairing K n f) (sym (walk-append (arithmetic K O) (transposedWord W) (transposedLetter l ∷ []) ω))
+      adjoint-letter n l (h .0) (walk F W f) ω
+      ∙ pairing-walk n W (h .1) f (act F (transposedLetter l) ω)
+      ∙ ap (pairing K n f) (sym (walk-append F (transposedWord W) (transposedLetter l ∷ []) ω))
 
   pub minor-transposed : (n : ℕ) (W : Word R) → All (Rows n) W → (I J : RowSet) → length I ≡ n → length J ≡ n
-      → minor (arithmetic K O) W I J ≡ minor (arithmetic K O) (transposedWord W) J I
+      → minor F W I J ≡ minor F (transposedWord W) J I
   unfolding minor
   minor-transposed n W h I J i j =
       sym (pairing-one n I _ i) ∙ pairing-comm K n _ _ ∙ pairing-walk n W h _ _ ∙ pairing-one n J _ j

@@ -1,35 +1,21 @@
 -- The wedge of a vector and a form on row sets, and forms that are iterated wedges (wedges): linear in the form (wedge-add, wedge-mul),
 -- a function of the rows of the set (wedge-agree), zero where every product is (wedge-zero), and compatible with a diagonal (wedge-diagonal).
 use mathlib.Core.Path.{_≡_, refl, sym, ap, ap₂, _∙_}
-use mathlib.Core.Bool.{Bool, true, false}
+use mathlib.Core.Bool.{true, false}
 use mathlib.Core.List.{List, [], _∷_}
 use Prim.Native.Nat.{ℕ, suc}
-use native.Mathlib.Omega.{arith}
 use lib.ListN.{length}
 use Rattle.fraction.specs.Ring.{CRing}
 use Rattle.fraction.proofs.Ring.{ring, *-one, *-assoc, zero-*}
-use Rattle.words.specs.RowSet.{RowSet}
+use Rattle.words.specs.RowSet.{In, RowSet}
+use Rattle.words.proofs.RowSets.{in-under, in-top}
 use Rattle.words.proofs.Walks.{under}
-use Rattle.minors.specs.Matrix.{In}
+use Rattle.words.proofs.Agree.{Agree, agree-under}
+use Rattle.minors.proofs.Entries.{entryProduct}
 
--- a row of n is one of n + 1, and so is the highest
-pub in-under : {n i : ℕ} → In n i → In (suc n) i
-in-under h = (h .0, omega (arith, h .1))
-
-pub in-top : (n : ℕ) → In (suc n) (suc n)
-in-top n = (omega arith, omega arith)
-
-module _ {A : Type 0} where
-  -- the same entries 1 .. n
-  abbrev pub Same : ℕ → (ℕ → A) → (ℕ → A) → Type 0
-  Same n v u = (i : ℕ) → In n i → v i ≡ u i
-
-  -- the same on the sets of n rows
-  abbrev pub Agree : ℕ → (RowSet → A) → (RowSet → A) → Type 0
-  Agree n ω η = (T : RowSet) → length T ≡ n → ω T ≡ η T
-
-  pub agree-under : {n : ℕ} {ω η : RowSet → A} (x : Bool) → Agree (suc n) ω η → Agree n (under x ω) (under x η)
-  agree-under x h T t = h (x ∷ T) (ap suc t)
+-- the same entries 1 .. n
+abbrev pub SameEntries : {A : Type 0} → ℕ → (ℕ → A) → (ℕ → A) → Type 0
+SameEntries n v u = (i : ℕ) → In n i → v i ≡ u i
 
 module _ (K : CRing) where
   open CRing K using (R, 𝟘, 𝟙, add as _+_, mul as _*_, neg)
@@ -70,7 +56,7 @@ module _ (K : CRing) where
   wedge-mul w v ω (true ∷ S) = rw (wedge-mul w v (under true ω) S, wedge) (simp ring)
   wedge-mul w v ω (false ∷ S) = wedge-mul w v (under false ω) S
 
-  pub wedge-agree : (v u : ℕ → R) (ω η : RowSet → R) (S : RowSet) → Same (length S) v u → Agree (length S) ω η → wedge v ω S ≡ wedge u η S
+  pub wedge-agree : (v u : ℕ → R) (ω η : RowSet → R) (S : RowSet) → SameEntries (length S) v u → Agree (length S) ω η → wedge v ω S ≡ wedge u η S
   unfolding wedge
   wedge-agree v u ω η [] e h = refl
   wedge-agree v u ω η (true ∷ S) e h =
@@ -87,28 +73,23 @@ module _ (K : CRing) where
       ∙ simp ring
   wedge-zero v ω (false ∷ S) h = wedge-zero v (under false ω) S (λ i T p t. h i (false ∷ T) (in-under p) (ap suc t))
 
-  -- the product of the entries of the rows of S
-  unfoldable pub entryProduct : (ℕ → R) → RowSet → R
-  entryProduct c [] = 𝟙
-  entryProduct c (true ∷ S) = entryProduct c S * c (suc (length S))
-  entryProduct c (false ∷ S) = entryProduct c S
-
-  pub wedge-diagonal : (c v : ℕ → R) (ω : RowSet → R) (S : RowSet) → wedge v ω S * entryProduct c S ≡ wedge (λ i. v i * c i) (λ T. ω T * entryProduct c T) S
+  -- the entries of a diagonal matrix, a set's rows multiplied
+  pub wedge-diagonal : (c v : ℕ → R) (ω : RowSet → R) (S : RowSet) → wedge v ω S * entryProduct K c S ≡ wedge (λ i. v i * c i) (λ T. ω T * entryProduct K c T) S
   unfolding wedge entryProduct
   wedge-diagonal c v ω [] = simp ring
   wedge-diagonal c v ω (true ∷ S) =
       step _ _ _ _ _
-      ∙ ap (λ x. v (suc (length S)) * c (suc (length S)) * (ω (false ∷ S) * entryProduct c S) + neg x)
+      ∙ ap (λ x. v (suc (length S)) * c (suc (length S)) * (ω (false ∷ S) * entryProduct K c S) + neg x)
       (ap (λ x. x * c (suc (length S))) (wedge-diagonal c v (under true ω) S)
-      ∙ sym (wedge-mul (c (suc (length S))) (λ i. v i * c i) (λ T. ω (true ∷ T) * entryProduct c T) S)
+      ∙ sym (wedge-mul (c (suc (length S))) (λ i. v i * c i) (λ T. ω (true ∷ T) * entryProduct K c T) S)
       ∙ wedge-agree (λ i. v i * c i) (λ i. v i * c i) _ _ S (λ i p. refl)
-      (λ T t. *-assoc K _ _ _ ∙ ap (λ n. ω (true ∷ T) * (entryProduct c T * c (suc n))) (sym t)))
+      (λ T t. *-assoc K _ _ _ ∙ ap (λ n. ω (true ∷ T) * (entryProduct K c T * c (suc n))) (sym t)))
     where
       step : (a d p x y : R) → (a * x + neg y) * (p * d) ≡ a * d * (x * p) + neg (y * p * d)
       step a d p x y = simp ring
   wedge-diagonal c v ω (false ∷ S) = wedge-diagonal c v (under false ω) S
 
-  pub empty-diagonal : (c : ℕ → R) (S : RowSet) → empty S * entryProduct c S ≡ empty S
+  pub empty-diagonal : (c : ℕ → R) (S : RowSet) → empty S * entryProduct K c S ≡ empty S
   unfolding empty entryProduct
   empty-diagonal c [] = *-one K 𝟙
   empty-diagonal c (true ∷ S) = zero-* K _

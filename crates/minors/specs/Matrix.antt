@@ -1,21 +1,13 @@
 -- Matrices over a ring, and what a word's letters multiply out to (document 01, "The matrix and its letters"). Rows and columns count from 1.
 use mathlib.Core.Path.{_≡_}
-use mathlib.Core.Bool.{Bool, cond, _&&_}
-use mathlib.Core.List.{List, [], _∷_}
-use Prim.Native.Nat.{ℕ, zero, suc, _≤_, _-_, _+_ as _+ℕ_}
+use mathlib.Core.Bool.{cond, _&&_}
+use mathlib.Core.List.{[], _∷_}
+use Prim.Native.Nat.{ℕ, zero, suc, _-_, _+_ as _+ℕ_}
 use lib.Dec.{eqb}
-use lib.ListN.{getD}
 use Rattle.fraction.specs.Ring.{CRing, Ordered}
-use Rattle.words.specs.RowSet.{RowSet, members}
+use Rattle.words.specs.RowSet.{RowSet}
 use Rattle.words.specs.Word.{Factors, Letter, E, Et, D, Dinv, Word, word}
-
--- i is one of 1 .. n
-abbrev pub In : ℕ → ℕ → Type 0
-In n i = (1 ≤ i) × (i ≤ n)
-
--- the i-th of the chosen rows P, in ascending order
-abbrev pub chosen : RowSet → ℕ → ℕ
-chosen P i = getD (members P) (i - 1) 0
+pub use Rattle.words.specs.RowSet.{In, chosen}
 
 module _ (K : CRing) where
   open CRing K using (R, 𝟘, 𝟙, add as _+_, mul as _*_, neg)

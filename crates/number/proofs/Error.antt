@@ -1,7 +1,7 @@
 -- Each operation's result is within one unit rounding of the exact one, zero operands included: `sum-within`, `product-within`, `quotient-within`,
--- by one law of the rounding, `round-within`.
-use mathlib.Core.Path.{_≡_, ap}
-use Prim.Native.Nat.{ℕ, zero, suc, _+_, _-_, _*_, _^_, _≤_, _<_, min}
+-- by one law of every rounding, `rounds-within`.
+use mathlib.Core.Path.{_≡_, ap, subst}
+use Prim.Native.Nat.{ℕ, zero, suc, _+_, _-_, _*_, _^_, _≤_, _<_}
 use native.Mathlib.Nat.{mul-pos, mul-le-mul-right, le-of-mul-le-mul-right}
 use native.Mathlib.Omega.{arith}
 use Rattle.fraction.specs.Fraction.{Fraction, sum, product, quotient}
@@ -9,7 +9,7 @@ use Rattle.fraction.specs.Within.{Within}
 use Rattle.fraction.proofs.Within.{within-one}
 use Rattle.number.proofs.Closest.{Near}
 use Rattle.number.proofs.Rounding.{round-zero, round-near}
-use Rattle.number.proofs.Value.{scale, scale-positive, Over, value-over, sum-over, product-over, quotient-over}
+use Rattle.number.proofs.Value.{scale, scale-positive, Over, value-over, Rounds, sum-rounds, product-rounds, quotient-rounds}
 use Rattle.number.specs.Number.{bias, round, value, Ranged, sumOf, productOf, quotientOf}
 use Rattle.number.specs.declared.Number.{Number}
 
@@ -31,26 +31,23 @@ round-close zero d x pd half hx =
     record { above = omega arith; below = omega arith }
 round-close (suc n) d x pd half hx = round-near (suc n) d x (omega arith) pd (half (omega arith)) hx
 
-pub round-within : (n d x : ℕ) (q : Fraction) → Over (d * scale) q (n * 2 ^ x) → 0 < d → (0 < n → d ≤ 2 * n) → 32 ≤ x → Within 1 (value (round n d x)) q
-round-within n d x q o pd half hx =
-    let r = round n d x in
-    within-over (d * scale) (r .m * 2 ^ r .x * d) (n * 2 ^ x) (value r) q (mul-pos pd scale-positive) (omega (arith, ap (λ (z : ℕ). z * d) (value-over r))) o (round-close n d x pd half hx)
+pub rounds-within : {q : Fraction} {r : Number} → Rounds q r → Within 1 (value r) q
+rounds-within {q} {r} w =
+    let n = w .n in
+    let d = w .d in
+    let x = w .x in
+    let t = round n d x in
+    subst (λ (z : Number). Within 1 (value z) q) (w .result)
+    (within-over (d * scale) (t .m * 2 ^ t .x * d) (n * 2 ^ x) (value t) q (mul-pos (w .divisor) scale-positive) (omega (arith, ap (λ (z : ℕ). z * d) (value-over t))) (w .exact)
+    (round-close n d x (w .divisor) (w .half) (w .start)))
 
 -- ---- the operations
-module _ {r s : ℕ} {a b : Number} (u : Ranged r a) (v : Ranged s b) where
-  pub sum-within : r + 64 ≤ bias → s + 64 ≤ bias → Within 1 (value (sumOf a b)) (sum (value a) (value b))
-  unfolding sumOf
-  sum-within g h =
-      let l : ℕ = min (a .x) (b .x) in
-      round-within (a .m * 2 ^ (a .x - l) + b .m * 2 ^ (b .x - l)) 1 l (sum (value a) (value b)) (sum-over a b) (omega arith) (λ p. omega arith) (omega (arith, u .start, v .start))
+pub sum-within : {r : ℕ} {a b : Number} → Ranged r a → Ranged r b → r + 64 ≤ bias → Within 1 (value (sumOf a b)) (sum (value a) (value b))
+sum-within u v h = rounds-within (sum-rounds u v h)
 
-  pub product-within : r + s + 64 ≤ bias → Within 1 (value (productOf a b)) (product (value a) (value b))
-  unfolding productOf
-  product-within h =
-      round-within (a .m * b .m) 1 (a .x + b .x - bias) (product (value a) (value b)) (product-over a b (omega (arith, u .start, v .start))) (omega arith) (λ p. omega arith) (omega (arith, u .start, v .start))
+module _ {r s : ℕ} {a b : Number} (u : Ranged r a) (v : Ranged s b) (h : r + s + 64 ≤ bias) where
+  pub product-within : Within 1 (value (productOf a b)) (product (value a) (value b))
+  product-within = rounds-within (product-rounds u v h)
 
-  pub quotient-within : r + s + 64 ≤ bias → 0 < b .m → Within 1 (value (quotientOf a b)) (quotient (value a) (value b))
-  unfolding quotientOf
-  quotient-within h p =
-      round-within (a .m) (b .m) (a .x + bias - b .x) (quotient (value a) (value b)) (quotient-over a b (omega (arith, v .stop)) p) p
-      (λ q. omega (arith, u .low q, v .high)) (omega (arith, u .start, v .stop))
+  pub quotient-within : 0 < b .m → Within 1 (value (quotientOf a b)) (quotient (value a) (value b))
+  quotient-within p = rounds-within (quotient-rounds u v h p)

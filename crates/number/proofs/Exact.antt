@@ -2,17 +2,16 @@
 -- their mantissas (`quotient-less`, `quotient-more`), products and sums that fit a word, and operands far apart (`sum-far`, `difference-far`).
 use mathlib.Core.Path.{_≡_, refl, sym, ap, _∙_, subst}
 use mathlib.Core.Logic.{⊎-elim}
-use Prim.Native.Nat.{ℕ, zero, suc, _+_, _-_, _*_, _/_, _%_, _^_, _≤_, _<_}
+use Prim.Native.Nat.{ℕ, zero, suc, _+_, _-_, _*_, _^_, _≤_, _<_}
 use native.Mathlib.Nat.{pow-succ', mul-le-mul-right, mul-lt-mul-of-pos-right, eq-or-lt-of-le}
 use native.Mathlib.Omega.{arith}
 use lib.Count.{leadingZeros, leading-top}
-use lib.Pow
-use lib.Pow.{pow-pos, pow-mono, pow-add}
+use lib.Pow.{pow-pos, pow-add}
 use lib.Ieee.Nearest.{closest}
+use lib.Pow
 use Rattle.number.proofs.Closest.{nearest-up, nearest-down}
 use Rattle.number.proofs.Rounding.{round-same, round-normal, carried-small}
 use Rattle.number.specs.Number.{round, carried}
-use Rattle.number.specs.declared.Number.{Number}
 
 -- ---- what the leading zeros of a word say: shifted by them it has 32 digits
 module _ (n z j : ℕ) (c : z + suc j ≡ 64) (lo : 2 ^ j ≤ n) (hi : n < 2 ^ suc j) where

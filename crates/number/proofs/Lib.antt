@@ -9,3 +9,5 @@ pub mod SignedReach
 pub mod Value
 pub mod Error
 pub mod Nearest
+pub mod Examples
+pub mod Unique

@@ -1,8 +1,7 @@
 -- The rounding as a property: of all numbers with 32 bits, at any exponent, none is nearer to the exact result, and a tie goes to the even mantissa.
 -- `round-nearest` for every rounding; `sum-nearest`, `product-nearest` and `quotient-nearest` for the operations, zero operands included.
 use mathlib.Core.Path.{_≡_, refl, sym, ap, ap₂, _∙_, subst}
-use mathlib.Core.Logic.{_≢_}
-use Prim.Native.Nat.{ℕ, zero, suc, _+_, _-_, _*_, _%_, _^_, _≤_, _<_, min}
+use Prim.Native.Nat.{ℕ, zero, suc, _+_, _-_, _*_, _%_, _^_, _≤_, _<_}
 use native.Mathlib.Nat.{zero-mul, mul-pos, mul-le-mul-right, mul-lt-mul-of-pos-right, le-of-mul-le-mul-right, eq-of-mul-eq-mul-right, le-antisymm, le-of-lt, not-le-of-lt}
 use native.Mathlib.Decide.{decLe}
 use native.Mathlib.Omega.{arith}
@@ -11,7 +10,7 @@ use lib.Ieee.Nearest.{closest}
 use Rattle.fraction.specs.Fraction.{Fraction, Same, sum, product, quotient}
 use Rattle.number.proofs.Closest.{closest-best, closest-tie}
 use Rattle.number.proofs.Rounding.{Represents, round-zero, round-represents, dropped, scaled-low}
-use Rattle.number.proofs.Value.{scale, scale-positive, scale-is, Over, value-over, exactly-over, sum-over, product-over, quotient-over}
+use Rattle.number.proofs.Value.{scale, scale-positive, scale-is, Over, value-over, Rounds, exactly-rounds, sum-rounds, product-rounds, quotient-rounds}
 use Rattle.number.specs.Nearest.{gap, AtLeastAsNear, Nearest, float, exactly}
 use Rattle.number.specs.Number.{bias, round, value, Ranged, sumOf, productOf, quotientOf}
 use Rattle.number.specs.declared.Number.{Number}
@@ -54,7 +53,7 @@ module _ (s p e c : ℕ) (x q y : Fraction) (ps : 0 < s) (f : Over s x p) (g : O
   near-over : gap p e ≤ gap c e → AtLeastAsNear q x y
   near-over l = le-of-mul-le-mul-right (rw (left, right) (mul-le-mul-right (x .low * y .low * q .low) l)) ps
 
-  over-near : AtLeastAsNear q x y → gap p e ≤ gap c e
+  pub over-near : AtLeastAsNear q x y → gap p e ≤ gap c e
   over-near l =
       le-of-mul-le-mul-right {k = x .low * y .low * q .low} (rw (left, right) at (mul-le-mul-right s l)) (mul-pos (mul-pos (x .above-zero) (y .above-zero)) (q .above-zero))
 
@@ -206,29 +205,27 @@ zero-nearest q r e f =
 top-zero : (s : ℕ) (q : Fraction) → 0 < s → Over s q 0 → q .top ≡ 0
 top-zero s q p o = eq-of-mul-eq-mul-right s p (q .top) 0 (omega arith)
 
-pub round-nearest-over : (n d x : ℕ) (q : Fraction) → Over (d * scale) q (n * 2 ^ x) → 0 < d → (0 < n → d ≤ 2 * n) → 32 ≤ x → Nearest q (round n d x)
-round-nearest-over zero d x q o pd half hx =
-    zero-nearest q (round 0 d x) (top-zero (d * scale) q (mul-pos pd scale-positive) (o ∙ ap (λ (z : ℕ). z * q .low) (zero-mul (2 ^ x)))) (ap (λ (r : Number). r .m) (round-zero d x))
-round-nearest-over (suc n) d x q o pd half hx = nonzero-nearest (suc n) d x (omega arith) pd (half (omega arith)) hx q o
+pub rounds-nearest : {q : Fraction} {r : Number} → Rounds q r → Nearest q r
+rounds-nearest {q} {r} w = subst (Nearest q) (w .result) (go (w .n) refl)
+  where
+    go : (n : ℕ) → w .n ≡ n → Nearest q (round (w .n) (w .d) (w .x))
+    go zero e =
+        let z = ap (λ (n : ℕ). n * 2 ^ w .x * q .low) e in
+        let o : Over (w .d * scale) q 0 = w .exact ∙ z ∙ ap (λ (k : ℕ). k * q .low) (zero-mul (2 ^ w .x)) in
+        zero-nearest q (round (w .n) (w .d) (w .x)) (top-zero (w .d * scale) q (mul-pos (w .divisor) scale-positive) o)
+        (ap (λ (n : ℕ). round n (w .d) (w .x) .m) e ∙ ap (λ (r : Number). r .m) (round-zero (w .d) (w .x)))
+    go (suc n) e = nonzero-nearest (w .n) (w .d) (w .x) (omega arith) (w .divisor) (w .half (omega arith)) (w .start) q (w .exact)
 
-pub round-nearest : (n d x : ℕ) (pd : 0 < d) → (0 < n → d ≤ 2 * n) → 32 ≤ x → Nearest (exactly n d x pd) (round n d x)
-round-nearest n d x pd half hx = round-nearest-over n d x (exactly n d x pd) (exactly-over n d x pd) pd half hx
+pub round-nearest : (n d x : ℕ) (p : 0 < d) → (0 < n → d ≤ 2 * n) → 32 ≤ x → Nearest (exactly n d x p) (round n d x)
+round-nearest n d x p h s = rounds-nearest (exactly-rounds n d x p h s)
 
 -- ---- the operations
-module _ {r s : ℕ} {a b : Number} (u : Ranged r a) (v : Ranged s b) where
-  pub sum-nearest : r + 64 ≤ bias → s + 64 ≤ bias → Nearest (sum (value a) (value b)) (sumOf a b)
-  unfolding sumOf
-  sum-nearest g h =
-      let l : ℕ = min (a .x) (b .x) in
-      round-nearest-over (a .m * 2 ^ (a .x - l) + b .m * 2 ^ (b .x - l)) 1 l (sum (value a) (value b)) (sum-over a b) (omega arith) (λ p. omega arith) (omega (arith, u .start, v .start))
+pub sum-nearest : {r : ℕ} {a b : Number} → Ranged r a → Ranged r b → r + 64 ≤ bias → Nearest (sum (value a) (value b)) (sumOf a b)
+sum-nearest u v h = rounds-nearest (sum-rounds u v h)
 
-  pub product-nearest : r + s + 64 ≤ bias → Nearest (product (value a) (value b)) (productOf a b)
-  unfolding productOf
-  product-nearest h =
-      round-nearest-over (a .m * b .m) 1 (a .x + b .x - bias) (product (value a) (value b)) (product-over a b (omega (arith, u .start, v .start))) (omega arith) (λ p. omega arith) (omega (arith, u .start, v .start))
+module _ {r s : ℕ} {a b : Number} (u : Ranged r a) (v : Ranged s b) (h : r + s + 64 ≤ bias) where
+  pub product-nearest : Nearest (product (value a) (value b)) (productOf a b)
+  product-nearest = rounds-nearest (product-rounds u v h)
 
-  pub quotient-nearest : r + s + 64 ≤ bias → 0 < b .m → Nearest (quotient (value a) (value b)) (quotientOf a b)
-  unfolding quotientOf
-  quotient-nearest h p =
-      round-nearest-over (a .m) (b .m) (a .x + bias - b .x) (quotient (value a) (value b)) (quotient-over a b (omega (arith, v .stop)) p) p
-      (λ q. omega (arith, u .low q, v .high)) (omega (arith, u .start, v .stop))
+  pub quotient-nearest : 0 < b .m → Nearest (quotient (value a) (value b)) (quotientOf a b)
+  quotient-nearest p = rounds-nearest (quotient-rounds u v h p)

@@ -1,9 +1,9 @@
 -- The order of numbers and their differences, from the lower exponent: what `below` says by exponents and mantissas, and `differenceOf`
 -- where the code has its tests.
 use mathlib.Core.Path.{_≡_, refl, sym, ap, _∙_}
-use mathlib.Core.Bool.{Bool, true, false, false≢true}
-use Prim.Native.Nat.{ℕ, zero, suc, _+_, _-_, _*_, _^_, _≤_, _<_, min}
-use native.Mathlib.Nat.{pow-succ', min-eq-left, min-eq-right, min-le-left, min-comm, sub-self, sub-zero, mul-one, mul-le-mul, mul-pos, zero-mul}
+use mathlib.Core.Bool.{true, false, false≢true}
+use Prim.Native.Nat.{ℕ, zero, suc, _-_, _*_, _^_, _≤_, _<_, min}
+use native.Mathlib.Nat.{pow-succ', min-eq-left, min-eq-right, min-le-left, sub-self, mul-one, mul-le-mul, mul-pos}
 use native.Mathlib.Decide.{decLt}
 use native.Mathlib.Omega.{arith}
 use borrow.Author.Tests.{lt-ltb, le-ltb, ltb-false}

@@ -1,13 +1,13 @@
--- One rounding. `round-is` and `round-normal` say which whole number it takes, `round-same` that it goes by the exact value alone;
+-- One rounding. `round-is`, `round-normal` and `round-parts` say which whole number it takes, `round-same` that it goes by the exact value alone;
 -- `round-represents`, `round-near`, `round-start` and `round-stop` give a result's digits, its error and its exponent.
-use mathlib.Core.Path.{_≡_, refl, sym, ap, _∙_, subst}
+use mathlib.Core.Path.{_≡_, refl, sym, ap, ap₂, _∙_, subst}
 use mathlib.Core.Logic.{⊎-elim}
-use Prim.Native.Nat.{ℕ, zero, suc, _+_, _-_, _*_, _/_, _%_, _^_, _≤_, _<_}
-use native.Mathlib.Nat.{div-one, mod-one, mul-pos, mul-le-mul-right, mul-lt-mul-of-pos-right, le-of-mul-le-mul-right, lt-of-mul-lt-mul-right, le-div-iff-mul-le, div-lt-iff-lt-mul, le-antisymm, lt-of-lt-of-le, lt-of-le-of-lt, lt-of-not-le, not-le-of-lt, eq-or-lt-of-le}
+use Prim.Native.Nat.{ℕ, suc, _+_, _-_, _*_, _/_, _%_, _^_, _≤_, _<_, compare}
+use native.Mathlib.Nat.{mul-add-div-right, mul-add-mod-self-right, div-eq-of-lt, mod-eq-of-lt, div-one, mod-one, mul-pos, mul-le-mul-right, mul-lt-mul-of-pos-right, le-of-mul-le-mul-right, lt-of-mul-lt-mul-right, le-div-iff-mul-le, div-lt-iff-lt-mul, le-antisymm, lt-of-lt-of-le, lt-of-le-of-lt, lt-of-not-le, not-le-of-lt, eq-or-lt-of-le}
 use native.Mathlib.Omega.{arith}
 use borrow.Author.Tests.{ne-eqb, eq-eqb}
 use lib.Pow.{pow-pos, pow-mono, pow-add}
-use lib.Ieee.{size}
+use lib.Ieee.{size, nearest}
 use lib.Ieee.Digits.{size-lt, size-le, size-reaches}
 use lib.Ieee.Nearest.{closest, closest-same}
 use Rattle.number.proofs.Closest.{Near, nearest-down, closest-near, closest-range}
@@ -48,6 +48,17 @@ round-is n d x N D k pn pd pD e lo hi =
 -- n / d has 32 digits before the point itself
 pub round-normal : (n d x : ℕ) → 0 < d → 2 ^ 31 * d ≤ n → n < 2 ^ 32 * d → round n d x ≡ carried (closest n d) x
 round-normal n d x p lo hi = round-is n d x n d 32 (omega arith) p p (omega arith) lo hi ∙ ap (carried (closest n d)) (omega arith)
+
+-- q and r / d: the whole part and the rest, as division gives them
+pub round-parts : (q r d x : ℕ) → r < d → 2 ^ 31 ≤ q → q < 2 ^ 32 → round (q * d + r) d x ≡ carried (nearest q (compare (r * 2) d)) x
+round-parts q r d x h lo hi =
+    let p : 0 < d = omega arith in
+    let a : 2 ^ 31 * d ≤ q * d = mul-le-mul-right d lo in
+    let s : suc q ≤ 2 ^ 32 = hi in
+    let b : suc q * d ≤ 2 ^ 32 * d = mul-le-mul-right d s in
+    let e : (q * d + r) / d ≡ q = mul-add-div-right p q r ∙ ap (λ (z : ℕ). q + z) (div-eq-of-lt h) ∙ omega arith in
+    let f : (q * d + r) % d ≡ r = mul-add-mod-self-right q d r ∙ mod-eq-of-lt h in
+    round-normal (q * d + r) d x p (omega arith) (omega arith) ∙ ap₂ (λ (m k : ℕ). carried (nearest m (compare (k * 2) d)) x) e f
 
 -- n / d at exponent x and N / D at exponent y are the same fraction, the second with 32 digits before the point
 pub round-same : (n d x N D y k : ℕ) → 0 < n → 0 < d → 0 < D → n * 2 ^ 32 * D ≡ N * (d * 2 ^ k) → x + k - 32 ≡ y → 2 ^ 31 * D ≤ N → N < 2 ^ 32 * D → round n d x ≡ round N D y

@@ -2,14 +2,14 @@
 -- `signed-ranged-zero` and `signed-ranged-plain` start one.
 use mathlib.Core.Path.{_≡_, refl, sym, ap, _∙_, subst}
 use mathlib.Core.Bool.{Bool, true, false, xor, not, _&&_}
-use Prim.Native.Nat.{ℕ, zero, suc, _+_, _≤_, _<_}
+use Prim.Native.Nat.{ℕ, zero, _+_, _≤_, _<_}
 use native.Mathlib.Omega.{arith}
 use borrow.Author.Tests.{eq-eqb}
 use Rattle.number.proofs.Reach.{ranged-more, ranged-zero, ranged-sum, ranged-product, ranged-difference, difference-positive}
 use Rattle.number.proofs.Signs.{signed-difference-below, signed-difference-not-below, below-not-below, signed-sum-plain, signed-sum-negative, signed-sum-left, signed-sum-right, negative-positive}
 use Rattle.number.proofs.Zero.{sum-positive-left}
-use Rattle.number.specs.Number.{bias, Ranged, sumOf, productOf}
-use Rattle.number.specs.Signed.{below, differenceOf, plain, zeroSigned, signedDifference, signedSum, signedProduct, withSign, SignedRanged}
+use Rattle.number.specs.Number.{bias, Ranged, sumOf}
+use Rattle.number.specs.Signed.{below, plain, zeroSigned, signedDifference, signedSum, signedProduct, withSign, SignedRanged}
 use Rattle.number.specs.declared.Number.{Number}
 use Rattle.number.specs.declared.signed.Signed.{Signed}
 

@@ -1,15 +1,15 @@
--- What a number stands for, over the denominator 2 ^ bias, which is kept shut and never computed: `value-over`; the exact sum, product and quotient
--- as what their operation rounds (`sum-over`, `product-over`, `quotient-over`); the values of zero and one, and positive values.
+-- What a number stands for, over the denominator 2 ^ bias, which is kept shut and never computed: `value-over`, `value-zero`, `value-one`, `value-positive`.
+-- `Rounds q r` says that r is q rounded once: `sum-rounds`, `product-rounds` and `quotient-rounds` say it of the operations and the exact fractions.
 use mathlib.Core.Path.{_≡_, refl, sym, ap, _∙_}
 use mathlib.Core.Logic.{_↔_}
-use Prim.Native.Nat.{ℕ, zero, suc, _+_, _-_, _*_, _^_, _≤_, _<_, min}
+use Prim.Native.Nat.{ℕ, _+_, _-_, _*_, _^_, _≤_, _<_, min}
 use native.Mathlib.Nat.{mul-pos, eq-of-mul-eq-mul-right, min-le-left, min-le-right}
 use native.Mathlib.Omega.{arith}
 use lib.Pow.{pow-pos, pow-add}
 use Rattle.fraction.specs.Fraction.{Fraction, Same, whole, sum, product, quotient}
 use Rattle.fraction.proofs.Fraction.{factor-positive, quotient-top, quotient-low}
 use Rattle.number.specs.Nearest.{exactly}
-use Rattle.number.specs.Number.{bias, zeroNumber, oneNumber, value, Ranged}
+use Rattle.number.specs.Number.{bias, zeroNumber, oneNumber, round, value, Ranged, sumOf, productOf, quotientOf}
 use Rattle.number.specs.declared.Number.{Number}
 
 unfoldable pub scale : ℕ
@@ -37,7 +37,7 @@ pub value-over : (a : Number) → Over scale (value a) (a .m * 2 ^ a .x)
 unfolding value
 value-over a = omega (arith, ap (λ (z : ℕ). a .m * z) (places (a .x)))
 
-pub exactly-over : (n d x : ℕ) (p : 0 < d) → Over (d * scale) (exactly n d x p) (n * 2 ^ x)
+exactly-over : (n d x : ℕ) (p : 0 < d) → Over (d * scale) (exactly n d x p) (n * 2 ^ x)
 exactly-over n d x p = omega (arith, ap (λ (z : ℕ). n * d * z) (places x))
 
 pub value-zero : Same (value zeroNumber) (whole 0)
@@ -52,7 +52,7 @@ pub value-positive : (a : Number) → (0 < a .m) ↔ (0 < value a .top)
 unfolding value
 value-positive a = (λ p. mul-pos p (pow-pos (a .x - bias)), λ p. factor-positive (a .m) (2 ^ (a .x - bias)) p)
 
--- ---- exact results
+-- ---- exact results, over the denominator of what is rounded
 module _ (a b : Number) where
   abbrev A : Fraction
   A = value a
@@ -61,7 +61,7 @@ module _ (a b : Number) where
   B = value b
 
   -- both operands brought to the lower exponent
-  pub sum-over : let l = min (a .x) (b .x) in Over (1 * scale) (sum (value a) (value b)) ((a .m * 2 ^ (a .x - l) + b .m * 2 ^ (b .x - l)) * 2 ^ l)
+  sum-over : let l = min (a .x) (b .x) in Over (1 * scale) (sum (value a) (value b)) ((a .m * 2 ^ (a .x - l) + b .m * 2 ^ (b .x - l)) * 2 ^ l)
   sum-over =
       let l : ℕ = min (a .x) (b .x) in
       let fa : a .x - l + l ≡ a .x = omega (arith, min-le-left (a .x) (b .x)) in
@@ -72,7 +72,7 @@ module _ (a b : Number) where
       let gb : b .m * 2 ^ b .x * (A .low * B .low) ≡ b .m * (2 ^ (b .x - l) * 2 ^ l) * (A .low * B .low) = ap (λ (z : ℕ). b .m * z * (A .low * B .low)) (sym eb) in
       omega (arith, ap (λ (z : ℕ). z * B .low) (value-over a), ap (λ (z : ℕ). z * A .low) (value-over b))
 
-  pub product-over : bias ≤ a .x + b .x → Over (1 * scale) (product (value a) (value b)) (a .m * b .m * 2 ^ (a .x + b .x - bias))
+  product-over : bias ≤ a .x + b .x → Over (1 * scale) (product (value a) (value b)) (a .m * b .m * 2 ^ (a .x + b .x - bias))
   product-over h =
       let x : ℕ = a .x + b .x - bias in
       let f : a .x + b .x ≡ x + bias = omega arith in
@@ -82,7 +82,7 @@ module _ (a b : Number) where
       let w = ap (λ (z : ℕ). a .m * 2 ^ a .x * A .low * z) (value-over b) in
       eq-of-mul-eq-mul-right scale scale-positive _ _ (omega arith)
 
-  pub quotient-over : b .x ≤ a .x + bias → 0 < b .m → Over (b .m * scale) (quotient (value a) (value b)) (a .m * 2 ^ (a .x + bias - b .x))
+  quotient-over : b .x ≤ a .x + bias → 0 < b .m → Over (b .m * scale) (quotient (value a) (value b)) (a .m * 2 ^ (a .x + bias - b .x))
   quotient-over h p =
       let x : ℕ = a .x + bias - b .x in
       let q = value-positive b .0 p in
@@ -92,3 +92,36 @@ module _ (a b : Number) where
       let v = ap (λ (z : ℕ). z * (B .low * b .m * scale)) (value-over a) in
       let w = ap (λ (z : ℕ). a .m * 2 ^ x * A .low * z) (value-over b) in
       rw (quotient-top (value a) (value b) q, quotient-low (value a) (value b) q) (eq-of-mul-eq-mul-right scale scale-positive _ _ (omega arith))
+
+-- ---- r is the fraction q, which is n / d at exponent x, rounded once
+pub record Rounds (q : Fraction) (r : Number) : Type 0 where
+  pub n : ℕ
+  pub d : ℕ
+  pub x : ℕ
+  pub result : round n d x ≡ r
+  pub exact : Over (d * scale) q (n * 2 ^ x)
+  pub divisor : 0 < d
+  pub half : 0 < n → d ≤ 2 * n
+  pub start : 32 ≤ x
+
+pub exactly-rounds : (n d x : ℕ) (p : 0 < d) → (0 < n → d ≤ 2 * n) → 32 ≤ x → Rounds (exactly n d x p) (round n d x)
+exactly-rounds n d x p h s = record { n = n; d = d; x = x; result = refl; exact = exactly-over n d x p; divisor = p; half = h; start = s }
+
+pub sum-rounds : {r : ℕ} {a b : Number} → Ranged r a → Ranged r b → r + 64 ≤ bias → Rounds (sum (value a) (value b)) (sumOf a b)
+unfolding sumOf
+sum-rounds {r} {a} {b} u v h =
+    let l : ℕ = min (a .x) (b .x) in
+    record { n = a .m * 2 ^ (a .x - l) + b .m * 2 ^ (b .x - l); d = 1; x = l; result = refl; exact = sum-over a b; divisor = omega arith; half = λ p. omega arith; start = omega (arith, u .start, v .start) }
+
+module _ {r s : ℕ} {a b : Number} (u : Ranged r a) (v : Ranged s b) (h : r + s + 64 ≤ bias) where
+  pub product-rounds : Rounds (product (value a) (value b)) (productOf a b)
+  unfolding productOf
+  product-rounds =
+      let g : bias + 64 ≤ a .x + b .x = omega (arith, u .start, v .start) in
+      record { n = a .m * b .m; d = 1; x = a .x + b .x - bias; result = refl; exact = product-over a b (omega arith); divisor = omega arith; half = λ p. omega arith; start = omega arith }
+
+  pub quotient-rounds : 0 < b .m → Rounds (quotient (value a) (value b)) (quotientOf a b)
+  unfolding quotientOf
+  quotient-rounds p =
+      let g : b .x + 64 ≤ a .x + bias = omega (arith, u .start, v .stop) in
+      record { n = a .m; d = b .m; x = a .x + bias - b .x; result = refl; exact = quotient-over a b (omega arith) p; divisor = p; half = λ q. omega (arith, u .low q, v .high); start = omega arith }

@@ -4,7 +4,7 @@
 use mathlib.Core.Path.{_≡_, refl, sym, ap, _∙_}
 use mathlib.Core.Logic.{_↔_, _⊎_, ⊎-elim, inl, inr}
 use Prim.Native.Nat.{ℕ, zero, suc, _+_, _-_, _*_, _^_, _≤_, _<_, min}
-use native.Mathlib.Nat.{min-eq-right, min-comm, min-le-left, sub-self, mul-one, zero-mul, mul-zero, add-comm, mul-comm, mul-pos}
+use native.Mathlib.Nat.{min-eq-right, min-comm, min-le-left, sub-self, mul-one, zero-mul, add-comm, mul-comm, mul-pos}
 use native.Mathlib.Omega.{arith}
 use lib.Pow.{pow-pos, pow-add}
 use Rattle.number.proofs.Rounding.{round-zero, round-exact, round-represents}

@@ -1,3 +1,4 @@
 pub mod Number
 pub mod Nearest
 pub mod Signed
+pub mod Examples

@@ -27,3 +27,8 @@ float m i j = record { top = m * 2 ^ i; low = 2 ^ j; above-zero = pow-pos j }
 pub record Nearest (q : Fraction) (r : Number) : Type 0 where
   pub best : (m i j : ℕ) → m < 2 ^ 32 → AtLeastAsNear q (value r) (float m i j)
   pub even : (m i j : ℕ) → m < 2 ^ 32 → AtLeastAsNear q (float m i j) (value r) → (Same (float m i j) (value r) → ⊥) → r .m % 2 ≡ 0
+
+-- a mantissa of 32 bits
+pub record Normal (a : Number) : Type 0 where
+  pub low : 2 ^ 31 ≤ a .m
+  pub high : a .m < 2 ^ 32

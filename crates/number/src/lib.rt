@@ -2,7 +2,7 @@
 // Each operation brings its exact result to the form n / d at an exponent x; `round` alone rounds.
 ghost use mathlib.Core.Path.{_≡_};
 ghost use mathlib.Core.Bool.{false};
-ghost use Prim.Native.Nat.{ℕ, _+_, _-_, _*_, _^_, _≤_, _<_};
+ghost use Prim.Native.Nat.{_+_, _-_, _*_, _^_, _≤_, _<_};
 ghost use lib.Dec.{eqb};
 ghost use Rattle.number.specs.Number.{zeroNumber, oneNumber, carried, round, sumOf, productOf, quotientOf, Ranged, reach, inRange};
 ghost use Rattle.number.specs.Signed.{below, differenceOf};
@@ -32,18 +32,20 @@ fn carried(m: u64, x: u64) -> Number
     Number { m, x }
 }
 
-// The one rounding: n / d, of 32 digits before the point, to the nearest whole number, at a tie to the even one.
-fn round(n: u64, d: u64, x: u64) -> Number
-    requires { ⌜ (0 < d) × (d ≤ 2 ^ 62) × (2 ^ 31 * d ≤ n) × (n < 2 ^ 32 * d) × (x < 2 ^ 62) ⌝ }
-    ensures { λ r. ⌜ r ≡ round n d x ⌝ }
+// The one rounding: q and rest / d, with 32 digits before the point, to the nearest whole number, at a tie to the even one.
+fn round(q: u64, rest: u64, d: u64, x: u64) -> Number
+    requires { ⌜ (2 ^ 31 ≤ q) × (q < 2 ^ 32) × (rest < d) × (d ≤ 2 ^ 62) × (x < 2 ^ 62) ⌝ }
+    ensures { λ r. ⌜ r ≡ round (q * d + rest) d x ⌝ }
 {
-    let q = n / d;
-    let t = n % d * 2;
+    let t = rest * 2;
     if d < t {
         return carried(q + 1, x);
     }
-    if t == d {
-        return carried(q + q % 2, x);
+    if t < d {
+        return carried(q, x);
+    }
+    if q % 2 == 1 {
+        return carried(q + 1, x);
     }
     carried(q, x)
 }
@@ -55,6 +57,16 @@ fn power(k: u64) -> u64
     1u64 << k
 }
 
+// A whole number of more than 32 digits at exponent x: w digits are left behind the point.
+fn wide(n: u64, w: u64, x: u64) -> Number
+    requires { ⌜ (w ≤ 32) × (2 ^ 31 * 2 ^ w ≤ n) × (n < 2 ^ 32 * 2 ^ w) × (x < 2 ^ 61) ⌝ }
+    ensures { λ r. ⌜ r ≡ round n (2 ^ w) (x + w) ⌝ }
+{
+    let d = power(w);
+    let q = n >> w;
+    round(q, n - q * d, d, x + w)
+}
+
 // A whole number at exponent x: digits past the 32nd are left behind the point, zeros are joined to fewer.
 fn whole(n: u64, x: u64) -> Number
     requires { ⌜ (0 < n) × (32 ≤ x) × (x < 2 ^ 61) ⌝ }
@@ -62,9 +74,9 @@ fn whole(n: u64, x: u64) -> Number
 {
     let z = u64::leading_zeros(n) as u64;
     if z < 32 {
-        return round(n, power(32 - z), x + (32 - z));
+        return wide(n, 32 - z, x);
     }
-    round(n * power(z - 32), 1, x - (z - 32))
+    round(n * power(z - 32), 0, 1, x - (z - 32))
 }
 
 // a / b at exponent x. The mantissas are compared first, so that the quotient has 32 digits before the point.
@@ -73,9 +85,11 @@ fn quotient(a: u64, b: u64, x: u64) -> Number
     ensures { λ r. ⌜ r ≡ round a b x ⌝ }
 {
     if a >= b {
-        return round(a * 0x8000_0000, b, x - 31);
+        let n = a * 0x8000_0000;
+        return round(n / b, n % b, b, x - 31);
     }
-    round(a * 0x1_0000_0000, b, x - 32)
+    let n = a * 0x1_0000_0000;
+    round(n / b, n % b, b, x - 32)
 }
 
 // The sum, where the second exponent is not above the first. Up to 32 places apart it fits a word.
@@ -95,7 +109,7 @@ fn sum(a: u64, i: u64, b: u64, j: u64) -> Number
 // From 33 places on the second is less than half a unit of the first's last place; an eighth stands for it. But below 2^31 units are
 // half as large: there 33 places are worked in full, 2^64 less the second number.
 fn difference(a: u64, i: u64, b: u64, j: u64) -> Number
-    requires { ⌜ (2 ^ 31 ≤ a) × (a < 2 ^ 32) × (0 < b) × (b < 2 ^ 32) × (j ≤ i) × (35 ≤ j) × (i < 2 ^ 61) × (b < a * 2 ^ (i - j)) ⌝ }
+    requires { ⌜ (2 ^ 31 ≤ a) × (a < 2 ^ 32) × (0 < b) × (b < 2 ^ 32) × (j ≤ i) × (32 ≤ j) × (i < 2 ^ 61) × (b < a * 2 ^ (i - j)) ⌝ }
     ensures { λ r. ⌜ r ≡ round (a * 2 ^ (i - j) - b) 1 j ⌝ }
 {
     let k = i - j;

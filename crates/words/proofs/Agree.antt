@@ -1,5 +1,5 @@
 -- States that agree on the sets of n rows: a walk keeps that (act-agree, walk-agree). So a word whose letters leave the highest row alone
--- is walked on the rows under it (walk-under, with rows-under and rows-false for its letters).
+-- is walked on the rows under it (walk-under, with rows-under for its letters).
 use mathlib.Core.Path.{_≡_, refl, sym, ap, ap₂, _∙_, subst}
 use mathlib.Core.Bool.{Bool, true, false, not, _&&_}
 use mathlib.Core.List.{[], _∷_}
@@ -10,14 +10,14 @@ use Rattle.words.specs.RowSet.{RowSet, has, replaced}
 use Rattle.words.specs.Word.{Letter, E, Et, D, Dinv, Word}
 use Rattle.words.specs.Walk.{State, moved, movedIf, scaled, act, walk}
 use Rattle.words.proofs.RowSets.{length-replaced}
-use Rattle.words.proofs.Walks.{Rows, All, Move, under, act-under, act-false}
+use Rattle.words.proofs.Walks.{Rows, All, Move, under, act-under}
 
 -- the same numbers at the sets of n rows
 abbrev pub Agree : {A : Type 0} → ℕ → (ω η : RowSet → A) → Type 0
 Agree n ω η = (S : RowSet) → length S ≡ n → ω S ≡ η S
 
-pub agree-under : {A : Type 0} (n : ℕ) (ω η : RowSet → A) → Agree (suc n) ω η → (x : Bool) → Agree n (under x ω) (under x η)
-agree-under n ω η h x S s = h (x ∷ S) (ap suc s)
+pub agree-under : {A : Type 0} {n : ℕ} {ω η : RowSet → A} (x : Bool) → Agree (suc n) ω η → Agree n (under x ω) (under x η)
+agree-under x h S s = h (x ∷ S) (ap suc s)
 
 module _ (K : Arithmetic) where
   open Arithmetic K using (Num, add, mul, div)
@@ -53,6 +53,3 @@ module _ (K : Arithmetic) where
 
   pub rows-under : (n : ℕ) (x : Bool) (l : Letter Num) → Move K l → Rows n l → Under n x l
   rows-under n x l m h ω S s = act-under K l m ω x S (subst (λ k. Rows k l) (sym s) h)
-
-  pub rows-false : (n : ℕ) (l : Letter Num) → Rows n l → Under n false l
-  rows-false n l h ω S s = act-false K l ω S (subst (λ k. Rows k l) (sym s) h)

@@ -1,12 +1,14 @@
--- Words whose letters correspond one by one (`Each P`): one set of laws for the word of a matrix, words joined, the inverse's and the converse's word, and the words of steps.
-use mathlib.Core.Path.{_≡_, refl, sym, ap, ap₂, _∙_, subst}
+-- Words whose letters correspond one by one (`Each P`): the word of a matrix (each-word), words joined (each-append), the inverse's word and the converse's
+-- (each-inverse, each-converse). So the words of steps whose sources are alike (Alike, AlikeSteps): letters-joined. Steps are alike in other numbers (alike-each).
+-- A word corresponds to itself in its weights and entries (letters-self).
+use mathlib.Core.Path.{_≡_, refl, sym, ap}
 use mathlib.Core.List.{List, [], _∷_, _++_}
-use Prim.Native.Nat.{ℕ, zero, suc, _+_, _-_, _*_, _≤_, _<_}
+use Prim.Native.Nat.{ℕ, zero, suc, _+_, _-_, _≤_, _<_}
 use native.Mathlib.Omega.{arith}
-use lib.ListN.{length}
-use Rattle.words.specs.Word.{Factors, Letter, E, Et, D, Dinv, Word, ascending, descending, forUp, forDown, word, inverseLetter, inverseWord, converseLetter, converseWord, exchanged}
-use Rattle.words.specs.Operation.{Way, plain, inverted, conversed, transposed, Step, step, stepWord, joinedWord}
+use Rattle.words.specs.Word.{Factors, Letter, E, Et, D, Dinv, Word, ascending, descending, forUp, word, inverseLetter, inverseWord, converseLetter, converseWord, exchanged}
+use Rattle.words.specs.Operation.{Way, plain, inverted, conversed, transposed, Step, step, stepWord, joinedWord, eachSteps}
 use Rattle.words.proofs.Walks.{All}
+use Rattle.words.proofs.Steps.{Sources, Weights}
 use Rattle.words.proofs.Related.{Each, Letters}
 
 module _ {A B : Type 0} (P : Letter A → Letter B → Type 0) where
@@ -56,10 +58,13 @@ module _ {A B : Type 0} (P : Letter A → Letter B → Type 0) where
   each-converse n h [] [] g = tt
   each-converse n h (x ∷ U) (y ∷ X) g = (h x y (g .0), each-converse n h U X (g .1))
 
--- a word against itself
-pub each-all : {A : Type 0} (P : Letter A → Type 0) (W : Word A) → Each (λ x y. P x) W W → All P W
-each-all P [] h = tt
-each-all P (l ∷ W) h = (h .0, each-all P W (h .1))
+-- A WORD AND ITSELF, where only the weights and entries of one side are looked at
+pub letters-self : {A : Type 0} (P Q : A → Type 0) (n : ℕ) (W : Word A) → All (Weights P Q n) W → Each (Letters (λ w v. P w) (λ e f. Q e) n) W W
+letters-self P Q n [] h = tt
+letters-self P Q n (E j w ∷ W) h = ((refl, h .0), letters-self P Q n W (h .1))
+letters-self P Q n (Et j w ∷ W) h = ((refl, h .0), letters-self P Q n W (h .1))
+letters-self P Q n (D e ∷ W) h = (λ i x y. h .0 i (x, y), letters-self P Q n W (h .1))
+letters-self P Q n (Dinv e ∷ W) h = (λ i x y. h .0 i (x, y), letters-self P Q n W (h .1))
 
 -- THE WORDS OF STEPS whose factors are related, by P off the diagonal and by Q on it
 module _ {A B : Type 0} (P Q : A → B → Type 0) (n : ℕ) where
@@ -113,3 +118,11 @@ module _ {A B : Type 0} (P Q : A → B → Type 0) (n : ℕ) where
   letters-joined (s ∷ s′ ∷ L) (t ∷ []) h = absurd (h .1)
   letters-joined (s ∷ s′ ∷ L) (t ∷ t′ ∷ M) h =
       each-append (Letters P Q n) (stepWord n s) (stepWord n t) (joinedWord n (s′ ∷ L)) (joinedWord n (t′ ∷ M)) (letters-step s t (h .0)) (letters-joined (s′ ∷ L) (t′ ∷ M) (h .1))
+
+  -- sources whose factors are in R, beside the same steps in other numbers
+  pub alike-each : (R : A → Type 0) (f : A → B) → ((x : A) → R x → P x (f x)) → ((x : A) → R x → Q x (f x)) → (L : List (Step A)) → Sources R n L → AlikeSteps L (eachSteps f L)
+  alike-each R f p q [] h = tt
+  alike-each R f p q (step w b ∷ L) h = (
+    alike (record { off = λ i j x y z v e. p (b i j) (h .0 i j (x, y) (z, v)); on = λ i x y. q (b i i) (h .0 i i (x, y) (x, y)) }),
+    alike-each R f p q L (h .1),
+  )

@@ -1,13 +1,14 @@
--- How many letters the words have: a word of n rows has n² - n letters E and Et and one D (word-cost), and m joined words m times as many (joined-cost).
+-- How many letters the words have: a word of n rows has n² - n letters E and Et and one D (word-cost), and m joined words m times as many (joined-cost); where each of the
+-- n entries of D costs as much as a letter E or Et, m n² such costs (joined-square).
 use mathlib.Core.Path.{_≡_, refl, sym, ap, ap₂, _∙_}
 use mathlib.Core.List.{List, [], _∷_, _++_}
 use Prim.Native.Nat.{ℕ, zero, suc, _+_, _-_, _*_, _≤_, _<_}
-use native.Mathlib.Nat.{zero-add}
+use native.Mathlib.Nat.{mul-le-mul}
 use native.Mathlib.Omega.{arith}
 use lib.ListN.{length}
 use Rattle.words.specs.Word.{Factors, Letter, E, Et, D, Dinv, Word, ascending, descending, forUp, forDown, word, inverseLetter, inverseWord, converseLetter, converseWord, exchanged}
 use Rattle.words.proofs.Related.{total, letterCost}
-use Rattle.words.specs.Operation.{Way, plain, inverted, conversed, transposed, Step, step, stepWord, joinedWord}
+use Rattle.words.specs.Operation.{plain, inverted, conversed, transposed, Step, step, stepWord, joinedWord}
 
 -- twice the two halves of a word of n = k + 1 rows, and D
 halves : (e d x y k n : ℕ) → n ≡ suc k → 2 * x + e * k ≡ e * k * (2 * 1 + k) → 2 * y ≡ e * k * (k + 1) → x + (d + y) ≡ e * (n * n - n) + d
@@ -18,7 +19,7 @@ halves e d x y k n f p q =
 
 -- a sum over letters that all E and Et share, e, and all D share, d
 module _ {A : Type 0} (f : Letter A → ℕ) where
-  total-append : (U W : Word A) → total f (U ++ W) ≡ total f U + total f W
+  pub total-append : (U W : Word A) → total f (U ++ W) ≡ total f U + total f W
   unfolding total
   total-append [] W = omega arith
   total-append (l ∷ U) W = omega (arith, total-append U W)
@@ -120,3 +121,19 @@ joined-cost a d n L l = joined-total (letterCost a d) a d (λ j w. (refl, refl))
 
 pub word-cost : {A : Type 0} (a d n : ℕ) (b : Factors A) → 1 ≤ n → total (letterCost a d) (word n b) ≡ a * (n * n - n) + d
 word-cost a d n b l = word-total (letterCost a d) a d (λ j w. (refl, refl)) (λ g. (refl, refl)) n b l
+
+-- n rows are at most n² cells
+pub row-square : (n : ℕ) → 1 ≤ n → n ≤ n * n
+row-square n l = let h : 1 * n ≤ n * n = mul-le-mul l (let z : n ≤ n = omega arith in z) in omega arith
+
+pub joined-square : {A : Type 0} (k n : ℕ) (L : List (Step A)) → 1 ≤ n → total (letterCost k (n * k)) (joinedWord n L) ≡ k * (length L * (n * n))
+joined-square k n L l = joined-cost k (n * k) n L l ∙ ap (λ (z : ℕ). length L * z) one ∙ turned k (length L) (n * n)
+  where
+    part : (k n z : ℕ) → k * z + n * k ≡ k * (z + n)
+    part k n z = omega arith
+
+    one : k * (n * n - n) + n * k ≡ k * (n * n)
+    one = part k n (n * n - n) ∙ ap (λ (z : ℕ). k * z) (let e : n * n - n + n ≡ n * n = omega (arith, row-square n l) in e)
+
+    turned : (k m z : ℕ) → m * (k * z) ≡ k * (m * z)
+    turned k m z = omega arith

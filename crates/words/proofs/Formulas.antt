@@ -1,80 +1,18 @@
--- The row sets of the formulas, their counts (count-rows, put-rows), and THE FORMULAS OVER RELATED MINORS: new factors of related minors are related (newFactor-related).
-use mathlib.Core.Path.{_≡_, refl, sym, ap, ap₂, _∙_, subst}
-use mathlib.Core.Bool.{Bool, true, false, cond, _&&_}
-use mathlib.Core.List.{List, [], _∷_}
-use Prim.Native.Nat.{ℕ, zero, suc, _+_, _-_, _≤_, _<_}
-use native.Mathlib.Decide.{ℕ-discrete, decLe}
+-- The row sets of the formulas as document 01 writes them (corner-is, corner-before, before-is), and THE FORMULAS OVER RELATED MINORS: new factors of related minors are related
+-- (newFactor-related).
+use mathlib.Core.Path.{_≡_, refl, sym, ap, ap₂, _∙_}
+use mathlib.Core.Bool.{Bool, true, false}
+use Prim.Native.Nat.{ℕ, suc, _+_, _-_, _≤_, _<_}
+use native.Mathlib.Decide.{ℕ-discrete}
 use native.Mathlib.Omega.{arith}
-use lib.Dec.{eqb, leb, ltb}
+use lib.Dec.{eqb, ltb}
 use lib.ListN.{length}
-use borrow.Author.Tests.{le-leb, lt-leb, eq-eqb, ne-eqb, eqb-true, eqb-false, ltb-true, ltb-false}
+use borrow.Author.Tests.{eqb-false, ltb-true, ltb-false}
 use Rattle.fraction.specs.Arithmetic.{Arithmetic}
 use Rattle.words.specs.RowSet.{RowSet, put, count, rows}
 use Rattle.words.specs.Formula.{runBefore, onDiagonal, belowDiagonal, factorBy, newFactor}
-use Rattle.words.proofs.RowSets.{put-top, put-under, length-put, length-rows}
-
--- THE HIGHEST ROW of a run: in it, or not
-pub rows-in : (n a b : ℕ) → a ≤ suc n → suc n ≤ b → rows (suc n) a b ≡ true ∷ rows n a b
-unfolding rows
-rows-in n a b h g = ap₂ (λ x y. (x && y) ∷ rows n a b) (le-leb a (suc n) h) (le-leb (suc n) b g)
-
-pub rows-under : (n a b : ℕ) → suc n < a → rows (suc n) a b ≡ false ∷ rows n a b
-unfolding rows
-rows-under n a b h = ap (λ x. (x && leb (suc n) b) ∷ rows n a b) (lt-leb a (suc n) h)
-
-pub rows-over : (n a b : ℕ) → b < suc n → rows (suc n) a b ≡ false ∷ rows n a b
-unfolding rows
-rows-over n a b h = ap (λ y. (leb a (suc n) && y) ∷ rows n a b) (lt-leb (suc n) b h) ∙ ap (λ x. x ∷ rows n a b) (no (leb a (suc n)))
-  where
-    no : (x : Bool) → (x && false) ≡ false
-    no true = refl
-    no false = refl
-
--- rows beyond n are none of n rows
-pub rows-beyond : (n a b c : ℕ) → n ≤ b → n ≤ c → rows n a b ≡ rows n a c
-unfolding rows
-rows-beyond zero a b c h g = refl
-rows-beyond (suc n) a b c h g = ap₂ (λ y S. (leb a (suc n) && y) ∷ S) (le-leb (suc n) b h ∙ sym (le-leb (suc n) c g)) (rows-beyond n a b c (omega arith) (omega arith))
-
--- there is no row 0
-pub rows-zero : (n b : ℕ) → rows n 0 b ≡ rows n 1 b
-unfolding rows
-rows-zero zero b = refl
-rows-zero (suc n) b = ap₂ (λ x S. (x && leb (suc n) b) ∷ S) (le-leb 0 (suc n) (omega arith) ∙ sym (le-leb 1 (suc n) (omega arith))) (rows-zero n b)
-
--- an empty run has no highest row
-pub rows-none : (n a b : ℕ) → b < a → rows (suc n) a b ≡ false ∷ rows n a b
-rows-none n a b h = elim (decLe b n) [ yes g ↦ rows-over n a b (omega arith) | no g ↦ rows-under n a b (omega arith) ]
-
-pub count-rows : (n a b : ℕ) → 1 ≤ a → b ≤ n → count (rows n a b) ≡ suc b - a
-unfolding count rows
-count-rows zero a b h g = omega arith
-count-rows (suc n) a b h g =
-    elim (decLe b n) [
-      | yes l ↦ ap count (rows-over n a b (omega arith)) ∙ count-rows n a b h l
-      | no l ↦ elim (decLe a (suc n)) [
-        | yes m ↦
-            ap count (rows-in n a b m (omega arith)) ∙ ap suc (ap count (rows-beyond n a b n (omega arith) (omega arith)) ∙ count-rows n a n h (omega arith)) ∙ omega arith
-        | no m ↦
-            ap count (rows-under n a b (omega arith)) ∙ ap count (rows-beyond n a b n (omega arith) (omega arith)) ∙ count-rows n a n h (omega arith) ∙ omega arith
-      ]
-    ]
-
--- row i put to the rows a .. i - 1
-pub put-rows : (n a i : ℕ) → 1 ≤ i → i ≤ n → a ≤ i → put i true (rows n a (i - 1)) ≡ rows n a i
-put-rows zero a i h g l = absurd (omega arith)
-put-rows (suc n) a i h g l =
-    elim (ℕ-discrete i (suc n)) [
-      | yes e ↦
-          let z : i ≡ suc (length (rows n a (i - 1))) = e ∙ ap suc (sym (length-rows n a (i - 1))) in
-          ap (put i true) (rows-over n a (i - 1) (omega arith))
-          ∙ ap (λ k. put k true (false ∷ rows n a (i - 1))) z ∙ put-top true false (rows n a (i - 1))
-          ∙ ap (λ S. true ∷ S) (rows-beyond n a (i - 1) i (omega arith) (omega arith)) ∙ sym (rows-in n a i (omega arith) (omega arith))
-      | no e ↦
-          ap (put i true) (rows-over n a (i - 1) (omega arith))
-          ∙ put-under i true false (rows n a (i - 1)) (omega (arith, length-rows n a (i - 1)))
-          ∙ ap (λ S. false ∷ S) (put-rows n a i h (omega arith) l) ∙ sym (rows-over n a i (omega arith))
-    ]
+use Rattle.words.proofs.RowSets.{length-put, length-rows}
+use Rattle.words.proofs.Runs.{count-rows, put-rows}
 
 -- the sets of the formula below the diagonal, as document 01 writes them
 module _ (k i j : ℕ) (low : 1 ≤ j) (order : j < i) (high : i ≤ k) where

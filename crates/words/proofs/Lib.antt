@@ -1,9 +1,14 @@
 pub mod RowSets
+pub mod Runs
+pub mod Chosen
 pub mod Walks
 pub mod Agree
 pub mod Words
 pub mod Stages
+pub mod Steps
 pub mod Related
 pub mod Alike
 pub mod Counts
 pub mod Formulas
+pub mod Exponents
+pub mod Examples

@@ -1,10 +1,10 @@
 -- THE GRADED WALK LEMMA: a relation between the numbers of two arithmetics that a letter keeps is kept by a walk (walk-related), and by a minor (minor-related).
 -- The relation is graded, as by an error so far: a letter E or Et takes a grade to another, and so does each entry of D that is multiplied or divided by.
 -- Instances: rounded numbers within so many unit roundings of fractions; exponents that reach so far; fractions that stand for elements of a ring.
-use mathlib.Core.Path.{_≡_, refl, sym, ap, ap₂, _∙_, subst}
+use mathlib.Core.Path.{_≡_, refl, ap, _∙_, subst}
 use mathlib.Core.Bool.{Bool, true, false, not, cond, _&&_}
-use mathlib.Core.List.{List, [], _∷_, _++_}
-use Prim.Native.Nat.{ℕ, zero, suc, _+_, _-_, _*_, _≤_, _<_}
+use mathlib.Core.List.{[], _∷_, _++_}
+use Prim.Native.Nat.{ℕ, zero, suc, _+_, _-_, _*_, _≤_}
 use native.Mathlib.Omega.{arith}
 use lib.ListN.{length}
 use Rattle.fraction.specs.Arithmetic.{Arithmetic}
@@ -101,11 +101,15 @@ module _ (A B : Arithmetic) (G : Type 0) (Rel : G → A .Num → B .Num → Type
   module _ (f : A .Num → A .Num → A .Num) (h : B .Num → B .Num → B .Num)
       (kept : (g : G) (x e : A .Num) (y d : B .Num) → Rel g x y → Entry e d → Rel (afterEntry g) (f x e) (h y d))
       (e : ℕ → A .Num) (d : ℕ → B .Num) (entries : (i : ℕ) → 1 ≤ i → i ≤ n → Entry (e i) (d i)) where
-    scaled-related : (S : RowSet) → length S ≤ n → (g : G) (x : A .Num) (y : B .Num) → Rel g x y → Rel (repeated (length S) afterEntry g) (scaled A f e S x) (scaled B h d S y)
+    pub scaled-related : (S : RowSet) → length S ≤ n → (g : G) (x : A .Num) (y : B .Num) → Rel g x y → Rel (repeated (length S) afterEntry g) (scaled A f e S x) (scaled B h d S y)
     unfolding scaled repeated
     scaled-related [] l g x y r = r
     scaled-related (true ∷ S) l g x y r = kept _ _ _ _ _ (scaled-related S (omega arith) g x y r) (entries (suc (length S)) (omega arith) l)
     scaled-related (false ∷ S) l g x y r = rel-skips _ _ _ (scaled-related S (omega arith) g x y r)
+
+    scaled-states : (g : G) (ω : State A) (η : State B) → States g ω η → States (repeated n afterEntry g) (λ S. scaled A f e S (ω S)) (λ S. scaled B h d S (η S))
+    scaled-states g ω η r S s =
+        subst (λ (k : ℕ). Rel (repeated k afterEntry g) (scaled A f e S (ω S)) (scaled B h d S (η S))) s (scaled-related S (omega (arith, s)) g _ _ (r S s))
 
   act-related : (l : Letter (A .Num)) (m : Letter (B .Num)) → Letters Weight Entry n l m → (g : G) (ω : State A) (η : State B) → States g ω η → States (afterLetter l g) (act A l ω) (act B m η)
   unfolding act
@@ -113,10 +117,8 @@ module _ (A B : Arithmetic) (G : Type 0) (Rel : G → A .Num → B .Num → Type
       subst (λ (k : ℕ). Rel (afterMove g) (moved A j (j - 1) w ω S) (moved B k (k - 1) v η S)) (h .0) (moved-related j (j - 1) g w v (h .1) ω η r S s)
   act-related (Et j w) (Et i v) h g ω η r S s =
       subst (λ (k : ℕ). Rel (afterMove g) (moved A (j - 1) j w ω S) (moved B (k - 1) k v η S)) (h .0) (moved-related (j - 1) j g w v (h .1) ω η r S s)
-  act-related (D e) (D f) h g ω η r S s =
-      subst (λ (k : ℕ). Rel (repeated k afterEntry g) (scaled A (A .mul) e S (ω S)) (scaled B (B .mul) f S (η S))) s (scaled-related (A .mul) (B .mul) rel-times e f h S (omega (arith, s)) g _ _ (r S s))
-  act-related (Dinv e) (Dinv f) h g ω η r S s =
-      subst (λ (k : ℕ). Rel (repeated k afterEntry g) (scaled A (A .div) e S (ω S)) (scaled B (B .div) f S (η S))) s (scaled-related (A .div) (B .div) rel-over e f h S (omega (arith, s)) g _ _ (r S s))
+  act-related (D e) (D f) h g ω η r S s = scaled-states (A .mul) (B .mul) rel-times e f h g ω η r S s
+  act-related (Dinv e) (Dinv f) h g ω η r S s = scaled-states (A .div) (B .div) rel-over e f h g ω η r S s
 
   pub walk-related : (W : Word (A .Num)) (X : Word (B .Num)) → Each (Letters Weight Entry n) W X → (g : G) (ω : State A) (η : State B) → States g ω η → States (after W g) (walk A W ω) (walk B X η)
   unfolding walk after
@@ -140,7 +142,7 @@ module _ (A B : Arithmetic) (G : Type 0) (Rel : G → A .Num → B .Num → Type
 
   -- a measure of the grades to which each letter E or Et adds a, and each entry of D e
   module _ (measure : G → ℕ) (a e : ℕ) (moving : (g : G) → measure (afterMove g) ≡ measure g + a) (entering : (g : G) → measure (afterEntry g) ≡ measure g + e) where
-    repeated-measure : (m : ℕ) (g : G) → measure (repeated m afterEntry g) ≡ measure g + m * e
+    pub repeated-measure : (m : ℕ) (g : G) → measure (repeated m afterEntry g) ≡ measure g + m * e
     unfolding repeated
     repeated-measure zero g = omega arith
     repeated-measure (suc m) g = omega (arith, entering (repeated m afterEntry g), repeated-measure m g)

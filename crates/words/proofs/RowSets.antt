@@ -1,14 +1,21 @@
--- Laws of row sets: the highest row and the rows under it (has-top, has-under, put-top, put-under), lengths, and consecutive rows
--- (has-rows, rows-above, rows-run).
-use mathlib.Core.Path.{_≡_, refl, sym, ap, ap₂, _∙_}
-use mathlib.Core.Bool.{Bool, true, false, cond, _&&_}
+-- Laws of row sets: the rows 1 .. n (in-under, in-top); the highest row and the rows under it (has-top, has-under, put-top, put-under, replaced-down, replaced-up);
+-- lengths (length-put, length-replaced, length-rows); the rows of a run (has-rows); sets that are equal (equal-same, equal-true).
+use mathlib.Core.Path.{_≡_, refl, sym, ap, _∙_}
+use mathlib.Core.Bool.{Bool, true, false, cond, _&&_, false≢true}
 use mathlib.Core.List.{[], _∷_}
-use Prim.Native.Nat.{ℕ, zero, suc, _+_, _≤_, _<_}
+use Prim.Native.Nat.{ℕ, zero, suc, _≤_}
 use native.Mathlib.Omega.{arith}
 use lib.Dec.{eqb, leb}
 use lib.ListN.{length}
-use borrow.Author.Tests.{eq-eqb, ne-eqb, le-leb, lt-leb, leb-true, leb-false}
-use Rattle.words.specs.RowSet.{RowSet, has, put, replaced, rows}
+use borrow.Author.Tests.{eq-eqb, ne-eqb, leb-true, leb-false}
+use Rattle.words.specs.RowSet.{In, RowSet, has, put, replaced, equal, rows}
+
+-- a row of n is one of n + 1, and so is the highest
+pub in-under : {n i : ℕ} → In n i → In (suc n) i
+in-under h = (h .0, omega (arith, h .1))
+
+pub in-top : (n : ℕ) → In (suc n) (suc n)
+in-top n = (omega arith, omega arith)
 
 -- the highest row, and the others
 pub has-top : (x : Bool) (S : RowSet) → has (suc (length S)) (x ∷ S) ≡ x
@@ -58,24 +65,7 @@ unfolding rows
 length-rows zero a b = refl
 length-rows (suc n) a b = ap suc (length-rows n a b)
 
--- consecutive rows, by the highest row: past the last, one of them, before the first
-rows-head : (n a b : ℕ) (x y : Bool) → leb a (suc n) ≡ x → leb (suc n) b ≡ y → rows (suc n) a b ≡ (x && y) ∷ rows n a b
-unfolding rows
-rows-head n a b x y p q = ap₂ (λ x y. (x && y) ∷ rows n a b) p q
-
-pub rows-above : (n a b : ℕ) → b ≤ n → rows (suc n) a b ≡ false ∷ rows n a b
-rows-above n a b h = rows-head n a b (leb a (suc n)) false refl (lt-leb (suc n) b (omega arith)) ∙ by (leb a (suc n))
-  where
-    by : (x : Bool) → (x && false) ∷ rows n a b ≡ false ∷ rows n a b
-    by true = refl
-    by false = refl
-
-pub rows-in : (n a b : ℕ) → a ≤ suc n → suc n ≤ b → rows (suc n) a b ≡ true ∷ rows n a b
-rows-in n a b h g = rows-head n a b true true (le-leb a (suc n) h) (le-leb (suc n) b g)
-
-pub rows-below : (n a b : ℕ) → suc n < a → rows (suc n) a b ≡ false ∷ rows n a b
-rows-below n a b h = rows-head n a b false (leb (suc n) b) (lt-leb a (suc n) h) refl
-
+-- the rows of a run
 pub has-rows : (n i a b : ℕ) → 1 ≤ i → i ≤ n → has i (rows n a b) ≡ leb a i && leb i b
 unfolding rows
 has-rows zero i a b p q = absurd (omega arith)
@@ -90,28 +80,19 @@ has-rows (suc n) i a b p q = by (leb i n) refl (has-rows n i a b p)
         let g : i ≡ suc (length (rows n a b)) = omega (arith, length-rows n a b) in
         ap (λ k. has k ((leb a (suc n) && leb (suc n) b) ∷ rows n a b)) g ∙ has-top _ (rows n a b) ∙ ap (λ k. leb a k && leb k b) (sym h)
 
--- S under j higher rows, all of them in the set (true) or none (false)
-abbrev pub topped : Bool → ℕ → RowSet → RowSet
-topped x zero S = S
-topped x (suc j) S = x ∷ topped x j S
+-- sets that are one set
+pub equal-same : (S : RowSet) → equal S S ≡ true
+unfolding equal
+equal-same [] = refl
+equal-same (true ∷ S) = equal-same S
+equal-same (false ∷ S) = equal-same S
 
-pub length-topped : (x : Bool) (j : ℕ) (S : RowSet) → length (topped x j S) ≡ j + length S
-length-topped x zero S = omega arith
-length-topped x (suc j) S = ap suc (length-topped x j S) ∙ omega arith
-
--- r rows before the first of the consecutive rows, and j of these on top
-rows-before : (r a b : ℕ) → r < a → rows r a b ≡ topped false r []
-unfolding rows
-rows-before zero a b h = refl
-rows-before (suc r) a b h = rows-below r a b h ∙ ap (λ S. false ∷ S) (rows-before r a b (omega arith))
-
-rows-top : (n j r b : ℕ) → n ≡ j + r → n ≤ b → rows n (suc r) b ≡ topped true j (topped false r [])
-rows-top n zero r b e h = ap (λ k. rows k (suc r) b) (omega arith) ∙ rows-before r (suc r) b (omega arith)
-rows-top zero (suc j) r b e h = absurd (omega arith)
-rows-top (suc n) (suc j) r b e h = rows-in n (suc r) b (omega arith) h ∙ ap (λ S. true ∷ S) (rows-top n j r b (omega arith) (omega arith))
-
--- the rows r + 1 .. r + j: r rows, j rows of the set on them, p rows on these
-pub rows-run : (n p j r : ℕ) → n ≡ p + (j + r) → rows n (suc r) (r + j) ≡ topped false p (topped true j (topped false r []))
-rows-run n zero j r e = rows-top n j r (r + j) (omega arith) (omega arith)
-rows-run zero (suc p) j r e = absurd (omega arith)
-rows-run (suc n) (suc p) j r e = rows-above n (suc r) (r + j) (omega arith) ∙ ap (λ S. false ∷ S) (rows-run n p j r (omega arith))
+pub equal-true : (S T : RowSet) → equal S T ≡ true → S ≡ T
+unfolding equal
+equal-true [] [] h = refl
+equal-true [] (y ∷ T) h = absurd (false≢true h)
+equal-true (x ∷ S) [] h = absurd (false≢true h)
+equal-true (true ∷ S) (true ∷ T) h = ap (λ X. true ∷ X) (equal-true S T h)
+equal-true (true ∷ S) (false ∷ T) h = absurd (false≢true h)
+equal-true (false ∷ S) (true ∷ T) h = absurd (false≢true h)
+equal-true (false ∷ S) (false ∷ T) h = ap (λ X. false ∷ X) (equal-true S T h)

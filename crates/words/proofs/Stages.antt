@@ -101,11 +101,14 @@ module _ {A : Type 0} where
   stages-all P n k (suc m) b h f =
       all-append P (stage n k b) _ (stage-all P n k b (λ i j e p o q. f i j p (omega arith) q)) (stages-all P n (suc k) m b (omega arith) f)
 
+  pub transposed-stages-all : (P : Letter A → Type 0) (n k m : ℕ) (b : Factors A) → m ≤ n - k → ((i j : ℕ) → 1 ≤ j → j < i → i ≤ n → P (Et i (b i j))) → All P (transposedWord (stages n k m b))
+  transposed-stages-all P n k m b h f = transposed-all (λ l. P (transposedLetter l)) P (λ l g. g) (stages n k m b) (stages-all (λ l. P (transposedLetter l)) n k m b h f)
+
   pub word-all : (P : Letter A → Type 0) (n : ℕ) (b : Factors A) → ((i j : ℕ) → 1 ≤ j → j < i → i ≤ n → P (E i (b i j)))
       → P (D (λ i. b i i)) → ((i j : ℕ) → 1 ≤ j → j < i → i ≤ n → P (Et i (b j i))) → All P (word n b)
   word-all P n b f d g =
       subst (All P) (sym (word-stages n b)) (all-append P (stages n 1 (n - 1) b) _ (stages-all P n 1 (n - 1) b (omega arith) f)
-      (d, transposed-all (λ l. P (transposedLetter l)) P (λ l h. h) _ (stages-all (λ l. P (transposedLetter l)) n 1 (n - 1) (exchanged b) (omega arith) g)))
+      (d, transposed-stages-all P n 1 (n - 1) (exchanged b) (omega arith) g))
 
   -- letters E j alone, with a < j and j ≤ n
   abbrev pub Raises : ℕ → ℕ → Letter A → Type 0

@@ -1,15 +1,16 @@
--- Laws of the walk over any arithmetic: words joined (walk-append), letters under the highest row (act-under), and at the two highest rows (raise-top, lower-top).
-use mathlib.Core.Path.{_≡_, refl, sym, ap, ap₂, _∙_, subst, fun-ext}
+-- Laws of the walk over any arithmetic: words joined (walk-append, carry-append), the start at its own set (oneAt-same), letters under the highest row (act-under, act-false),
+-- and at the two highest rows (raise-top, lower-top). What holds of every letter of a word (All), as that its rows are among 1 .. n (Rows).
+use mathlib.Core.Path.{_≡_, refl, ap, ap₂, _∙_}
 use mathlib.Core.Bool.{Bool, true, false, not, cond, _&&_}
-use mathlib.Core.List.{List, [], _∷_, _++_}
-use Prim.Native.Nat.{ℕ, zero, suc, _-_, _≤_, _<_}
+use mathlib.Core.List.{[], _∷_, _++_}
+use Prim.Native.Nat.{ℕ, zero, suc, _-_, _≤_}
 use native.Mathlib.Omega.{arith}
 use lib.ListN.{length}
 use Rattle.fraction.specs.Arithmetic.{Arithmetic}
-use Rattle.words.specs.RowSet.{RowSet, has, replaced}
+use Rattle.words.specs.RowSet.{RowSet, has}
 use Rattle.words.specs.Word.{Letter, E, Et, D, Dinv, Word}
-use Rattle.words.specs.Walk.{State, oneAt, moved, movedIf, scaled, act, walk, minor, carryLetter, carry}
-use Rattle.words.proofs.RowSets.{has-top, has-under, length-replaced, replaced-under, replaced-down, replaced-up}
+use Rattle.words.specs.Walk.{State, oneAt, moved, movedIf, scaled, act, walk, carryLetter, carry}
+use Rattle.words.proofs.RowSets.{equal-same, has-top, has-under, replaced-under, replaced-down, replaced-up}
 
 -- A letter has its rows among 1 .. n, and so has a word's every letter.
 abbrev pub Rows : {A : Type 0} → ℕ → Letter A → Type 0
@@ -26,12 +27,16 @@ pub all-append : {A : Type 0} (P : Letter A → Type 0) (U W : Word A) → All P
 all-append P [] W u w = w
 all-append P (l ∷ U) W u w = (u .0, all-append P U W (u .1) w)
 
+pub all-behind : {A : Type 0} (P : Letter A → Type 0) (U W : Word A) → All P (U ++ W) → All P W
+all-behind P [] W h = h
+all-behind P (l ∷ U) W h = all-behind P U W (h .1)
+
 -- the states on the sets whose highest row is in (true), or not in (false)
 abbrev pub under : {A : Type 0} → Bool → (RowSet → A) → RowSet → A
 under x ω S = ω (x ∷ S)
 
 module _ (K : Arithmetic) where
-  open Arithmetic K using (Num, add, mul, div)
+  open Arithmetic K using (Num, add, mul)
 
   pub walk-append : (U W : Word Num) (ω : State K) → walk K (U ++ W) ω ≡ walk K U (walk K W ω)
   unfolding walk
@@ -42,6 +47,11 @@ module _ (K : Arithmetic) where
   unfolding carry
   carry-append [] W v = refl
   carry-append (l ∷ U) W v = ap (carryLetter K l) (carry-append U W v)
+
+  -- the start, at its own set
+  pub oneAt-same : (S : RowSet) → oneAt K S S ≡ K .one
+  unfolding oneAt
+  oneAt-same S = ap (λ t. cond t (K .one) (K .zero)) (equal-same S)
 
   -- what a move does where neither of its rows is the highest
   pub moved-under : (a o : ℕ) (w : Num) (ω : State K) (x : Bool) (S : RowSet) → a ≤ length S → o ≤ length S

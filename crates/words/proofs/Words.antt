@@ -1,15 +1,11 @@
--- Laws of words: every letter (all-map), loops (ascending-last), and the transposed word: reversed, with E and Et exchanged
--- (transposedWord, transposed-append, transposed-transposed, transposed-ascending, transposed-all).
+-- Laws of words: loops (ascending-last); the transposed word, reversed with E and Et exchanged (transposedWord, transposed-append, transposed-transposed, transposed-ascending);
+-- and what holds of every letter (all-map, transposed-all, inverse-all, converse-all).
 use mathlib.Core.Path.{_≡_, refl, sym, ap, ap₂, _∙_}
 use mathlib.Core.List.{List, [], _∷_, _++_, append-nil, append-assoc}
 use Prim.Native.Nat.{ℕ, zero, suc, _+_, _-_}
 use native.Mathlib.Omega.{arith}
-use Rattle.words.specs.Word.{Letter, E, Et, D, Dinv, Word, ascending, descending}
+use Rattle.words.specs.Word.{Letter, E, Et, D, Dinv, Word, ascending, descending, inverseLetter, inverseWord, converseLetter, converseWord}
 use Rattle.words.proofs.Walks.{Rows, All, all-append}
-
-pub all-map : {A : Type 0} (P Q : Letter A → Type 0) → ((l : Letter A) → P l → Q l) → (W : Word A) → All P W → All Q W
-all-map P Q f [] h = tt
-all-map P Q f (l ∷ W) h = (f l (h .0), all-map P Q f W (h .1))
 
 module _ {A : Type 0} where
   pub ascending-last : (a c : ℕ) (f : ℕ → List A) → ascending a (suc c) f ≡ ascending a c f ++ f (a + c)
@@ -55,16 +51,46 @@ module _ {A : Type 0} where
       ap transposedWord (ascending-last a c f) ∙ transposed-append (ascending a c f) (f (a + c)) ∙ ap (λ L. transposedWord (f (a + c)) ++ L) (transposed-ascending a c f)
       ∙ ap (λ k. descending k (suc c) (λ i. transposedWord (f i))) e
 
-  pub transposed-all : (P Q : Letter A → Type 0) → ((l : Letter A) → P l → Q (transposedLetter l)) → (W : Word A) → All P W → All Q (transposedWord W)
-  unfolding transposedWord
-  transposed-all P Q f [] h = tt
-  transposed-all P Q f (l ∷ W) h = all-append Q (transposedWord W) (transposedLetter l ∷ []) (transposed-all P Q f W (h .1)) (f l (h .0), tt)
+-- EVERY LETTER: from a property P to a property Q
+module _ {A : Type 0} (P Q : Letter A → Type 0) where
+  pub all-map : ((l : Letter A) → P l → Q l) → (W : Word A) → All P W → All Q W
+  all-map f [] h = tt
+  all-map f (l ∷ W) h = (f l (h .0), all-map f W (h .1))
 
-  pub transposed-rows : (n : ℕ) (W : Word A) → All (Rows n) W → All (Rows n) (transposedWord W)
-  transposed-rows n = transposed-all (Rows n) (Rows n) one
+  pub transposed-all : ((l : Letter A) → P l → Q (transposedLetter l)) → (W : Word A) → All P W → All Q (transposedWord W)
+  unfolding transposedWord
+  transposed-all f [] h = tt
+  transposed-all f (l ∷ W) h = all-append Q (transposedWord W) (transposedLetter l ∷ []) (transposed-all f W (h .1)) (f l (h .0), tt)
+
+  pub inverse-all : ((l : Letter A) → P l → Q (inverseLetter l)) → (W : Word A) → All P W → All Q (inverseWord W)
+  unfolding inverseWord
+  inverse-all f [] h = tt
+  inverse-all f (l ∷ W) h = all-append Q (inverseWord W) (inverseLetter l ∷ []) (inverse-all f W (h .1)) (f l (h .0), tt)
+
+  pub converse-all : (n : ℕ) → ((l : Letter A) → P l → Q (converseLetter n l)) → (W : Word A) → All P W → All Q (converseWord n W)
+  unfolding converseWord
+  converse-all n f [] h = tt
+  converse-all n f (l ∷ W) h = (f l (h .0), converse-all n f W (h .1))
+
+-- rows stay among 1 .. n
+module _ {A : Type 0} (n : ℕ) where
+  pub transposed-rows : (W : Word A) → All (Rows n) W → All (Rows n) (transposedWord W)
+  transposed-rows = transposed-all (Rows n) (Rows n) one
     where
       one : (l : Letter A) → Rows n l → Rows n (transposedLetter l)
       one (E j w) h = h
       one (Et j w) h = h
       one (D e) h = h
       one (Dinv e) h = h
+
+  pub inverse-row : (l : Letter A) → Rows n l → Rows n (inverseLetter l)
+  inverse-row (E j w) h = h
+  inverse-row (Et j w) h = h
+  inverse-row (D e) h = h
+  inverse-row (Dinv e) h = h
+
+  pub converse-row : (l : Letter A) → Rows n l → Rows n (converseLetter n l)
+  converse-row (E j w) h = (omega (arith, h .1), omega (arith, h .0))
+  converse-row (Et j w) h = (omega (arith, h .1), omega (arith, h .0))
+  converse-row (D e) h = h
+  converse-row (Dinv e) h = h

@@ -3,3 +3,4 @@ pub mod Word
 pub mod Walk
 pub mod Formula
 pub mod Operation
+pub mod Examples

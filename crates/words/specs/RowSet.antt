@@ -1,9 +1,13 @@
 -- Row sets (document 01, "The rounded rule"). A set of n rows is a list of n Bools, the highest row first: the first Bool of x ∷ S is for row suc (length S).
 use mathlib.Core.Bool.{Bool, true, false, cond, _&&_}
 use mathlib.Core.List.{List, [], _∷_, _++_}
-use Prim.Native.Nat.{ℕ, zero, suc, _/_, _%_, _^_}
+use Prim.Native.Nat.{ℕ, zero, suc, _-_, _/_, _%_, _^_, _≤_}
 use lib.Dec.{eqb, leb}
-use lib.ListN.{length}
+use lib.ListN.{length, getD}
+
+-- i is one of the rows 1 .. n
+abbrev pub In : ℕ → ℕ → Type 0
+In n i = (1 ≤ i) × (i ≤ n)
 
 abbrev pub RowSet : Type 0
 RowSet = List Bool
@@ -53,6 +57,10 @@ unfoldable pub members : RowSet → List ℕ
 members [] = []
 members (true ∷ S) = members S ++ (suc (length S) ∷ [])
 members (false ∷ S) = members S
+
+-- the i-th of the chosen rows P, in ascending order
+abbrev pub chosen : RowSet → ℕ → ℕ
+chosen P i = getD (members P) (i - 1) 0
 
 -- S, a set that counts among the chosen rows P, as a set of all rows
 unfoldable pub among : RowSet → RowSet → RowSet

@@ -1,21 +1,17 @@
+-- `carried` meets its contract: by the one test on the mantissa.
 use borrow.Author.Tests.{eq-eqb, ne-eqb}
-use Rattle.number.specs.Number.{carried}
 use borrow.Author.Needs.{needs}
+use Rattle.number.specs.Number.{carried}
 use Rattle.number.proofs.carried.Statement.{statement}
 use Rattle.number.proofs.carried.Tie as tie
-use Rattle.number.proofs.carried.Reads as reads
-use Rattle.number.proofs.carried.Lts as lts
 
--- src/lib.rt:29:16
 add-t4 : tie.Need-add-t4
 add-t4 c = search needs
 
--- src/lib.rt:27:9
 returns : tie.Need-returns
 unfolding carried
 returns c = simp (eq-eqb _ _ (c .if1 .taken))
 
--- src/lib.rt:22:1
 returns-2 : tie.Need-returns-2
 unfolding carried
 returns-2 c = simp (ne-eqb _ _ (c .if1 .left))

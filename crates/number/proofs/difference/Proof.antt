@@ -1,17 +1,14 @@
+-- `difference` meets its contract: near operands are worked in full, and far ones round as the larger less an eighth.
 use mathlib.Core.Logic.{⊎-elim}
 use mathlib.Core.Path.{_≡_, refl, sym, ap, _∙_}
-use Prim.Native.Nat.{ℕ, _+_, _-_, _*_, _/_, _%_, _^_, _≤_, _<_}
+use Prim.Native.Nat.{ℕ, _+_, _-_, _*_, _^_, _≤_, _<_}
 use native.Mathlib.Omega.{arith}
-use lib.Pow.{pow-pos, pow-mono}
+use borrow.Author.Needs.{needs}
+use lib.Pow.{pow-mono}
 use Rattle.number.proofs.Exact.{sum-fits, difference-far}
 use Rattle.number.specs.Number.{round}
-use borrow.Author.Needs.{needs}
 use Rattle.number.proofs.difference.Statement.{statement}
 use Rattle.number.proofs.difference.Tie as tie
-use Rattle.number.proofs.difference.Reads as reads
-use Rattle.number.proofs.difference.Lts as lts
-use Rattle.number.proofs.power.Reads as power-reads
-use Rattle.number.proofs.whole.Reads as whole-reads
 
 fits : (c : tie.After-power) → (c .before .before .args .a * c .power .result < 2 ^ 64) × (c .before .before .args .a * c .power .result + c .before .before .args .b < 2 ^ 64)
 fits c =
@@ -28,45 +25,35 @@ quarter c e =
     let ne : k ≡ 33 → ⊥ = λ (f : k ≡ 33). ⊎-elim (λ w. w .1 .left e) (λ w. w .left f) (c .if2 .came) in
     omega (arith, pow-mono {i = 34} {j = k} (omega arith), s .pre .3)
 
--- src/lib.rt:101:13
 sub-k : tie.Need-sub-k
 sub-k c = search needs
 
--- src/lib.rt:103:26
 power-requires : tie.Need-power-requires
 power-requires c κs = search needs
 
--- src/lib.rt:103:22
 mul-whole : tie.Need-mul-whole
 mul-whole c = omega (arith, fits c)
 
--- src/lib.rt:103:22
 sub-whole : tie.Need-sub-whole
 sub-whole c = rw (c .power .ensures) (omega arith)
 
--- src/lib.rt:103:9
 whole-requires : tie.Need-whole-requires
 whole-requires c κs = rw (c .power .ensures) (omega arith)
 
--- src/lib.rt:103:9
 returns : tie.Need-returns
 returns c =
     let a = c .before .before .before .args in
     c .whole .ensures ∙ ap (λ (d : ℕ). round (a .a * d - a .b) 1 (a .j)) (c .before .power .ensures)
 
--- src/lib.rt:107:26
 sub-whole-2 : tie.Need-sub-whole-2
 sub-whole-2 c = search needs
 
--- src/lib.rt:107:26
 add-whole : tie.Need-add-whole
 add-whole c = search needs
 
--- src/lib.rt:107:13
 whole-requires-2 : tie.Need-whole-requires-2
 whole-requires-2 c κs = search needs
 
--- src/lib.rt:107:13
 returns-2 : tie.Need-returns-2
 returns-2 c =
     let b = c .before .before .before .before in
@@ -77,23 +64,18 @@ returns-2 c =
     let h : 18446744073709551615 - a .b + 1 ≡ a .a * 2 ^ (a .i - a .j) - a .b = omega arith in
     c .whole2 .ensures ∙ ap (λ (n : ℕ). round n 1 (a .j)) h
 
--- src/lib.rt:110:11
 mul-whole-2 : tie.Need-mul-whole-2
 mul-whole-2 c = search needs
 
--- src/lib.rt:110:11
 sub-whole-3 : tie.Need-sub-whole-3
 sub-whole-3 c = search needs
 
--- src/lib.rt:110:22
 sub-whole-4 : tie.Need-sub-whole-4
 sub-whole-4 c = search needs
 
--- src/lib.rt:110:5
 whole-requires-3 : tie.Need-whole-requires-3
 whole-requires-3 c κs = search needs
 
--- src/lib.rt:97:1
 returns-3 : tie.Need-returns-3
 returns-3 c =
     let b = c .before .before .before in

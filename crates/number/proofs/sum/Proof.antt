@@ -1,17 +1,14 @@
+-- `sum` meets its contract: near operands are summed in full, and far ones round as the larger with a quarter more.
 use mathlib.Core.Path.{_≡_, sym, ap, _∙_}
-use Prim.Native.Nat.{ℕ, _+_, _-_, _*_, _/_, _%_, _^_, _≤_, _<_}
+use Prim.Native.Nat.{ℕ, _+_, _-_, _*_, _^_, _≤_, _<_}
 use native.Mathlib.Nat.{mul-pos}
 use native.Mathlib.Omega.{arith}
+use borrow.Author.Needs.{needs}
 use lib.Pow.{pow-pos, pow-mono}
 use Rattle.number.proofs.Exact.{sum-fits, sum-far}
 use Rattle.number.specs.Number.{round}
-use borrow.Author.Needs.{needs}
 use Rattle.number.proofs.sum.Statement.{statement}
 use Rattle.number.proofs.sum.Tie as tie
-use Rattle.number.proofs.sum.Reads as reads
-use Rattle.number.proofs.sum.Lts as lts
-use Rattle.number.proofs.power.Reads as power-reads
-use Rattle.number.proofs.whole.Reads as whole-reads
 
 -- the power is from 1 to 2 ^ 32
 small : (c : tie.After-power) → (0 < c .power .result) × (c .power .result ≤ 2 ^ 32)
@@ -24,27 +21,21 @@ fits c =
     let p = c .before .before .pre in
     sum-fits _ _ _ (p .1) (p .2) (small c .1)
 
--- src/lib.rt:87:13
 sub-k : tie.Need-sub-k
 sub-k c = search needs
 
--- src/lib.rt:89:22
 mul-whole : tie.Need-mul-whole
 mul-whole c = search needs
 
--- src/lib.rt:89:22
 add-whole : tie.Need-add-whole
 add-whole c = search needs
 
--- src/lib.rt:89:33
 sub-whole : tie.Need-sub-whole
 sub-whole c = search needs
 
--- src/lib.rt:89:9
 whole-requires : tie.Need-whole-requires
 whole-requires c κs = search needs
 
--- src/lib.rt:89:9
 returns : tie.Need-returns
 returns c =
     let b = c .before .before in
@@ -55,23 +46,18 @@ returns c =
     c .whole .ensures ∙ sum-far (a .a) 1 (a .i - 2) 2 (omega arith) (b .pre .0) (b .pre .1) ∙ ap (λ (x : ℕ). record { m = a .a; x = x }) e
     ∙ sym (sum-far (a .a) (a .b) (a .j) k (omega (arith, b .pre .2)) (b .pre .0) (b .pre .1))
 
--- src/lib.rt:91:15
 power-requires : tie.Need-power-requires
 power-requires c κs = search needs
 
--- src/lib.rt:91:11
 mul-whole-2 : tie.Need-mul-whole-2
 mul-whole-2 c = omega (arith, fits c)
 
--- src/lib.rt:91:11
 add-whole-2 : tie.Need-add-whole-2
 add-whole-2 c = omega (arith, fits c)
 
--- src/lib.rt:91:5
 whole-requires-2 : tie.Need-whole-requires-2
 whole-requires-2 c κs = omega (arith, mul-pos {m = c .before .before .args .a} {n = c .power .result} (omega arith) (small c .0))
 
--- src/lib.rt:83:1
 returns-2 : tie.Need-returns-2
 returns-2 c =
     let a = c .before .before .before .args in

@@ -1,43 +1,35 @@
+-- `Number::add` meets its contract: zero operands, and the lower exponent second.
 use mathlib.Core.Path.{sym, _∙_}
 use native.Mathlib.Omega.{arith}
 use Rattle.number.proofs.Zero.{sum-is, sum-comm, sum-zero-left, sum-zero-right}
 use Rattle.number.proofs.Number.add.Statement.{statement}
 use Rattle.number.proofs.Number.add.Tie as tie
-use Rattle.number.proofs.Number.add.Reads as reads
-use Rattle.number.proofs.Number.add.Lts as lts
-use Rattle.number.proofs.sum.Reads as sum-reads
 
--- src/lib.rt:150:13
 returns : tie.Need-returns
 returns c =
     let b = c .before .before in
     sym (sum-zero-left (b .args .self) (b .args .other) (b .pre .1) (c .if1 .taken))
 
--- src/lib.rt:153:13
 returns-2 : tie.Need-returns-2
 returns-2 c =
     let b = c .before .before .before .before in
     sym (sum-zero-right (b .args .self) (b .args .other) (b .pre .0) (c .if2 .taken))
 
--- src/lib.rt:156:13
 sum-requires : tie.Need-sum-requires
 sum-requires c κs =
     let b = c .before .before .before .before .before .before .before in
     omega (arith, b .pre .0 .low (omega arith), b .pre .1 .low (omega arith))
 
--- src/lib.rt:156:13
 returns-3 : tie.Need-returns-3
 returns-3 c =
     let b = c .before .before .before .before .before .before .before .before in
     c .sum .ensures ∙ sym (sum-is (b .args .other) (b .args .self) (omega arith)) ∙ sum-comm (b .args .other) (b .args .self)
 
--- src/lib.rt:158:9
 sum-requires-2 : tie.Need-sum-requires-2
 sum-requires-2 c κs =
     let b = c .before .before .before .before .before .before .before in
     omega (arith, b .pre .0 .low (omega arith), b .pre .1 .low (omega arith))
 
--- src/lib.rt:145:5
 returns-4 : tie.Need-returns-4
 returns-4 c =
     let b = c .before .before .before .before .before .before .before .before in

@@ -1,22 +1,16 @@
+-- `Number::add_product` meets its contract: the rounded product is added.
 use mathlib.Core.Path.{sym, subst, ap, _∙_}
-use Rattle.number.specs.Number.{Ranged, reach, sumOf}
 use borrow.Author.Needs.{needs}
+use Rattle.number.specs.Number.{Ranged, reach, sumOf}
 use Rattle.number.proofs.Number.add_product.Statement.{statement}
 use Rattle.number.proofs.Number.add_product.Tie as tie
-use Rattle.number.proofs.Number.add_product.Reads as reads
-use Rattle.number.proofs.Number.add_product.Lts as lts
-use Rattle.number.proofs.Number.add.Reads as add-reads
-use Rattle.number.proofs.Number.mul.Reads as mul-reads
 
--- src/lib.rt:189:18
 mul-requires : tie.Need-mul-requires
 mul-requires c κs = search needs
 
--- src/lib.rt:189:9
 add-requires : tie.Need-add-requires
 add-requires c κs = (c .before .pre .0, subst (Ranged reach) (sym (c .mul .ensures)) (c .before .pre .3))
 
--- src/lib.rt:185:5
 returns : tie.Need-returns
 returns c = c .add .ensures ∙ ap (sumOf (c .before .before .args .self)) (c .before .mul .ensures)
 

@@ -1,34 +1,28 @@
+-- `Number::below` meets its contract: zeros first, then exponents, then mantissas.
 use mathlib.Core.Path.{sym}
 use native.Mathlib.Omega.{arith}
 use Rattle.number.proofs.Order.{below-zero-left, below-zero-right, below-lower, below-higher, below-level}
 use Rattle.number.proofs.Number.below.Statement.{statement}
 use Rattle.number.proofs.Number.below.Tie as tie
-use Rattle.number.proofs.Number.below.Reads as reads
-use Rattle.number.proofs.Number.below.Lts as lts
 
--- src/lib.rt:198:13
 returns : tie.Need-returns
 returns c = sym (below-zero-right (c .before .before .args .self) (c .before .before .args .other) (c .if1 .taken))
 
--- src/lib.rt:201:13
 returns-2 : tie.Need-returns-2
 returns-2 c =
     let b = c .before .before .before .before in
     sym (below-zero-left (b .args .self) (b .args .other) (c .if2 .taken) (omega arith))
 
--- src/lib.rt:204:13
 returns-3 : tie.Need-returns-3
 returns-3 c =
     let b = c .before .before .before .before .before .before .before in
     sym (below-lower (b .args .self) (b .args .other) (b .pre .0 .high) (b .pre .1 .low (omega arith)) (c .if3 .taken))
 
--- src/lib.rt:207:13
 returns-4 : tie.Need-returns-4
 returns-4 c =
     let b = c .before .before .before .before .before .before .before .before .before .before in
     sym (below-higher (b .args .self) (b .args .other) (b .pre .0 .low (omega arith)) (b .pre .1 .high) (c .if4 .taken))
 
--- src/lib.rt:193:5
 returns-5 : tie.Need-returns-5
 returns-5 c =
     let b = c .before .before .before .before .before .before .before .before .before .before .before .before in

@@ -1,3 +1,4 @@
+-- `Number::sub` meets its contract: nothing taken off, equals, and the difference of the rest.
 use mathlib.Core.Path.{_≡_, sym, _∙_}
 use mathlib.Core.Logic.{⊎-elim}
 use Prim.Native.Nat.{_<_}
@@ -5,9 +6,6 @@ use native.Mathlib.Omega.{arith}
 use Rattle.number.proofs.Order.{higher, NotBelow, not-below, difference-is, difference-equal, difference-zero-right}
 use Rattle.number.proofs.Number.sub.Statement.{statement}
 use Rattle.number.proofs.Number.sub.Tie as tie
-use Rattle.number.proofs.Number.sub.Reads as reads
-use Rattle.number.proofs.Number.sub.Lts as lts
-use Rattle.number.proofs.difference.Reads as difference-reads
 
 larger : (c : tie.Joined2) → NotBelow (c .before .before .before .before .before .args .self) (c .before .before .before .before .before .args .other)
 larger c =
@@ -21,19 +19,16 @@ apart c e =
     let h = larger c .mantissa e in
     ⊎-elim (λ w. omega arith) (λ w. omega arith) (c .if2 .came)
 
--- src/lib.rt:218:13
 returns : tie.Need-returns
 returns c =
     let b = c .before .before in
     sym (difference-zero-right (b .args .self) (b .args .other) (b .pre .0) (c .if1 .taken))
 
--- src/lib.rt:222:17
 returns-2 : tie.Need-returns-2
 returns-2 c =
     let b = c .before .before .before .before .before .before .before .before in
     sym (difference-equal (b .args .self) (b .args .other) (c .before .before .before .if2 .taken) (c .if3 .taken))
 
--- src/lib.rt:225:9
 difference-requires : tie.Need-difference-requires
 difference-requires c κs =
     let b = c .before .before .before .before .before in
@@ -42,7 +37,6 @@ difference-requires c κs =
     let n = larger c in
     omega (arith, higher (s .m) (o .m) (s .x) (o .x) (n .normal) (b .pre .1 .high) (n .exponent) (apart c), n .normal, n .exponent)
 
--- src/lib.rt:213:5
 returns-3 : tie.Need-returns-3
 returns-3 c =
     let b = c .before .before .before .before .before .before in

@@ -1,26 +1,21 @@
-use mathlib.Core.Path.{_≡_, sym, ap, _∙_}
+-- `Signed::times` meets its contract: a zero product is not negative.
+use mathlib.Core.Path.{sym, ap, _∙_}
+use borrow.Author.Needs.{needs}
 use Rattle.number.proofs.Signs.{signed-product-zero, signed-product-sign}
 use Rattle.number.specs.Signed.{plain}
 use Rattle.number.specs.declared.Number.{Number}
-use borrow.Author.Needs.{needs}
 use Rattle.number.proofs.signed.Signed.times.Statement.{statement}
 use Rattle.number.proofs.signed.Signed.times.Tie as tie
-use Rattle.number.proofs.signed.Signed.times.Reads as reads
-use Rattle.number.proofs.signed.Signed.times.Lts as lts
-use Rattle.number.proofs.Number.mul.Reads as mul-reads
 
--- src/signed.rt:70:13
 mul-requires : tie.Need-mul-requires
 mul-requires c κs = search needs
 
--- src/signed.rt:72:13
 returns : tie.Need-returns
 returns c =
     let b = c .before .before .before .before in
     let e = c .before .before .mul .ensures in
     ap plain e ∙ sym (signed-product-zero (b .args .self) (b .args .w) (ap (λ (n : Number). n .m) (sym e) ∙ c .if1 .taken))
 
--- src/signed.rt:65:5
 returns-2 : tie.Need-returns-2
 returns-2 c =
     let b = c .before .before .before .before in

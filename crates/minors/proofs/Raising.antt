@@ -1,4 +1,4 @@
--- How far the stages of a word raise rows. A stage raises the highest row by at most one (stage-confined, stages-confined); letters that do
+-- HOW FAR THE STAGES OF A WORD RAISE ROWS: a stage raises the highest row by at most one (stage-confined, stages-confined). Letters that do
 -- not move at a set leave its number (walk-idle): at the lowest rows no E does (lowest-idle), at j rows on top no stage before j (stages-idle).
 use mathlib.Core.Path.{_≡_, refl, ap, ap₂, _∙_}
 use mathlib.Core.Bool.{Bool, true, false, not, _&&_}
@@ -10,7 +10,7 @@ use lib.ListN.{length}
 use borrow.Author.Tests.{le-leb, leb-true}
 use Rattle.fraction.specs.Arithmetic.{Arithmetic}
 use Rattle.fraction.specs.Ring.{CRing, Ordered, arithmetic}
-use Rattle.fraction.proofs.Ring.{ring, zero-*}
+use Rattle.fraction.proofs.Ring.{ring}
 use Rattle.words.specs.RowSet.{RowSet, has, replaced, rows}
 use Rattle.words.specs.Word.{Factors, Letter, E, Et, D, Dinv, Word}
 use Rattle.words.specs.Walk.{State, moved, movedIf, scaled, act, walk}
@@ -18,6 +18,7 @@ use Rattle.words.proofs.RowSets.{has-rows, length-replaced}
 use Rattle.words.proofs.Walks.{All, under, walk-append, raise-top}
 use Rattle.words.proofs.Words.{all-map}
 use Rattle.words.proofs.Stages.{stage, stages, stage-all, Raises, stage-under, stage-false}
+use Rattle.minors.proofs.Entries.{scaled-zero}
 
 -- S has a row above row m
 abbrev pub Above : ℕ → RowSet → Type 0
@@ -80,6 +81,9 @@ module _ (K : CRing) (O : Ordered K) where
 
   infixl 65 _+_
   infixl 70 _*_
+  abbrev F : Arithmetic
+  F = arithmetic K O
+
   -- zero at all sets of n rows
   abbrev pub Zero : ℕ → (RowSet → R) → Type 0
   Zero n ω = (S : RowSet) → length S ≡ n → ω S ≡ 𝟘
@@ -87,57 +91,51 @@ module _ (K : CRing) (O : Ordered K) where
   zero-step : (w x y : R) → x ≡ 𝟘 → y ≡ 𝟘 → x + w * y ≡ 𝟘
   zero-step w x y p q = rw (p, q) (simp ring)
 
-  moved-zero : (n a o : ℕ) (w : R) (ω : RowSet → R) → Zero n ω → Zero n (moved (arithmetic K O) a o w ω)
+  moved-zero : (n a o : ℕ) (w : R) (ω : RowSet → R) → Zero n ω → Zero n (moved F a o w ω)
   unfolding moved
   moved-zero n a o w ω h S s = by (has a S && not (has o S))
     where
-      by : (t : Bool) → movedIf (arithmetic K O) t a o w ω S ≡ 𝟘
+      by : (t : Bool) → movedIf F t a o w ω S ≡ 𝟘
       by true = zero-step w _ _ (h S s) (h (replaced a o S) (length-replaced a o S ∙ s))
       by false = h S s
 
-  pub scaled-zero : (op : R → R → R) → ((x : R) → op 𝟘 x ≡ 𝟘) → (e : ℕ → R) (S : RowSet) → scaled (arithmetic K O) op e S 𝟘 ≡ 𝟘
-  unfolding scaled
-  scaled-zero op h e [] = refl
-  scaled-zero op h e (false ∷ S) = scaled-zero op h e S
-  scaled-zero op h e (true ∷ S) = ap (λ x. op x (e (suc (length S)))) (scaled-zero op h e S) ∙ h _
-
-  act-zero : (n : ℕ) (l : Letter R) (ω : RowSet → R) → Zero n ω → Zero n (act (arithmetic K O) l ω)
+  act-zero : (n : ℕ) (l : Letter R) (ω : RowSet → R) → Zero n ω → Zero n (act F l ω)
   unfolding act
   act-zero n (E j w) ω h = moved-zero n j (j - 1) w ω h
   act-zero n (Et j w) ω h = moved-zero n (j - 1) j w ω h
-  act-zero n (D e) ω h = λ S s. ap (scaled (arithmetic K O) _*_ e S) (h S s) ∙ scaled-zero _*_ (zero-* K) e S
-  act-zero n (Dinv e) ω h = λ S s. ap (scaled (arithmetic K O) (λ x y. x * O .inv y) e S) (h S s) ∙ scaled-zero (λ x y. x * O .inv y) (λ x. zero-* K _) e S
+  act-zero n (D e) ω h = λ S s. ap (scaled F _*_ e S) (h S s) ∙ scaled-zero K O (λ x. x) e S
+  act-zero n (Dinv e) ω h = λ S s. ap (scaled F (λ x y. x * O .inv y) e S) (h S s) ∙ scaled-zero K O (O .inv) e S
 
-  pub walk-zero : (n : ℕ) (W : Word R) (ω : RowSet → R) → Zero n ω → Zero n (walk (arithmetic K O) W ω)
+  pub walk-zero : (n : ℕ) (W : Word R) (ω : RowSet → R) → Zero n ω → Zero n (walk F W ω)
   unfolding walk
   walk-zero n [] ω h = h
-  walk-zero n (l ∷ W) ω h = act-zero n l (walk (arithmetic K O) W ω) (walk-zero n W ω h)
+  walk-zero n (l ∷ W) ω h = act-zero n l (walk F W ω) (walk-zero n W ω h)
 
   -- zero at the sets of n rows with a row above row m
   abbrev pub Confined : ℕ → ℕ → (RowSet → R) → Type 0
   Confined m n ω = (S : RowSet) → length S ≡ n → Above m S → ω S ≡ 𝟘
 
   -- a stage
-  pub stage-confined : (n k m : ℕ) (b : Factors R) (ω : RowSet → R) → Confined m n ω → Confined (suc m) n (walk (arithmetic K O) (stage n k b) ω)
+  pub stage-confined : (n k m : ℕ) (b : Factors R) (ω : RowSet → R) → Confined m n ω → Confined (suc m) n (walk F (stage n k b) ω)
   unfolding walk stage
   stage-confined n zero m b ω h S s a = h S s (above-less m (suc m) (omega arith) S a)
   stage-confined zero (suc k) m b ω h S s a = h S s (above-less m (suc m) (omega arith) S a)
   stage-confined (suc n) (suc k) m b ω h (true ∷ S) s a =
-      stage-under (arithmetic K O) n k b ω true S (omega arith) ∙ walk-zero n (stage n k b) _ gone S (omega arith)
+      stage-under F n k b ω true S (omega arith) ∙ walk-zero n (stage n k b) _ gone S (omega arith)
     where
-      gone : (T : RowSet) → length T ≡ n → act (arithmetic K O) (E (suc n) (b (suc n) (suc k))) ω (true ∷ T) ≡ 𝟘
+      gone : (T : RowSet) → length T ≡ n → act F (E (suc n) (b (suc n) (suc k))) ω (true ∷ T) ≡ 𝟘
       gone [] t = absurd (omega arith)
-      gone (true ∷ T) t = raise-top (arithmetic K O) (suc n) _ ω true true T (omega arith) ∙ h (true ∷ true ∷ T) (omega arith) (omega arith)
+      gone (true ∷ T) t = raise-top F (suc n) _ ω true true T (omega arith) ∙ h (true ∷ true ∷ T) (omega arith) (omega arith)
       gone (false ∷ T) t =
-          raise-top (arithmetic K O) (suc n) _ ω true false T (omega arith)
+          raise-top F (suc n) _ ω true false T (omega arith)
           ∙ zero-step _ _ _ (h (true ∷ false ∷ T) (omega arith) (omega arith)) (h (false ∷ true ∷ T) (omega arith) (omega arith))
   stage-confined (suc n) (suc k) m b ω h (false ∷ S) s a =
-      stage-false (arithmetic K O) n k b ω S (omega arith) ∙ stage-confined n k m b (under false ω) (λ T t. h (false ∷ T) (ap suc t)) S (omega arith) a
+      stage-false F n k b ω S (omega arith) ∙ stage-confined n k m b (under false ω) (λ T t. h (false ∷ T) (ap suc t)) S (omega arith) a
 
   -- and c of them
-  pub stages-confined : (n k c m : ℕ) (b : Factors R) (ω : RowSet → R) → Confined m n ω → Confined (m +ℕ c) n (walk (arithmetic K O) (stages n k c b) ω)
+  pub stages-confined : (n k c m : ℕ) (b : Factors R) (ω : RowSet → R) → Confined m n ω → Confined (m +ℕ c) n (walk F (stages n k c b) ω)
   unfolding walk stages
   stages-confined n k zero m b ω h = λ S s a. h S s (above-less m (m +ℕ 0) (omega arith) S a)
   stages-confined n k (suc c) m b ω h = λ S s a.
-      ap (λ η. η S) (walk-append (arithmetic K O) (stage n k b) (stages n (suc k) c b) ω)
+      ap (λ η. η S) (walk-append F (stage n k b) (stages n (suc k) c b) ω)
       ∙ stage-confined n k (m +ℕ c) b _ (stages-confined n (suc k) c m b ω h) S s (above-less (suc (m +ℕ c)) (m +ℕ suc c) (omega arith) S a)

@@ -1,40 +1,24 @@
--- Chosen rows in ascending order: how many (length-members), the highest of them (chosen-top), the others (chosen-under), and sets among them (length-among, count-among). All rows (chosen-all).
+-- Chosen rows in ascending order: how many (length-members), the highest of them (chosen-top), the others (chosen-under), each a row (chosen-in); sets among them
+-- (length-among, count-among); and all rows chosen (count-all, chosen-all).
 use mathlib.Core.Path.{_≡_, refl, sym, ap, _∙_}
 use mathlib.Core.Bool.{true, false}
 use mathlib.Core.List.{[], _∷_, _++_}
-use Prim.Native.Nat.{ℕ, zero, suc, _-_, _≤_}
+use Prim.Native.Nat.{ℕ, zero, suc, _-_}
 use native.Mathlib.Decide.{decLe}
 use native.Mathlib.Omega.{arith}
 use lib.ListN.{length, getD, length-append, List·getD-append}
 use lib.Seq.{getD-append-seam}
-use Rattle.words.specs.RowSet.{RowSet, count, members, among, rows}
-use Rattle.words.proofs.RowSets.{rows-in, length-rows}
-use Rattle.words.proofs.Formulas.{count-rows, rows-beyond}
-use Rattle.minors.specs.Matrix.{In, chosen}
+use Rattle.words.specs.RowSet.{In, RowSet, count, members, chosen, among, rows}
+use Rattle.words.proofs.RowSets.{in-under, length-rows}
+use Rattle.words.proofs.Runs.{rows-last, count-rows}
 
-pub length-members : (P : RowSet) → length (members P) ≡ count P
-unfolding members count
-length-members [] = refl
-length-members (true ∷ P) = omega (arith, length-append (members P) (suc (length P) ∷ []), length-members P)
-length-members (false ∷ P) = length-members P
-
+-- SETS AMONG THE CHOSEN ROWS
 pub length-among : (P I : RowSet) → length I ≡ count P → length (among P I) ≡ length P
 unfolding among count
 length-among [] I e = refl
 length-among (true ∷ P) [] e = absurd (omega arith)
 length-among (true ∷ P) (x ∷ I) e = ap suc (length-among P I (omega arith))
 length-among (false ∷ P) I e = ap suc (length-among P I e)
-
-pub chosen-top : (P I : RowSet) → length I ≡ count P → suc (length (among P I)) ≡ chosen (true ∷ P) (suc (length I))
-unfolding members
-chosen-top P I e =
-    let f : suc (length I) - 1 ≡ length (members P) = omega (arith, length-members P) in
-    ap suc (length-among P I e) ∙ sym (getD-append-seam (members P) (suc (length P)) [] 0)
-    ∙ ap (λ n. getD (members P ++ (suc (length P) ∷ [])) n 0) (sym f)
-
-pub chosen-under : (P : RowSet) (i : ℕ) → In (count P) i → chosen P i ≡ chosen (true ∷ P) i
-unfolding members
-chosen-under P i h = sym (List·getD-append (members P) (suc (length P) ∷ []) 0 (i - 1) (omega (arith, h .0, h .1, length-members P)))
 
 pub count-among : (P I : RowSet) → length I ≡ count P → count (among P I) ≡ count I
 unfolding among count
@@ -45,17 +29,31 @@ count-among (true ∷ P) [] e = absurd (omega arith)
 count-among (true ∷ P) (true ∷ I) e = ap suc (count-among P I (omega arith))
 count-among (true ∷ P) (false ∷ I) e = count-among P I (omega arith)
 
--- a chosen row is a row
+-- THE CHOSEN ROWS, the highest of them and the others
+pub length-members : (P : RowSet) → length (members P) ≡ count P
+unfolding members count
+length-members [] = refl
+length-members (true ∷ P) = omega (arith, length-append (members P) (suc (length P) ∷ []), length-members P)
+length-members (false ∷ P) = length-members P
+
 chosen-last : (P : RowSet) → chosen (true ∷ P) (suc (count P)) ≡ suc (length P)
 unfolding members
 chosen-last P =
     let f : suc (count P) - 1 ≡ length (members P) = omega (arith, length-members P) in
     ap (λ n. getD (members P ++ (suc (length P) ∷ [])) n 0) f ∙ getD-append-seam (members P) (suc (length P)) [] 0
 
+pub chosen-top : (P I : RowSet) → length I ≡ count P → suc (length (among P I)) ≡ chosen (true ∷ P) (suc (length I))
+chosen-top P I e = ap suc (length-among P I e) ∙ sym (chosen-last P) ∙ ap (λ i. chosen (true ∷ P) (suc i)) (sym e)
+
+pub chosen-under : (P : RowSet) (i : ℕ) → In (count P) i → chosen P i ≡ chosen (true ∷ P) i
+unfolding members
+chosen-under P i h = sym (List·getD-append (members P) (suc (length P) ∷ []) 0 (i - 1) (omega (arith, h .0, h .1, length-members P)))
+
+-- each is a row
 pub chosen-in : (P : RowSet) (i : ℕ) → In (count P) i → In (length P) (chosen P i)
 unfolding count members
 chosen-in [] i h = absurd (omega (arith, h .0, h .1))
-chosen-in (false ∷ P) i h = (chosen-in P i h .0, omega (arith, chosen-in P i h .1))
+chosen-in (false ∷ P) i h = in-under (chosen-in P i h)
 chosen-in (true ∷ P) i h =
     elim (decLe i (count P)) [
       | yes l ↦ let g = chosen-in P i (h .0, l) in (omega (arith, g .0, chosen-under P i (h .0, l)), omega (arith, g .1, chosen-under P i (h .0, l)))
@@ -65,14 +63,14 @@ chosen-in (true ∷ P) i h =
           (omega (arith, f), omega (arith, f))
     ]
 
--- of all rows the i-th is row i
+-- ALL ROWS: the i-th is row i
 pub count-all : (n : ℕ) → count (rows n 1 n) ≡ n
 count-all n = count-rows n 1 n (omega arith) (omega arith) ∙ omega arith
 
 pub chosen-all : (n i : ℕ) → In n i → chosen (rows n 1 n) i ≡ i
 chosen-all zero i h = absurd (omega (arith, h .0, h .1))
 chosen-all (suc n) i h =
-    ap (λ P. chosen P i) (rows-in n 1 (suc n) (omega arith) (omega arith) ∙ ap (λ P. true ∷ P) (rows-beyond n 1 (suc n) n (omega arith) (omega arith)))
+    ap (λ P. chosen P i) (rows-last n 1 (omega arith))
     ∙ elim (decLe i n) [
       | yes l ↦ sym (chosen-under (rows n 1 n) i (h .0, omega (arith, count-all n))) ∙ chosen-all n i (h .0, l)
       | no l ↦

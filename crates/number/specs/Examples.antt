@@ -1,0 +1,36 @@
+-- Document 01's marked examples on numbers, as rows of one table.
+use mathlib.Core.Path.{_≡_}
+use mathlib.Core.List.{List, [], _∷_}
+use Prim.Native.Nat.{ℕ, _+_, _-_, _*_, _^_}
+use Rattle.number.specs.Number.{bias, sumOf, productOf, quotientOf}
+use Rattle.number.specs.declared.Number.{Number}
+
+-- what the definitions give, and what the paper says
+pub record Row : Type 1 where
+  pub Answer : Type 0
+  pub given : Answer
+  pub said : Answer
+
+abbrev pub row : {A : Type 0} → A → A → Row
+row {A} a b = record { Answer = A; given = a; said = b }
+
+-- every row of a table holds
+abbrev pub AllHold : List Row → Type 0
+AllHold [] = Unit {0}
+AllHold (r ∷ rows) = (r .given ≡ r .said) × AllHold rows
+
+-- m × 2 ^ e and m × 2 ^ -e
+abbrev pub up : ℕ → ℕ → Number
+up m e = record { m = m; x = bias + e }
+
+abbrev pub down : ℕ → ℕ → Number
+down m e = record { m = m; x = bias - e }
+
+unfoldable pub arithmeticTable : List Row
+arithmeticTable =
+    row (sumOf (down (2 ^ 31) 31) (down (2 ^ 31) 63)) (down (2 ^ 31) 31)  -- P1: 1 + 2 ^ -32 is 1
+    ∷ row (sumOf (down (2 ^ 31 + 1) 31) (down (2 ^ 31) 63)) (down 2147483650 31)  -- P2: (2 ^ 31 + 1) × 2 ^ -31 plus 2 ^ -32
+    ∷ row (sumOf (up (2 ^ 32 - 1) 0) (down (2 ^ 31) 32)) (up (2 ^ 31) 1)  -- P3: (2 ^ 32 - 1) + 1 / 2
+    ∷ row (productOf (up (2 ^ 32 - 1) 0) (up (2 ^ 32 - 1) 0)) (up 4294967294 32)  -- P4: (2 ^ 32 - 1) squared
+    ∷ row (quotientOf (down (2 ^ 31) 31) (down (3 * 2 ^ 30) 30)) (down 2863311531 33)  -- P10: 1 / 3
+    ∷ []

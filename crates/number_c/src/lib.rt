@@ -1,0 +1,124 @@
+// The arithmetic for programs in C. Nothing proves what such a caller hands over, so each function tests its operands.
+ghost use mathlib.Core.Path.{_≡_};
+ghost use mathlib.Core.Bool.{_&&_};
+ghost use Rattle.number_c.specs.Answer.{usable, refused, numberOf, signedOf, itemOf, addAnswer, mulAnswer, divAnswer};
+use number::Number;
+use number::signed::Signed;
+
+// The exponent 0, and how far the operands' exponents may lie from it.
+const BIAS: u64 = 4194304;
+
+const REACH: u64 = 2097088;
+
+// m times 2 to the power x - BIAS, with a sign. Zero has m 0 and x BIAS, and is not negative.
+#[repr(C)]
+pub struct Item {
+    pub negative: bool,
+    pub m: u64,
+    pub x: u64,
+}
+
+fn usable(a: Item) -> bool
+    ensures { λ r. ⌜ r ≡ usable a ⌝ }
+{
+    if a.m == 0 {
+        if a.negative {
+            return false;
+        }
+        return a.x == BIAS;
+    }
+    if a.m < 0x8000_0000 {
+        return false;
+    }
+    if 0xffff_ffff < a.m {
+        return false;
+    }
+    if a.x < BIAS - REACH {
+        return false;
+    }
+    a.x <= BIAS + REACH
+}
+
+fn both_usable(a: Item, b: Item) -> bool
+    ensures { λ r. ⌜ r ≡ (usable a && usable b) ⌝ }
+{
+    if usable(a) {
+        return usable(b);
+    }
+    false
+}
+
+fn refused() -> Item
+    ensures { λ r. ⌜ r ≡ refused ⌝ }
+{
+    Item {
+        negative: false,
+        m: 0,
+        x: 0,
+    }
+}
+
+fn number(a: Item) -> Number
+    ensures { λ r. ⌜ r ≡ numberOf a ⌝ }
+{
+    Number { m: a.m, x: a.x }
+}
+
+fn signed(a: Item) -> Signed
+    ensures { λ r. ⌜ r ≡ signedOf a ⌝ }
+{
+    Signed {
+        negative: a.negative,
+        size: number(a),
+    }
+}
+
+fn answer(a: Signed) -> Item
+    ensures { λ r. ⌜ r ≡ itemOf a ⌝ }
+{
+    Item {
+        negative: a.negative,
+        m: a.size.m,
+        x: a.size.x,
+    }
+}
+
+// The signed sum; m 0 and x 0 for an operand that is not usable.
+#[no_mangle]
+pub extern "C" fn number_c_add(a: Item, b: Item) -> Item
+    ensures { λ r. ⌜ r ≡ addAnswer a b ⌝ }
+{
+    if both_usable(a, b) {
+        return answer(signed(a).add(signed(b)));
+    }
+    refused()
+}
+
+// The first operand times the size of the second.
+#[no_mangle]
+pub extern "C" fn number_c_mul(a: Item, b: Item) -> Item
+    ensures { λ r. ⌜ r ≡ mulAnswer a b ⌝ }
+{
+    if both_usable(a, b) {
+        return answer(signed(a).times(number(b)));
+    }
+    refused()
+}
+
+// The quotient of the sizes; m 0 and x 0 for a zero divisor too.
+#[no_mangle]
+pub extern "C" fn number_c_div(a: Item, b: Item) -> Item
+    ensures { λ r. ⌜ r ≡ divAnswer a b ⌝ }
+{
+    if b.m == 0 {
+        return refused();
+    }
+    if both_usable(a, b) {
+        let q = number(a).div(number(b));
+        return answer(Signed {
+            negative: false,
+            size: q,
+        });
+    }
+    refused()
+}

@@ -1,0 +1,216 @@
+-- Laws of the shelf. Put and read: a place holds what was put there (`rows-put`, `table-put`), the others what they held (`rows-kept`, `table-kept`); what was put last counts (`put-put`),
+-- and what is there may be put again (`put-held`). A shelf is given by what it holds (`shelf-determined`), and stays good (`good-empty`, `good-holding`, `good-without`).
+use Prim.Native.Nat.{ℕ, zero, suc, _+_, _-_, _*_, _/_, _%_, _<_, _≤_}
+use native.Mathlib.Nat.{div-add-mod', div-lt-iff-lt-mul, mod-lt}
+use native.Mathlib.Decide.{ℕ-discrete}
+use native.Mathlib.Numerals.{add-one}
+use native.Mathlib.Omega.{arith}
+use mathlib.Core.Path.{_≡_, refl, sym, ap, ap₂, _∙_}
+use mathlib.Core.List.{List, [], _∷_, _++_, append-assoc}
+use lib.ListN.{length, getD, take, drop, set, replicate, length-set, length-take, length-drop, length-replicate, getD-replicate}
+use lib.Seq.{sets, length-sets, sets-eq, take-at, drop-at, length-take-le, getD-take, getD-drop, getD-set-same, getD-set-other, ext-getD, set-set, take-set-le, drop-set-lt, take-suc}
+use Rattle.number.specs.declared.Number.{Number}
+use Rattle.number.specs.Number.{zeroNumber, Stored}
+use Rattle.words.specs.Word.{Factors}
+use Rattle.minors.specs.Matrix.{In}
+use Rattle.factors.specs.Demand.{Each}
+use Rattle.places.specs.declared.Shelf.{Shelf}
+use Rattle.places.specs.Table.{factorsOf, tableOf}
+use Rattle.places.specs.Shelf.{rowsAt, tableAt, factorsAt, withTable, holding, without, emptyShelf, Good}
+use Rattle.writer.proofs.Parts.{sets-append}
+use Rattle.places.proofs.Filled.{unread, Filled, filled-all}
+use Rattle.places.proofs.Table.{table-length, factors-table, table-list, table-same, table-refactored, within-none}
+
+pub shelf-fields : (s t : Shelf) → s .numbers ≡ t .numbers → s .sizes ≡ t .sizes → s ≡ t
+shelf-fields s t e f = ap₂ (λ (a : List Number) (b : List ℕ). let r : Shelf = record { numbers = a; sizes = b } in r) e f
+
+-- elements that a run does not reach
+getD-sets-other : {A : Type 0} (l : List A) (i : ℕ) (vs : List A) (k : ℕ) (d : A) → ((j : ℕ) → j < length vs → k ≡ i + j → ⊥) → getD (sets l i vs) k d ≡ getD l k d
+getD-sets-other l i [] k d h = refl
+getD-sets-other l i (v ∷ vs) k d h =
+    getD-sets-other (set l i v) (suc i) vs k d (λ j g e. h (suc j) (omega arith) (omega arith))
+    ∙ getD-set-other l i k v d (λ e. h 0 (omega arith) (omega arith))
+
+take-sets : {A : Type 0} (n : ℕ) (l : List A) (i : ℕ) (vs : List A) → n ≤ i → take n (sets l i vs) ≡ take n l
+take-sets n l i [] h = refl
+take-sets n l i (v ∷ vs) h = take-sets n (set l i v) (suc i) vs (omega arith) ∙ take-set-le n l i v h
+
+drop-sets : {A : Type 0} (n : ℕ) (l : List A) (i : ℕ) (vs : List A) → i + length vs ≤ n → drop n (sets l i vs) ≡ drop n l
+drop-sets n l i [] h = refl
+drop-sets n l i (v ∷ vs) h = drop-sets n (set l i v) (suc i) vs (omega arith) ∙ drop-set-lt n l i v (omega arith)
+
+-- a run over a run of the same length
+sets-over : {A : Type 0} (l : List A) (i : ℕ) (vs ws : List A) → length vs ≡ length ws → i + length ws ≤ length l → sets (sets l i vs) i ws ≡ sets l i ws
+sets-over l i vs ws e h =
+    sets-eq ws (sets l i vs) i (omega (arith, length-sets l i vs))
+    ∙ rw (take-sets i l i vs (omega arith), drop-sets (i + length ws) l i vs (omega arith))
+    (sym (sets-eq ws l i h))
+
+module _ (s : Shelf) (p n : ℕ) (t : List Number) (small : p < 8) (eight : length (s .sizes) ≡ 8) (all : length (s .numbers) ≡ 512) (long : length t ≡ 64) where
+  pub rows-put : rowsAt (withTable s p n t) p ≡ n
+  unfolding rowsAt withTable
+  rows-put = getD-set-same (s .sizes) p n 0 (omega arith)
+
+  pub rows-kept : (q : ℕ) → (q ≡ p → ⊥) → rowsAt (withTable s p n t) q ≡ rowsAt s q
+  unfolding rowsAt withTable
+  rows-kept q h = getD-set-other (s .sizes) p q n 0 h
+
+  pub table-put : tableAt (withTable s p n t) p ≡ t
+  unfolding tableAt withTable
+  table-put =
+      rw (sets-eq t (s .numbers) (p * 64) (omega arith), append-assoc (take (p * 64) (s .numbers)) t (drop (p * 64 + length t) (s .numbers)))
+      (ap (take 64) (drop-at (take (p * 64) (s .numbers)) (t ++ drop (p * 64 + length t) (s .numbers)) (p * 64) (length-take-le (p * 64) (s .numbers) (omega arith)))
+      ∙ take-at t (drop (p * 64 + length t) (s .numbers)) 64 long)
+
+  pub table-kept : (q : ℕ) → (q ≡ p → ⊥) → tableAt (withTable s p n t) q ≡ tableAt s q
+  unfolding tableAt withTable
+  table-kept q h =
+      ext-getD zeroNumber (take 64 (drop (q * 64) (sets (s .numbers) (p * 64) t))) (take 64 (drop (q * 64) (s .numbers))) (rw (length-take, length-take, length-drop, length-drop, length-sets))
+      (λ k g.
+      let l : k < 64 = omega (arith, length-take 64 (drop (q * 64) (sets (s .numbers) (p * 64) t))) in
+      getD-take 64 (drop (q * 64) (sets (s .numbers) (p * 64) t)) k zeroNumber l
+      ∙ getD-drop (q * 64) (sets (s .numbers) (p * 64) t) k zeroNumber
+      ∙ getD-sets-other (s .numbers) (p * 64) t (q * 64 + k) zeroNumber (λ j i e. omega arith)
+      ∙ sym (getD-take 64 (drop (q * 64) (s .numbers)) k zeroNumber l ∙ getD-drop (q * 64) (s .numbers) k zeroNumber))
+
+  -- what was put last counts
+  pub put-put : (m : ℕ) (u : List Number) → length u ≡ 64 → withTable (withTable s p m u) p n t ≡ withTable s p n t
+  unfolding withTable
+  put-put m u l = shelf-fields _ _ (sets-over (s .numbers) (p * 64) u t (l ∙ sym long) (omega arith)) (set-set (s .sizes) p m n)
+
+-- the number at k of place p
+number-at : (s : Shelf) (p k : ℕ) → k < 64 → getD (tableAt s p) k zeroNumber ≡ getD (s .numbers) (p * 64 + k) zeroNumber
+unfolding tableAt
+number-at s p k h = getD-take 64 (drop (p * 64) (s .numbers)) k zeroNumber h ∙ getD-drop (p * 64) (s .numbers) k zeroNumber
+
+-- a place's numbers read one after the other
+pub table-read : (s : Shelf) (p : ℕ) → p < 8 → length (s .numbers) ≡ 512 → {k : ℕ} {t : List Number} → Filled unread (λ i. getD (s .numbers) (p * 64 + i) unread) 64 k t → 64 ≤ k
+    → t ≡ tableAt s p
+unfolding tableAt
+table-read s p small all w h =
+    filled-all unread (λ i. getD (s .numbers) (p * 64 + i) unread) 64 w h (take 64 (drop (p * 64) (s .numbers)))
+    (length-take-le 64 (drop (p * 64) (s .numbers)) (omega (arith, length-drop (p * 64) (s .numbers))))
+    (λ i l. getD-take 64 (drop (p * 64) (s .numbers)) i unread l ∙ getD-drop (p * 64) (s .numbers) i unread)
+
+-- and put one after the other
+pub put-more : (l t : List Number) (a k : ℕ) → k < length t → set (sets l a (take k t)) (a + k) (getD t k unread) ≡ sets l a (take (k + 1) t)
+put-more l t a k h =
+    let e : length (take k t) ≡ k = length-take-le k t (omega arith) in
+    let more : take (k + 1) t ≡ take k t ++ (getD t k unread ∷ []) = rw add-one (take-suc t k unread h) in
+    ap (λ (i : ℕ). set (sets l a (take k t)) (a + i) (getD t k unread)) (sym e)
+    ∙ sets-append l (take k t) (getD t k unread ∷ []) a
+    ∙ ap (sets l a) (sym more)
+
+-- shelves with the same sizes and tables are the same
+same-places : (s t : Shelf) → Good s → Good t → ((p : ℕ) → p < 8 → rowsAt s p ≡ rowsAt t p) → ((p : ℕ) → p < 8 → tableAt s p ≡ tableAt t p) → s ≡ t
+unfolding rowsAt
+same-places s t g h e f =
+    shelf-fields s t
+    (ext-getD zeroNumber (s .numbers) (t .numbers) (g .numbers ∙ sym (h .numbers))
+    (λ k l.
+    let q : k / 64 < 8 = div-lt-iff-lt-mul {k = 64} {x = k} {y = 8} (omega arith) .1 (omega (arith, g .numbers)) in
+    let r : k % 64 < 64 = mod-lt k (omega arith) in
+    let d : k / 64 * 64 + k % 64 ≡ k = div-add-mod' k 64 in
+    let here : getD (s .numbers) (k / 64 * 64 + k % 64) zeroNumber ≡ getD (t .numbers) (k / 64 * 64 + k % 64) zeroNumber =
+    sym (number-at s (k / 64) (k % 64) r) ∙ ap (λ (u : List Number). getD u (k % 64) zeroNumber) (f (k / 64) q) ∙ number-at t (k / 64) (k % 64) r in
+    rw d at here))
+    (ext-getD 0 (s .sizes) (t .sizes) (g .places ∙ sym (h .places)) (λ p l. e p (omega (arith, g .places))))
+
+-- A SHELF IS GIVEN BY WHAT IT HOLDS
+pub shelf-determined : (s t : Shelf) → Good s → Good t → ((p : ℕ) → p < 8 → rowsAt s p ≡ rowsAt t p)
+    → ((p : ℕ) → p < 8 → (i j : ℕ) → In (rowsAt s p) i → In (rowsAt s p) j → factorsAt s p i j ≡ factorsAt t p i j) → s ≡ t
+shelf-determined s t g h e f =
+    same-places s t g h e
+    (λ p l.
+    g .rest p l
+    ∙ table-same (rowsAt s p) (factorsAt s p) (factorsAt t p) (f p l)
+    ∙ ap (λ (n : ℕ). tableOf n (factorsAt t p)) (e p l)
+    ∙ sym (h .rest p l))
+
+-- THE SHELF STAYS GOOD
+module _ (s : Shelf) (g : Good s) (p n : ℕ) (b : Factors Number) (small : p < 8) where
+  abbrev new : Shelf
+  new = holding s p n b
+
+  long : length (tableOf n b) ≡ 64
+  long = table-length n b
+
+  pub rows-held : rowsAt new p ≡ n
+  rows-held = rows-put s p n (tableOf n b) small (g .places) (g .numbers) long
+
+  pub table-held : tableAt new p ≡ tableOf n b
+  table-held = table-put s p n (tableOf n b) small (g .places) (g .numbers) long
+
+  pub factors-held : n ≤ 8 → (i j : ℕ) → In n i → In n j → factorsAt new p i j ≡ b i j
+  factors-held few i j h k = ap (λ (t : List Number). factorsOf t i j) table-held ∙ factors-table n b few i j h k
+
+  -- what holds of the matrix put and of each other place
+  place-by : (P : ℕ → List Number → Type 0) → P n (tableOf n b) → ((q : ℕ) → q < 8 → P (rowsAt s q) (tableAt s q)) → (q : ℕ) → q < 8 → P (rowsAt new q) (tableAt new q)
+  place-by P h k q l =
+      elim (ℕ-discrete q p) [
+        | yes e ↦ rw (e, rows-held, table-held) h
+        | no e ↦
+            rw (rows-kept s p n (tableOf n b) small (g .places) (g .numbers) long q e, table-kept s p n (tableOf n b) small (g .places) (g .numbers) long q e) (k q l)
+      ]
+
+  pub good-holding : n ≤ 8 → Each Stored n b → Good new
+  unfolding withTable
+  good-holding few h =
+      record {
+        places = length-set (s .sizes) p n ∙ g .places;
+        numbers = length-sets (s .numbers) (p * 64) (tableOf n b) ∙ g .numbers;
+        few = place-by (λ m t. m ≤ 8) few (g .few);
+        stored = place-by (λ m t. Each Stored m (factorsOf t)) (λ i j x y. rw (factors-table n b few i j x y) (h i j x y)) (g .stored);
+        rest = place-by (λ m t. t ≡ tableOf m (factorsOf t)) (sym (table-refactored n b few)) (g .rest);
+      }
+
+pub good-without : (s : Shelf) → Good s → (p : ℕ) → p < 8 → Good (without s p)
+good-without s g p small = good-holding s g p 0 (λ i j. zeroNumber) small (omega arith) (λ i j x y. absurd (omega arith))
+
+-- what is there may be put again
+pub put-held : (s : Shelf) → Good s → (p : ℕ) → p < 8 → holding s p (rowsAt s p) (factorsAt s p) ≡ s
+put-held s g p small =
+    let n = rowsAt s p in
+    let t = tableOf n (factorsAt s p) in
+    let l : length t ≡ 64 = table-length n (factorsAt s p) in
+    same-places (holding s p n (factorsAt s p)) s (good-holding s g p n (factorsAt s p) small (g .few p small) (g .stored p small)) g
+    (λ q h.
+    elim (ℕ-discrete q p) [
+      | yes e ↦ rw e (rows-held s g p n (factorsAt s p) small)
+      | no e ↦ rows-kept s p n t small (g .places) (g .numbers) l q e
+    ])
+    (λ q h.
+    elim (ℕ-discrete q p) [
+      | yes e ↦ rw e (table-held s g p n (factorsAt s p) small ∙ sym (g .rest p small))
+      | no e ↦ table-kept s p n t small (g .places) (g .numbers) l q e
+    ])
+
+-- ALL PLACES EMPTY
+module _ (p : ℕ) (small : p < 8) where
+  empty-rows : rowsAt emptyShelf p ≡ 0
+  unfolding rowsAt emptyShelf
+  empty-rows = getD-replicate 8 p 0 0 small
+
+  empty-number : (k : ℕ) → k < 64 → getD (tableAt emptyShelf p) k zeroNumber ≡ zeroNumber
+  unfolding emptyShelf
+  empty-number k h = number-at emptyShelf p k h ∙ getD-replicate 512 (p * 64 + k) zeroNumber zeroNumber (omega arith)
+
+  empty-length : length (tableAt emptyShelf p) ≡ 64
+  unfolding tableAt emptyShelf
+  empty-length = length-take-le 64 (drop (p * 64) (replicate 512 zeroNumber)) (omega (arith, length-drop (p * 64) (replicate 512 zeroNumber), length-replicate 512 zeroNumber))
+
+  empty-table : (b : Factors Number) → tableAt emptyShelf p ≡ tableOf 0 b
+  empty-table b =
+      table-list 0 b zeroNumber (tableAt emptyShelf p) empty-length
+      (λ i j h g. empty-number (i * 8 + j) (omega arith) ∙ sym (within-none b (suc i) (suc j) (omega arith)))
+
+pub good-empty : Good emptyShelf
+unfolding emptyShelf
+good-empty =
+    record {
+      places = length-replicate {A = ℕ} 8 0;
+      numbers = length-replicate 512 zeroNumber;
+      few = λ p h. rw (empty-rows p h) (omega arith);
+      stored = λ p h. rw (empty-rows p h) (λ i j x y. absurd (omega arith));
+      rest = λ p h. rw (empty-rows p h) (empty-table p h _);
+    }

@@ -1,0 +1,71 @@
+-- Factors row by row: where each stands (`row-by-row-at`), and a list of them given by each of its elements (`row-by-row-list`).
+use Prim.Native.Nat.{ℕ, zero, suc, _+_, _-_, _*_, _/_, _%_, _<_, _≤_}
+use native.Mathlib.Nat.{div-add-mod', div-lt-iff-lt-mul, mod-lt, zero-mul, zero-add, mul-le-mul}
+use native.Mathlib.Omega.{arith}
+use mathlib.Core.Path.{_≡_, refl, sym, ap, _∙_}
+use mathlib.Core.List.{List, [], _∷_, _++_}
+use lib.ListN.{length, getD, List·getD-append}
+use lib.Seq.{getD-append-add, ext-getD}
+use Rattle.words.specs.Word.{Factors, ascending}
+use Rattle.words.specs.Operation.{rowByRow}
+use Rattle.factors.proofs.Demanded.{rowByRow-length}
+
+module _ {A : Type 0} (z : A) where
+  ascending-at : (m c a q r : ℕ) (f : ℕ → List A) → ((i : ℕ) → length (f i) ≡ m) → q < c → r < m → getD (ascending a c f) (q * m + r) z ≡ getD (f (a + q)) r z
+  unfolding ascending
+  ascending-at m zero a q r f l h g = absurd (omega arith)
+  ascending-at m (suc c) a zero r f l h g =
+      let i : zero * m + r ≡ r = omega arith in
+      let j : a + 0 ≡ a = omega arith in
+      rw (i, j) (List·getD-append (f a) (ascending (suc a) c f) z r (omega (arith, l a)))
+  ascending-at m (suc c) a (suc q) r f l h g =
+      let i : suc q * m + r ≡ length (f a) + (q * m + r) = omega (arith, l a) in
+      let j : a + suc q ≡ suc a + q = omega arith in
+      rw (i, j) (getD-append-add (f a) (ascending (suc a) c f) (q * m + r) z ∙ ascending-at m c (suc a) q r f l (omega arith) g)
+
+  length-singles : (c a : ℕ) (f : ℕ → A) → length (ascending a c (λ i. f i ∷ [])) ≡ c
+  unfolding ascending
+  length-singles zero a f = refl
+  length-singles (suc c) a f = ap suc (length-singles c (suc a) f)
+
+  single-at : (c a j : ℕ) (f : ℕ → A) → j < c → getD (ascending a c (λ i. f i ∷ [])) j z ≡ f (a + j)
+  unfolding ascending
+  single-at zero a j f h = absurd (omega arith)
+  single-at (suc c) a zero f h = let e : a + 0 ≡ a = omega arith in rw e
+  single-at (suc c) a (suc j) f h = let e : a + suc j ≡ suc a + j = omega arith in rw e (single-at c (suc a) j f (omega arith))
+
+  -- row i + 1 and column j + 1
+  pub row-by-row-at : (k : ℕ) (b : Factors A) (i j : ℕ) → i < k → j < k → getD (rowByRow k b) (i * k + j) z ≡ b (suc i) (suc j)
+  unfolding rowByRow
+  row-by-row-at k b i j h g =
+      let n : suc k - 1 ≡ k = omega arith in
+      let r : 1 + i ≡ suc i = omega arith in
+      let c : 1 + j ≡ suc j = omega arith in
+      rw n
+      (ascending-at k k 1 i j (λ r. ascending 1 k (λ c. b r c ∷ [])) (λ r. length-singles k 1 (b r)) h g
+      ∙ single-at k 1 j (b (1 + i)) g
+      ∙ rw (r, c))
+
+  -- the element at x
+  module _ (k : ℕ) (some : 0 < k) (x : ℕ) (few : x < k * k) where
+    pub row-below : x / k < k
+    row-below = div-lt-iff-lt-mul {k = k} {x = x} {y = k} some .1 few
+
+    pub row-by-row-get : (b : Factors A) → getD (rowByRow k b) x z ≡ b (suc (x / k)) (suc (x % k))
+    row-by-row-get b = ap (λ (i : ℕ). getD (rowByRow k b) i z) (sym (div-add-mod' x k)) ∙ row-by-row-at k b (x / k) (x % k) row-below (mod-lt x some)
+
+  -- a list is the factors row by row if each element is
+  pub row-by-row-list : (k : ℕ) (b : Factors A) (l : List A) → length l ≡ k * k → ((i j : ℕ) → i < k → j < k → getD l (i * k + j) z ≡ b (suc i) (suc j)) → l ≡ rowByRow k b
+  row-by-row-list zero b l e h = empty-list l e ∙ sym (empty-list (rowByRow zero b) (rowByRow-length zero b))
+    where
+      empty-list : (l : List A) → length l ≡ 0 → l ≡ []
+      empty-list [] e = refl
+      empty-list (x ∷ l) e = absurd (omega arith)
+  row-by-row-list (suc k) b l e h =
+      ext-getD z l (rowByRow (suc k) b) (e ∙ sym (rowByRow-length (suc k) b))
+      (λ x q.
+      let few : x < suc k * suc k = omega arith in
+      let some : 0 < suc k = omega arith in
+      ap (λ (i : ℕ). getD l i z) (sym (div-add-mod' x (suc k)))
+      ∙ h (x / suc k) (x % suc k) (row-below (suc k) some x few) (mod-lt x some)
+      ∙ sym (row-by-row-get (suc k) some x few b))

@@ -1,0 +1,85 @@
+use Rattle.writer.proofs.Parts.{length-mapped}
+use Prim.Native.Nat.{ℕ, _+_, _*_, _-_}
+use mathlib.Core.Path.{refl}
+use lib.ListN.{getD}
+use Rattle.places.proofs.Filled.{unread, Filled, filled-none, filled-more}
+use Rattle.places.proofs.Holding.{table-read}
+use borrow.Author.Needs.{needs}
+use Rattle.places.proofs.table_at.Statement.{statement}
+use Rattle.places.proofs.table_at.Tie as tie
+use Rattle.places.proofs.table_at.Reads as reads
+use Rattle.places.proofs.table_at.Lts as lts
+use Rattle.number.proofs.Number.zero.Reads as zero-reads
+
+abbrev Inv-loop : tie.InvT-loop
+Inv-loop place shelf t₀ k₀ t k = Filled unread (λ i. getD (shelf .numbers) (place * 64 + i) unread) 64 k t
+
+abbrev μ-loop : tie.MeasureT-loop
+μ-loop place shelf t₀ k₀ t k = 64 - k
+
+-- src/places.rt:21:9
+zero-requires : tie.Need-zero-requires Inv-loop μ-loop
+zero-requires c κs = search needs
+
+-- src/places.rt:23:5
+loop-holds : tie.Need-loop-holds Inv-loop μ-loop
+loop-holds c = filled-none unread _ 64 _ refl
+
+-- src/places.rt:24:18
+mul-at : tie.Need-mul-at Inv-loop μ-loop
+mul-at c = search needs
+
+-- src/places.rt:24:18
+add-at : tie.Need-add-at Inv-loop μ-loop
+add-at c = search needs
+
+-- src/places.rt:25:16
+mul-t : tie.Need-mul-t Inv-loop μ-loop
+mul-t c = search needs
+
+-- src/places.rt:25:16
+element-copy-out-t : tie.Need-element-copy-out-t Inv-loop μ-loop
+element-copy-out-t c = search needs
+
+-- src/places.rt:25:9
+mul-t-2 : tie.Need-mul-t-2 Inv-loop μ-loop
+mul-t-2 c = search needs
+
+-- src/places.rt:25:9
+array-set-from-t : tie.Need-array-set-from-t Inv-loop μ-loop
+array-set-from-t c = search needs
+
+-- src/places.rt:23:9
+add-k : tie.Need-add-k Inv-loop μ-loop
+add-k c = search needs
+
+-- src/places.rt:23:5
+loop-less : tie.Need-loop-less Inv-loop μ-loop
+loop-less c = search needs
+
+-- src/places.rt:23:5
+loop-again : tie.Need-loop-again Inv-loop μ-loop
+loop-again c = filled-more unread _ 64 (c .before .before .loop .inv) (c .before .loop-test .taken) _ refl
+
+-- src/places.rt:17:1
+returns : tie.Need-returns Inv-loop μ-loop
+returns c = table-read _ _ (c .before .before .before .pre) (search (needs, length-mapped)) (c .before .loop .inv) (c .loop-test .left)
+
+pub table-at-spec : {M : Type 1} → statement M
+table-at-spec =
+    tie.close
+    (tie.spec
+    Inv-loop
+    μ-loop
+    zero-requires
+    loop-holds
+    mul-at
+    add-at
+    mul-t
+    element-copy-out-t
+    mul-t-2
+    array-set-from-t
+    add-k
+    loop-less
+    loop-again
+    returns)

@@ -1,0 +1,74 @@
+// The shelf: eight places, each empty or holding a matrix. It goes in by value and comes back; what a place holds is read and put here.
+ghost use mathlib.Core.Path.{_≡_};
+ghost use Prim.Native.Nat.{_≤_, _<_};
+ghost use Rattle.places.specs.Shelf.{rowsAt, tableAt, withTable, emptyShelf, Good};
+use number::Number;
+
+pub mod judge; // judge.rt: the tests of the calls
+pub mod tables; // tables.rt: the 64 numbers of a place
+
+// Eight places of 64 numbers each, and the rows of the matrix at each, 0 where the place is empty.
+pub struct Shelf {
+    numbers: [Number; 512],
+    sizes: [u8; 8],
+}
+
+// Document 01's number of what turned a call down, and the offset of the byte, 0 where it was no byte.
+pub struct Refusal {
+    pub number: u8,
+    pub offset: usize,
+}
+
+pub enum Verdict {
+    Accepted,
+    Refused(Refusal),
+}
+
+// All places empty.
+pub fn new() -> Shelf
+    ensures { λ r. ⌜ r ≡ emptyShelf ⌝ }
+    ensures { λ r. ⌜ Good r ⌝ }
+{
+    let zero = Number::zero();
+    Shelf {
+        numbers: [zero; 512],
+        sizes: [0u8; 8],
+    }
+}
+
+// The rows of the matrix at a place, 0 where it is empty.
+pub fn rows_at(shelf: Shelf, place: usize) -> usize
+    requires { ⌜ place < 8 ⌝ }
+    ensures { λ r. ⌜ r ≡ rowsAt shelf place ⌝ }
+{
+    shelf.sizes[place] as usize
+}
+
+// The 64 numbers of a place.
+pub fn table_at(shelf: Shelf, place: usize) -> [Number; 64]
+    requires { ⌜ place < 8 ⌝ }
+    ensures { λ r. ⌜ r ≡ tableAt shelf place ⌝ }
+{
+    let zero = Number::zero();
+    let mut t = [zero; 64];
+    for k in 0..64usize {
+        let at = place * 64 + k;
+        t[k] = shelf.numbers[at];
+    }
+    t
+}
+
+// A table of n rows put at a place.
+pub fn with_table(shelf: Shelf, place: usize, n: usize, t: [Number; 64]) -> Shelf
+    requires { ⌜ (place < 8) × (n ≤ 8) ⌝ }
+    ensures { λ r. ⌜ r ≡ withTable shelf place n t ⌝ }
+{
+    let mut left = shelf;
+    for k in 0..64usize {
+        let at = place * 64 + k;
+        let x = t[k];
+        left.numbers[at] = x;
+    }
+    left.sizes[place] = n as u8;
+    left
+}

@@ -1,0 +1,84 @@
+// The 64 numbers of a place: the factor of row i and column j stands at (i - 1) * 8 + (j - 1); a number that is no factor is zero.
+ghost use mathlib.Core.Path.{_≡_};
+ghost use Prim.Native.Nat.{suc, _*_, _/_, _%_, _≤_, _<_};
+ghost use lib.ListN.{take, replicate};
+ghost use Rattle.number.specs.Number.{zeroNumber};
+ghost use Rattle.words.specs.Word.{exchanged};
+ghost use Rattle.words.specs.Operation.{rowByRow};
+ghost use Rattle.places.specs.Table.{factorsOf, within, tableOf, squareOf, outside};
+use number::Number;
+
+// No factor.
+pub fn blank() -> [Number; 64]
+    ensures { λ r. ⌜ r ≡ replicate 64 zeroNumber ⌝ }
+{
+    let zero = Number::zero();
+    [zero; 64]
+}
+
+// What stands at k in the table of a matrix of n rows whose factors stand one behind the other, row by row.
+fn cell(numbers: [Number; 64], n: usize, k: usize) -> Number
+    requires { ⌜ n ≤ 8 ⌝ }
+    ensures { λ r. ⌜ r ≡ within n (squareOf n numbers) (suc (k / 8)) (suc (k % 8)) ⌝ }
+{
+    let i = k / 8;
+    let j = k % 8;
+    if n <= i {
+        return Number::zero();
+    }
+    if n <= j {
+        return Number::zero();
+    }
+    numbers[i * n + j]
+}
+
+// That table.
+pub fn spread(numbers: [Number; 64], n: usize) -> [Number; 64]
+    requires { ⌜ n ≤ 8 ⌝ }
+    ensures { λ r. ⌜ r ≡ tableOf n (squareOf n numbers) ⌝ }
+{
+    let zero = Number::zero();
+    let mut t = [zero; 64];
+    for k in 0..64usize {
+        t[k] = cell(numbers, n, k);
+    }
+    t
+}
+
+// And back: the factors of n rows, one behind the other.
+pub fn packed(t: [Number; 64], n: usize) -> [Number; 64]
+    requires { ⌜ n ≤ 8 ⌝ }
+    ensures { λ r. ⌜ take (n * n) r ≡ rowByRow n (factorsOf t) ⌝ }
+{
+    let zero = Number::zero();
+    let mut r = [zero; 64];
+    for k in 0..n * n {
+        r[k] = t[k / n * 8 + k % n];
+    }
+    r
+}
+
+// The factors of (i, j) and (j, i) exchanged.
+pub fn exchanged(t: [Number; 64]) -> [Number; 64]
+    ensures { λ r. ⌜ r ≡ tableOf 8 (exchanged (factorsOf t)) ⌝ }
+{
+    let zero = Number::zero();
+    let mut r = [zero; 64];
+    for k in 0..64usize {
+        r[k] = t[k % 8 * 8 + k / 8];
+    }
+    r
+}
+
+// A number has an exponent outside -1000 to 1000.
+pub fn outside(t: [Number; 64]) -> bool
+    ensures { λ r. ⌜ r ≡ outside t ⌝ }
+{
+    for k in 0..64usize {
+        let a = t[k];
+        if !a.in_range() {
+            return true;
+        }
+    }
+    false
+}

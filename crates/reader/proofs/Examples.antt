@@ -1,0 +1,53 @@
+-- Worked examples, as rows of one table under one theorem (`examples`): bytes and what is read of them, factors and their bytes, bundles and what is behind.
+use Prim.Native.Nat.{ℕ}
+use mathlib.Core.Path.{_≡_, refl}
+use mathlib.Core.List.{List, [], _∷_}
+use Rattle.group.specs.Group.{groupIn, bytesIn}
+use Rattle.number.specs.declared.Number.{Number}
+use Rattle.number.specs.Number.{oneNumber}
+use Rattle.writer.specs.Encoding.{factorBytes, factorsBytes, encoding}
+use Rattle.reader.specs.Matrix.{itemAt, mantissaAt, factorAt, Reading, matrix, fault, factorsFrom, matrixOf, behindOf}
+
+data Row : Type 0 where
+  reads : List ℕ → Reading → Row
+  writes : ℕ → List Number → List ℕ → Row
+  leaves : List ℕ → List ℕ → Row
+
+abbrev Holds : Row → Type 0
+Holds (reads s w) = matrixOf s ≡ w
+Holds (writes n L s) = encoding n L ≡ s
+Holds (leaves s t) = behindOf s ≡ t
+
+rows : List Row
+rows =
+    writes 1 (oneNumber ∷ []) (1 ∷ 0xCA ∷ 7 ∷ 0 ∷ [])
+    ∷ reads (1 ∷ 0xCA ∷ 7 ∷ 0 ∷ []) (matrix 1 (oneNumber ∷ []) 4)
+    ∷ reads (2 ∷ 0xCA ∷ 7 ∷ 0 ∷ 0xCA ∷ 7 ∷ 0 ∷ 0xCA ∷ 7 ∷ 0 ∷ 0xCA ∷ 7 ∷ 0 ∷ []) (matrix 2 (oneNumber ∷ oneNumber ∷ oneNumber ∷ oneNumber ∷ []) 13)
+    ∷ leaves (1 ∷ 0xCA ∷ 7 ∷ 0 ∷ 9 ∷ 5 ∷ []) (9 ∷ 5 ∷ [])
+    ∷ leaves (9 ∷ 5 ∷ []) (9 ∷ 5 ∷ [])
+    -- 2: the end, in the first item, in a later one, and before a fifth byte
+    ∷ reads [] (fault 2 0)
+    ∷ reads (2 ∷ 0xCA ∷ 7 ∷ 0 ∷ 0xCA ∷ []) (fault 2 5)
+    ∷ reads (0x80 ∷ 0x80 ∷ 0x80 ∷ 0x80 ∷ []) (fault 2 4)
+    -- 3: not shortest, a fifth byte with its top bit set, 2 ^ 32
+    ∷ reads (0x80 ∷ 0 ∷ []) (fault 3 0)
+    ∷ reads (0x80 ∷ 0x80 ∷ 0x80 ∷ 0x80 ∷ 0x80 ∷ []) (fault 3 0)
+    ∷ reads (1 ∷ 0xCA ∷ 7 ∷ 0x80 ∷ 0x80 ∷ 0x80 ∷ 0x80 ∷ 0x10 ∷ []) (fault 3 3)
+    -- 4: n is 0, 9, 300
+    ∷ reads (0 ∷ []) (fault 4 0)
+    ∷ reads (9 ∷ []) (fault 4 0)
+    ∷ reads (0xAC ∷ 2 ∷ []) (fault 4 0)
+    -- 5: exponent code 2002, whatever is behind it; the rest of a mantissa is 2 ^ 31
+    ∷ reads (1 ∷ 0xD2 ∷ 0xF ∷ []) (fault 5 1)
+    ∷ reads (1 ∷ 0xCA ∷ 7 ∷ 0x80 ∷ 0x80 ∷ 0x80 ∷ 0x80 ∷ 8 ∷ []) (fault 5 3)
+    -- 6: a zero factor, the second one
+    ∷ reads (2 ∷ 0xCA ∷ 7 ∷ 0 ∷ 0 ∷ []) (fault 6 4)
+    ∷ []
+
+All : List Row → Type 0
+All [] = Unit {0}
+All (r ∷ rs) = Holds r × All rs
+
+examples : All rows
+unfolding All rows matrixOf factorsFrom factorAt mantissaAt itemAt groupIn encoding factorsBytes factorBytes bytesIn
+examples = (refl, (refl, (refl, (refl, (refl, (refl, (refl, (refl, (refl, (refl, (refl, (refl, (refl, (refl, (refl, (refl, (refl, tt)))))))))))))))))

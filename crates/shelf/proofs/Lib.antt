@@ -1,0 +1,5 @@
+-- Laws that belong to no one function.
+pub mod Loading
+pub mod Dropping
+pub mod Writing
+pub mod Proposals

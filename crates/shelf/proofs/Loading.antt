@@ -1,0 +1,146 @@
+-- A load: its result by what was found (`load-turned`, `load-read`), the shelf stays good (`load-good`); stored lists and stored factors (`stored-square`, `stored-rows`).
+use Prim.Native.Nat.{ℕ, zero, suc, _+_, _-_, _*_, _/_, _%_, _<_, _≤_}
+use native.Mathlib.Nat.{mod-lt}
+use native.Mathlib.Omega.{arith}
+use mathlib.Core.Path.{_≡_, refl, sym, ap, _∙_}
+use mathlib.Core.Bool.{Bool, true, false, cond}
+use mathlib.Core.List.{List, [], _∷_, _++_}
+use lib.Dec.{ltb}
+use lib.ListN.{length, getD, take, drop, take-append-drop}
+use lib.Seq.{getD-take}
+use borrow.Author.Tests.{lt-ltb, le-ltb}
+use Rattle.group.specs.Group.{Bytes}
+use Rattle.number.specs.declared.Number.{Number}
+use Rattle.number.specs.Number.{zeroNumber, Stored}
+use Rattle.words.specs.Word.{Factors}
+use Rattle.words.specs.Operation.{rowByRow}
+use Rattle.minors.specs.Matrix.{In}
+use Rattle.factors.specs.Demand.{Each}
+use Rattle.factors.proofs.Demanded.{rowByRow-length}
+use Rattle.reader.specs.declared.Outcome.the-variants as outcome
+use Rattle.reader.specs.declared.Parsed.{Parsed}
+use Rattle.writer.specs.Encoding.{encoding, AllStored, Storable}
+use Rattle.reader.specs.Matrix.{Reading, matrix, fault, matrixOf, parsed}
+use Rattle.reader.proofs.RoundTrip.{matrix-written, matrix-read, accepted}
+use Rattle.places.specs.declared.Shelf.{Shelf}
+use Rattle.places.specs.declared.Refusal.{Refusal}
+use Rattle.places.specs.declared.Verdict.{Verdict}
+use Rattle.places.specs.declared.Verdict.the-variants.{Accepted, Refused}
+use Rattle.shelf.specs.declared.Changed.{Changed}
+use Rattle.places.specs.Table.{tableOf, squareOf}
+use Rattle.places.specs.Shelf.{holding, Good}
+use Rattle.places.specs.Refusal.{firstOf, orElse, after, refused, targetTests}
+use Rattle.shelf.specs.Calls.{changed, ofReading, loadTests, readTo, loadCall}
+use Rattle.places.proofs.RowByRow.{row-by-row-get, row-below}
+use Rattle.places.proofs.Table.{square-below, some-rows, table-same}
+use Rattle.places.proofs.Holding.{good-holding}
+use Rattle.places.proofs.Verdicts.{first-last, target-accepted}
+
+-- STORED: of a list, of factors
+all-stored-at : (L : List Number) → AllStored L → (k : ℕ) → k < length L → Stored (getD L k zeroNumber)
+all-stored-at [] h k l = absurd (omega arith)
+all-stored-at (a ∷ L) h zero l = h .0
+all-stored-at (a ∷ L) h (suc k) l = all-stored-at L (h .1) k (omega arith)
+
+all-stored-list : (L : List Number) → ((k : ℕ) → k < length L → Stored (getD L k zeroNumber)) → AllStored L
+all-stored-list [] h = tt
+all-stored-list (a ∷ L) h = (h 0 (omega arith), all-stored-list L (λ k l. h (suc k) (omega arith)))
+
+pub stored-square : (n : ℕ) (L : List Number) → Storable n L → Each Stored n (squareOf n L)
+unfolding squareOf
+stored-square n L w i j x y =
+    all-stored-at L (w .stored) ((i - 1) * n + (j - 1)) (omega (arith, w .square, square-below n (i - 1) (j - 1) (omega arith) (omega arith)))
+
+pub stored-rows : (n : ℕ) (b : Factors Number) → 0 < n → n ≤ 8 → Each Stored n b → Storable n (rowByRow n b)
+stored-rows n b some few h =
+    record {
+      some = some;
+      few = few;
+      square = rowByRow-length n b;
+      stored = all-stored-list (rowByRow n b)
+          (λ k l.
+          let m : k < n * n = omega (arith, rowByRow-length n b) in
+          rw (row-by-row-get zeroNumber n some k m b) (h (suc (k / n)) (suc (k % n)) (omega arith, row-below zeroNumber n some k m) (omega arith, mod-lt k some)));
+    }
+
+-- WHAT THE READER ANSWERS: a fault; a matrix, whose factors stand at the start of 64 numbers
+pub parsed-fault : (w : Reading) (k o : ℕ) (r : Parsed) → r ≡ parsed w → r .outcome ≡ outcome.Fault k o → w ≡ fault k o
+parsed-fault (matrix n L q) k o r e f =
+    let g : outcome.Matrix n q ≡ outcome.Fault k o = sym (ap (λ (x : Parsed). x .outcome) e) ∙ f in
+    let z : _≡_ {A = ℕ} 0 1 = cc in
+    absurd (omega arith)
+parsed-fault (fault j i) k o r e f =
+    let g : outcome.Fault j i ≡ outcome.Fault k o = sym (ap (λ (x : Parsed). x .outcome) e) ∙ f in
+    let ej : j ≡ k = cc in
+    let ei : i ≡ o = cc in
+    rw (ej, ei)
+
+pub parsed-matrix : (s : List ℕ) → Bytes s → (n q : ℕ) (r : Parsed) → r ≡ parsed (matrixOf s) → r .outcome ≡ outcome.Matrix n q → matrixOf s ≡ matrix n (take (n * n) (r .numbers)) q
+parsed-matrix s bs n q r e f =
+    let m = accepted s bs n q r e f in
+    let split : s ≡ encoding n (take (n * n) (r .numbers)) ++ drop q s = sym (take-append-drop q s) ∙ ap (λ (l : List ℕ). l ++ drop q s) (m .taken) in
+    ap matrixOf split ∙ matrix-written n (take (n * n) (r .numbers)) (drop q s) (m .storable) ∙ ap (matrix n (take (n * n) (r .numbers))) (sym (m .next))
+
+pub square-taken : (n : ℕ) (numbers : List Number) → tableOf n (squareOf n numbers) ≡ tableOf n (squareOf n (take (n * n) numbers))
+unfolding squareOf
+square-taken n numbers =
+    table-same n (squareOf n numbers) (squareOf n (take (n * n) numbers))
+    (λ i j x y. sym (getD-take (n * n) numbers ((i - 1) * n + (j - 1)) zeroNumber (square-below n (i - 1) (j - 1) (omega arith) (omega arith))))
+
+-- THE RESULT, by what was found
+module _ (s : Shelf) (p : ℕ) (bytes : List ℕ) where
+  load-verdict : firstOf (loadTests s p bytes) ≡ orElse (firstOf (targetTests s p)) (ofReading bytes (matrixOf bytes))
+  load-verdict = first-last (targetTests s p) (ofReading bytes (matrixOf bytes))
+
+  pub load-turned : (w : Refusal) → firstOf (targetTests s p) ≡ Refused w → changed (Refused w) s s ≡ loadCall s p bytes
+  unfolding loadCall
+  load-turned w e =
+      let v : firstOf (loadTests s p bytes) ≡ Refused w = load-verdict ∙ ap (λ (u : Verdict). orElse u (ofReading bytes (matrixOf bytes))) e in
+      ap (λ (u : Verdict). changed u s (readTo s p (matrixOf bytes))) (sym v)
+
+  pub load-read : (w : Reading) → firstOf (targetTests s p) ≡ Accepted → matrixOf bytes ≡ w → changed (ofReading bytes w) s (readTo s p w) ≡ loadCall s p bytes
+  unfolding loadCall
+  load-read w e f =
+      let v : firstOf (loadTests s p bytes) ≡ ofReading bytes (matrixOf bytes) = load-verdict ∙ ap (λ (u : Verdict). orElse u (ofReading bytes (matrixOf bytes))) e in
+      ap (λ (x : Reading). changed (ofReading bytes x) s (readTo s p x)) (sym f) ∙ ap (λ (u : Verdict). changed u s (readTo s p (matrixOf bytes))) (sym v)
+
+  module _ (e : firstOf (targetTests s p) ≡ Accepted) where
+    pub load-fault : (k o : ℕ) → matrixOf bytes ≡ fault k o → changed (refused k o) s s ≡ loadCall s p bytes
+    load-fault k o f = load-read (fault k o) e f
+
+    module _ (n : ℕ) (L : List Number) (q : ℕ) (f : matrixOf bytes ≡ matrix n L q) where
+      abbrev by : Bool → Changed
+      by t = changed (cond t (refused 7 q) Accepted) s (holding s p n (squareOf n L))
+
+      pub load-behind : q < length bytes → changed (refused 7 q) s s ≡ loadCall s p bytes
+      load-behind h = ap by (sym (lt-ltb q (length bytes) h)) ∙ load-read (matrix n L q) e f
+
+      pub load-done : length bytes ≤ q → changed Accepted s (holding s p n (squareOf n L)) ≡ loadCall s p bytes
+      load-done h = ap by (sym (le-ltb q (length bytes) h)) ∙ load-read (matrix n L q) e f
+
+  -- THE SHELF STAYS GOOD
+  module _ (good : Good s) (bs : Bytes bytes) where
+    read-good : p < 8 → (w : Reading) → matrixOf bytes ≡ w → Good (readTo s p w)
+    read-good small (matrix n L q) e =
+        let st = matrix-read bytes bs n L q e .storable in
+        good-holding s good p n (squareOf n L) small (st .few) (stored-square n L st)
+    read-good small (fault k o) e = good
+
+    changed-good : (v : Verdict) → (v ≡ Accepted → Good (readTo s p (matrixOf bytes))) → Good (after v s (readTo s p (matrixOf bytes)))
+    changed-good Accepted h = h refl
+    changed-good (Refused w) h = good
+
+    accepted-left : (u v : Verdict) → orElse u v ≡ Accepted → u ≡ Accepted
+    accepted-left Accepted v e = refl
+    accepted-left (Refused w) v e = e
+
+    pub load-good : Good (loadCall s p bytes .shelf)
+    unfolding loadCall
+    load-good =
+        changed-good (firstOf (loadTests s p bytes))
+        (λ e.
+        let t = target-accepted s p (accepted-left (firstOf (targetTests s p)) (ofReading bytes (matrixOf bytes)) (sym load-verdict ∙ e)) in
+        read-good (t .small) (matrixOf bytes) refl)
+
+    pub load-answered : (x : Changed) → x ≡ loadCall s p bytes → (x ≡ loadCall s p bytes) × Good (x .shelf)
+    load-answered x e = (e, rw e load-good)

@@ -1,0 +1,31 @@
+-- Document 01's marked examples on words hold (rule-examples), and so do its tables of bounds (bound-examples), by computing; the bounds are the
+-- paper's formulas (product-bound, source-bound).
+use mathlib.Core.Path.{_≡_, refl}
+use Prim.Native.Nat.{ℕ, _+_, _-_, _*_}
+use native.Mathlib.Omega.{arith}
+use lib.Ieee.{size}
+use Rattle.number.specs.Examples.{AllHold}
+use Rattle.number.specs.Number.{round, carried, sumOf, productOf, quotientOf, inRange}
+use Rattle.number.specs.Signed.{signedRound, signedSum, withSign, signedProduct}
+use Rattle.words.specs.RowSet.{has, put, count, equal, rows, ofMask, among}
+use Rattle.words.specs.Word.{ascending, descending, word, inverseWord, converseWord}
+use Rattle.words.specs.Walk.{oneAt, moved, scaled, act, walk, minor, carryLetter, carry}
+use Rattle.words.specs.Formula.{onDiagonal, belowDiagonal, newFactor}
+use Rattle.words.specs.Operation.{joinedWord, boundOf, rowByRow, refactored}
+use Rattle.words.specs.Examples.{ruleTable, boundTable}
+
+pub rule-examples : AllHold ruleTable
+unfolding ruleTable has put count equal rows ofMask among ascending descending word inverseWord converseWord joinedWord oneAt moved scaled act walk minor carryLetter carry
+    onDiagonal belowDiagonal newFactor refactored rowByRow round carried sumOf productOf quotientOf signedRound signedSum withSign signedProduct inRange size lib.Ieee.span lib.Ieee.climb mathlib.Core.Bool.xor
+rule-examples = (refl, (refl, (refl, (refl, (refl, (refl, (refl, (refl, (refl, (refl, (refl, tt)))))))))))
+
+pub bound-examples : AllHold boundTable
+unfolding boundTable ascending
+bound-examples = (refl, (refl, (refl, tt)))
+
+-- as the paper writes them, for any number of rows
+pub product-bound : (n : ℕ) → boundOf 2 n ≡ 16 * n * n - 8 * n + 3
+product-bound n = omega arith
+
+pub source-bound : (n : ℕ) → boundOf 1 n ≡ 8 * n * n - 4 * n + 3
+source-bound n = omega arith

@@ -1,0 +1,83 @@
+-- Document 01's marked examples on words, P5 to P12, as rows of one table, and its two tables of bounds.
+use mathlib.Core.Bool.{true, false, cond}
+use mathlib.Core.List.{List, [], _∷_}
+use Prim.Native.Nat.{ℕ, _*_, _^_}
+use lib.Dec.{eqb, ltb}
+use Rattle.number.specs.declared.Number.{Number}
+use Rattle.number.specs.Number.{oneNumber, rounded, inRange}
+use Rattle.number.specs.declared.signed.Signed.{Signed}
+use Rattle.number.specs.Signed.{plain, zeroSigned, signedArithmetic}
+use Rattle.number.specs.Examples.{Row, row, up, down}
+use Rattle.words.specs.RowSet.{ofMask}
+use Rattle.words.specs.Word.{Factors, word, forUp}
+use Rattle.words.specs.Walk.{minor, carry}
+use Rattle.words.specs.Operation.{Operation, product, inverse, converse, submatrix, size, bound, rowByRow, result}
+
+-- the source whose factors are all one
+abbrev pub ones : Factors Number
+ones i j = oneNumber
+
+-- two above the diagonal, else one
+abbrev pub higher : Factors Number
+higher i j = cond (ltb i j) (down (2 ^ 31) 30) oneNumber
+
+-- rows 2 and 3, columns 1 and 2, of three
+abbrev pub cornerOf : Factors Number → Operation Number
+cornerOf b = submatrix b (ofMask 3 6) (ofMask 3 3)
+
+-- the operation's factors, row by row
+abbrev factorsOf : ℕ → Operation Number → List Number
+factorsOf n o = rowByRow (size n o) (result rounded n o)
+
+-- 1/2, 3/2, 2, 5/2, 3 and 5
+abbrev pub half : Number
+half = down (2 ^ 31) 32
+
+abbrev pub threeHalves : Number
+threeHalves = down 3221225472 31
+
+abbrev pub two : Number
+two = down (2 ^ 31) 30
+
+abbrev pub fiveHalves : Number
+fiveHalves = down (5 * 2 ^ 29) 30
+
+abbrev pub three : Number
+three = down (3 * 2 ^ 30) 30
+
+abbrev pub five : Number
+five = down (5 * 2 ^ 29) 29
+
+-- the least mantissa at the largest exponent
+abbrev pub large : Number
+large = up (2 ^ 31) 1000
+
+-- 1 and -1 as list items
+abbrev pub signedOne : Signed
+signedOne = plain oneNumber
+
+abbrev pub minusOne : Signed
+minusOne = record { negative = true; size = oneNumber }
+
+unfoldable pub ruleTable : List Row
+ruleTable =
+    row (factorsOf 2 (product ones ones)) (two ∷ threeHalves ∷ threeHalves ∷ half ∷ [])  -- P5
+    ∷ row (factorsOf 2 (product ones higher)) (two ∷ fiveHalves ∷ threeHalves ∷ half ∷ [])  -- beside it: the left word, then the right word
+    ∷ row (factorsOf 2 (inverse ones)) (two ∷ half ∷ half ∷ half ∷ [])  -- P6
+    ∷ row (factorsOf 2 (converse ones)) (two ∷ half ∷ half ∷ half ∷ [])  -- P7
+    ∷ row (factorsOf 3 (cornerOf ones)) (oneNumber ∷ two ∷ oneNumber ∷ oneNumber ∷ [])  -- P8
+    ∷ row (minor rounded (word 3 ones) (ofMask 3 5) (ofMask 3 5)) five  -- P9: rows and columns 1 and 3
+    ∷ row (factorsOf 1 (inverse (λ i j. three))) (down 2863311531 33 ∷ [])  -- P10
+    ∷ row (inRange (result rounded 1 (product (λ i j. large) ones) 1 1)) true  -- P11: times one
+    ∷ row (inRange (result rounded 1 (product (λ i j. large) (λ i j. two)) 1 1)) false  -- times two
+    ∷ row (inRange (result rounded 1 (inverse (λ i j. large)) 1 1)) false  -- its inverse
+    ∷ row (forUp 1 2 (λ i. carry signedArithmetic (word 2 (λ i j. signedOne)) (λ i. cond (eqb i 1) signedOne minusOne) i ∷ [])) (zeroSigned ∷ minusOne ∷ [])  -- P12: the list 1, -1
+    ∷ []
+
+-- the bounds returned for n = 1 to 8: of a product, and of one source
+unfoldable pub boundTable : List Row
+boundTable =
+    row (forUp 1 8 (λ n. bound n (product ones ones) ∷ [])) (11 ∷ 51 ∷ 123 ∷ 227 ∷ 363 ∷ 531 ∷ 731 ∷ 963 ∷ [])
+    ∷ row (forUp 1 8 (λ n. bound n (inverse ones) ∷ [])) (7 ∷ 27 ∷ 63 ∷ 115 ∷ 183 ∷ 267 ∷ 367 ∷ 483 ∷ [])
+    ∷ row (bound 3 (cornerOf ones)) 63  -- P8's, which goes by the source's rows
+    ∷ []

@@ -1,0 +1,128 @@
+"""Checks of the model against what the papers print: P1 to P12, the program shown, bounds, byte faults, the console's lines."""
+from fractions import Fraction
+
+import words
+from checks import check, refused, same
+from console_model import Console, doubtful, parse
+from encoding import encode, read_matrix, read_single
+from exact import exact_run
+from model import Shelf, shown
+from number import HIGH, ITEM_ZERO, LOW, ONE, add, multiply, round_fraction, value
+from words import POSITION, Matrix, Walker, bound, carry, count, minor, operate
+
+
+def number(x):
+    """The number of a fraction that a number stands for."""
+    found = round_fraction(Fraction(x))
+    assert value(found) == x
+    return found
+
+
+def ones(n):
+    return Matrix(n, (ONE,) * (n * n))
+
+
+def single(m, e):
+    return Matrix(1, ((m, e),))
+
+
+@check
+def marked_numbers(rng, rounds):
+    """P1 to P4."""
+    same(add(ONE, number(Fraction(1, 2 ** 32))), ONE)
+    same(add((LOW + 1, -31), number(Fraction(1, 2 ** 32)))[0], 2147483650)
+    same(add((HIGH - 1, 0), number(Fraction(1, 2))), (LOW, 1))
+    same(multiply((HIGH - 1, 0), (HIGH - 1, 0)), (4294967294, 32))
+
+
+@check
+def marked_operations(rng, rounds):
+    """P5 to P10."""
+    same(shown(encode(ones(2)), encode(ones(2))),
+         "2\n1 1 2147483648 -30\n1 2 3221225472 -31\n2 1 3221225472 -31\n2 2 2147483648 -32\n")
+    half, two = number(Fraction(1, 2)), number(2)
+    same(operate("inverse", [ones(2)]), Matrix(2, (two, half, half, half)))
+    same(operate("converse", [ones(2)]), Matrix(2, (two, half, half, half)))
+    same(operate("submatrix", [ones(3)], 0b110, 0b011), Matrix(2, (ONE, two, ONE, ONE)))
+    same(minor(ones(3), 0b101, 0b101), number(5))
+    same(operate("inverse", [single(*number(3))]), single(2863311531, -33))
+    # The word reversed for the converse would give the source back.
+    turned = words.converse_word(ones(2))[::-1]
+    same(words.factors_by(Walker(turned, 2).minor, words.ROUNDED, [1, 2], [1, 2]), ones(2).factors)
+
+
+@check
+def marked_calls(rng, rounds):
+    """P11, P12 and the answers shown in full."""
+    shelf = Shelf()
+    shelf.load(0, encode(single(LOW, 1000)))
+    shelf.load(1, encode(single(*ONE)))
+    shelf.load(2, encode(single(*number(2))))
+    same(shelf.product(0, 1, 3), 11)
+    shelf.load(5, encode(ones(3)))
+    same(shelf.submatrix(5, 0b110, 0b011, 6), 63)
+    same(refused(shelf.product, 0, 2, 4), (14, 0))
+    same(refused(shelf.one_source, "inverse", 0, 4), (14, 0))
+    same(carry(ones(2), [(1,) + ONE, (-1,) + ONE]), [ITEM_ZERO, (-1,) + ONE])
+    same([shown(b"", b""), shown(encode(ones(2)), encode(ones(3)))], ["refused 2 at 0\n", "refused 13 at 0\n"])
+    same([str(x) for x in exact_run("product", [ones(2), ones(2)])], ["2", "3/2", "3/2", "1/2"])
+
+
+@check
+def tables(rng, rounds):
+    """The bounds as printed, the positions of the masks, the byte of one."""
+    same([bound("product", n) for n in range(1, 9)], [11, 51, 123, 227, 363, 531, 731, 963])
+    same([bound("inverse", n) for n in range(1, 9)], [7, 27, 63, 115, 183, 267, 367, 483])
+    for size in range(9):
+        masks = [mask for mask in range(256) if count(mask) == size]
+        same([POSITION[mask] for mask in masks], list(range(len(masks))))
+    same(encode(ones(2)).hex(), "02" + 4 * "ca0700")
+    same(len(encode(Matrix(8, ((HIGH - 1, 1000),) * 64))), 449)
+
+
+@check
+def updates_counted(rng, rounds):
+    """The set updates of a product with minors worked one by one, as the readings count them."""
+    for n, wanted in enumerate([0, 24, 240, 1344, 5760, 21120, 69888, 215040], 1):
+        total = 0
+        for i in range(1, n + 1):
+            for j in range(1, n + 1):
+                for rows, _ in sum(words.formula(i, j), []):
+                    letters = [(kind, k) for kind in ("E", "Et") for k in range(2, n + 1) for _ in range(k - 1)]
+                    total += 2 * sum(len(words.updates(n, count(rows), *letter)) for letter in letters)
+        same(total, wanted)
+
+
+@check
+def byte_faults(rng, rounds):
+    """The readings of 2 to 7, case by case."""
+    cases = [("", 2, 0), ("80", 2, 1), ("80808080", 2, 4), ("8080808080", 3, 0), ("ffffffff1f", 3, 0), ("8000", 3, 0),
+             ("ac02", 4, 0), ("00", 4, 0), ("09", 4, 0), ("ffffffff0f", 4, 0), ("01", 2, 1), ("0100", 6, 1), ("01d20f", 5, 1),
+             ("01d10f", 2, 3), ("01ca", 2, 2), ("01ca87", 2, 3), ("01ca8700", 3, 1), ("01ca07", 2, 3),
+             ("01ca078080808008", 5, 3), ("01ca078080808010", 3, 3), ("01ca07ffffffff07", None, None),
+             ("01ca0700", None, None), ("01ca070080", 7, 4), ("01ca0780", 2, 4), ("01ca078000", 3, 3), ("018000", 3, 1)]
+    for text, *wanted in cases:
+        same(refused(read_single, bytes.fromhex(text)), None if wanted[0] is None else tuple(wanted))
+    same(read_matrix(bytes.fromhex("01ca0700ff"))[1], 4)
+
+
+@check
+def console(rng, rounds):
+    """Lines and answers of the console as its description gives them."""
+    session = Console()
+    talk = [("load 0 02ca0700ca0700ca0700ca0700", "loaded"), ("product 0 0 1", "bound 51"),
+            ("show 1", "matrix 2 2147483648 -30 3221225472 -31 3221225472 -31 2147483648 -32"), ("show 8", "refused 1 at 0"),
+            ("show 7", "empty"), ("write 0 15", "wrote 13 02ca0700ca0700ca0700ca0700a5a5"), ("write 0 2", "refused 10 at 0 a5a5"),
+            ("write 0 0", "refused 10 at 0 -"), ("carry 0 3 1,2147483648,-31 -1,2147483648,-31",
+                                                "carried 0,0,0 -1,2147483648,-31 1,2147483648,0"),
+            ("carry 0 0", "refused 9 at 0 -"), ("reversals", "refused 9 at 0"), ("reversals 1,2147483648,0 -1,2147483648,0",
+                                                                              "reversals 1"),
+            ("rest 01ca0700ff", "rest ff"), ("rest 01ca0700", "rest -"), ("rest -", "rest -"), ("rest 01ca", "rest 01ca"),
+            ("minor 0 1 1", "number 2147483648 -31"), ("minor 0 0 0", "refused 8 at 0"), ("drop 4294967295", "refused 1 at 0"),
+            ("transpose 0 2", "bound 0"), ("drop 2", "dropped"), ("submatrix 0 3 3 2", "bound 27"), ("", "bad request"),
+            ("load 0", "bad request"), ("load 0 0", "bad request"), ("show  0", "bad request"), ("drop -1", "bad request"),
+            ("minor 0 256 1", "bad request"), ("write 0 513", "bad request"), ("reversals 0,0", "bad request")]
+    for line, wanted in talk:
+        same(session.answer(line), wanted)
+    same([parse("rest " + "00" * k) is None for k in (2045, 2046)], [False, True])
+    same([doubtful(x) for x in ("show 00", "show 0", "reversals 1,2147483648,-0", "rest 00")], [True, False, True, False])

@@ -1,0 +1,204 @@
+"""Random cross-checks of the model: fast against slow arithmetic, exact run against matrix arithmetic, bounds, bytes, refusals."""
+from fractions import Fraction
+
+import words
+from checks import check, refused, same
+from console_model import Console, call_words, parse
+from encoding import Refusal, encode, group, read_group, read_single, rest
+from exact import entries_of, exact_parts, exact_run, inverse, matrix_product, multiply_out, requested, units, within
+from model import ORDER, conditions
+from number import (HIGH, ITEM_ZERO, LOW, ONE, ZERO, add, divide, multiply, round_fraction, round_whole, signed_add, slow_add,
+                    slow_divide, slow_multiply, slow_signed_add, value)
+from requests import stream
+from words import Matrix, Walker, bound, carry, minor, operate, operation_word, plain_minor, rows_of, transpose
+
+
+def random_number(rng, spread):
+    m = rng.choice([rng.randrange(LOW, HIGH), LOW, HIGH - 1, LOW + 1, LOW + rng.randrange(8), HIGH - 1 - rng.randrange(8)])
+    return (m, max(-1000, min(1000, rng.randint(-spread, spread) - 31)))
+
+
+def random_matrix(rng, n, spread):
+    return Matrix(n, tuple(random_number(rng, spread) for _ in range(n * n)))
+
+
+def random_sets(rng, n):
+    size = rng.randint(1, n)
+    return [sum(1 << k for k in rng.sample(range(n), size)) for _ in range(2)]
+
+
+def random_item(rng, spread):
+    return rng.choice([ITEM_ZERO] + [(s,) + random_number(rng, spread) for s in (-1, 1, -1, 1)])
+
+
+@check
+def rounding(rng, rounds):
+    """The fast arithmetic against fractions."""
+    for _ in range(20 * rounds):
+        a = random_number(rng, 40)
+        b = random_number(rng, 40)
+        if rng.random() < 0.5:
+            b = (b[0], a[1] + rng.randint(-36, 36))
+        same(add(a, b), slow_add(a, b))
+        same(multiply(a, b), slow_multiply(a, b))
+        same(divide(a, b), slow_divide(a, b))
+        x, y = (rng.choice((-1, 1)),) + a, (rng.choice((-1, 1)),) + b
+        same(signed_add(x, y), slow_signed_add(x, y))
+        whole = rng.getrandbits(rng.randint(1, 90)) | 1
+        same(round_whole(whole, 0), round_fraction(Fraction(whole)))
+    for a in (ZERO, ONE):
+        same([add(a, ZERO), add(ZERO, a), multiply(a, ZERO), multiply(ZERO, a), divide(ZERO, ONE)], [a, a, ZERO, ZERO, ZERO])
+    quarter, half = (-1, LOW, -33), (-1, LOW, -32)
+    same(signed_add((1, LOW, 0), quarter), (1, LOW, 0))
+    same(signed_add((1, LOW, 0), half), (1, HIGH - 1, -1))
+
+
+@check
+def nearest(rng, rounds):
+    """Rounding as a property: no 32-bit number is nearer, and at a tie the mantissa is even."""
+    for _ in range(rounds):
+        x = Fraction(rng.getrandbits(80) + 1, rng.getrandbits(rng.choice((1, 20, 60))) + 1)
+        m, e = round_fraction(x)
+        lower = (m - 1, e) if m > LOW else (HIGH - 1, e - 1)
+        upper = (m + 1, e) if m < HIGH - 1 else (LOW, e + 1)
+        for other in (lower, upper):
+            near, far = abs(value((m, e)) - x), abs(value(other) - x)
+            assert near < far or (near == far and m % 2 == 0)
+
+
+@check
+def walks(rng, rounds):
+    """One walk for a column set gives the minors that document 01 works one by one."""
+    for _ in range(rounds // 10):
+        n = rng.choice([1, 2, 3, 3, 4, 4, 5])
+        kind = rng.choice(["product", "inverse", "converse", "submatrix"])
+        letters = operation_word(kind, [random_matrix(rng, n, 60) for _ in range(2)])
+        rows, columns = random_sets(rng, n)
+        same(Walker(letters, n).minor(rows, columns), plain_minor(letters, n, rows, columns))
+        slow = words.Arithmetic(ZERO, ONE, slow_add, slow_multiply, slow_divide)
+        if n < 4:
+            same(plain_minor(letters, n, rows, columns, slow), plain_minor(letters, n, rows, columns))
+
+
+@check
+def exact_runs(rng, rounds):
+    """The exact factors multiply out to the requested matrix, and the rounded ones lie within the bound of them."""
+    for _ in range(rounds // 10):
+        n = rng.choice([1, 2, 2, 3, 3, 4])
+        sources = [random_matrix(rng, n, rng.choice([0, 3, 60])) for _ in range(2)]
+        for kind in ("product", "inverse", "converse", "submatrix"):
+            sets = random_sets(rng, n) if kind == "submatrix" else [None, None]
+            rounded = operate(kind, sources, *sets)
+            exact = exact_run(kind, sources, *sets)
+            same(multiply_out(rounded.n, exact), requested(kind, sources, *sets))
+            assert all(x > 0 for x in exact)
+            assert all(within(x, y, bound(kind, n)) for x, y in zip(rounded.factors, exact))
+            for x, y, parts in zip(rounded.factors, exact, exact_parts(kind, sources, *sets)):
+                same(value(parts[0]) / value(parts[1]), y)
+                k = abs(units(x, parts))
+                assert within(x, y, int(k) + 1) and (k < 1 or not within(x, y, int(k - 1e-6)) or k % 1 < 1e-6)
+
+
+@check
+def minors(rng, rounds):
+    """Exact minors are the determinants of the entries, and the inverse is one."""
+    def determinant(entries):
+        if not entries:
+            return Fraction(1)
+        return sum((-1) ** j * x * determinant([row[:j] + row[j + 1:] for row in entries[1:]])
+                   for j, x in enumerate(entries[0]))
+
+    for _ in range(rounds // 10):
+        n = rng.randint(1, 4)
+        source = random_matrix(rng, n, 5)
+        entries = entries_of(source)
+        rows, columns = random_sets(rng, n)
+        chosen = [[entries[i - 1][j - 1] for j in rows_of(columns)] for i in rows_of(rows)]
+        exact = determinant(chosen)
+        assert within(minor(source, rows, columns), exact, 2 * n * n - n)
+        same(matrix_product(entries, inverse(entries)), [[Fraction(i == j) for j in range(n)] for i in range(n)])
+        flipped = [[entries[j][i] for j in range(n)] for i in range(n)]
+        same(entries_of(transpose(source)), flipped)
+
+
+@check
+def carried(rng, rounds):
+    """A carried list against fractions: without cancellation within the roundings made, and the exact carry for powers of two."""
+    for _ in range(rounds // 5):
+        n = rng.randint(1, 6)
+        source = random_matrix(rng, n, 5)
+        listed = [(1,) + random_number(rng, 5) for _ in range(n)]
+        wanted = matrix_product(entries_of(source), [[value(x[1:])] for x in listed])
+        for found, [exact] in zip(carry(source, listed), wanted):
+            assert found[0] == 1 and within(found[1:], exact, 2 * n * n - n)
+        powers = Matrix(n, tuple((LOW, rng.randint(-33, -29)) for _ in range(n * n)))
+        signed = [(rng.choice((-1, 1)), LOW, rng.randint(-32, -30)) for _ in range(n)]
+        wanted = matrix_product(entries_of(powers), [[x[0] * value(x[1:])] for x in signed])
+        if n < 4:
+            same([x[0] * value(x[1:]) for x in carry(powers, signed)], [exact for [exact] in wanted])
+
+
+@check
+def bytes_back(rng, rounds):
+    """What is written reads back, accepted bytes are the writer's, and every change of a byte is judged alike by both."""
+    for _ in range(rounds // 5):
+        matrix = random_matrix(rng, rng.randint(1, 4), rng.choice([5, 900]))
+        data = encode(matrix)
+        same(read_single(data), matrix)
+        same(rest(data + b"abc"), b"abc")
+        same(refused(read_single, data + b"\xff"), (7, len(data)))
+        cut = rng.randrange(len(data))
+        same(refused(read_single, data[:cut]), (2, cut))
+        same(rest(data[:cut]), data[:cut])
+        place = rng.randrange(len(data))
+        changed = data[:place] + bytes([data[place] ^ 1 << rng.randrange(8)]) + data[place + 1:]
+        try:
+            same(encode(read_single(changed)), changed)
+        except Refusal as fault:
+            assert 2 <= fault.number <= 7
+        x = rng.getrandbits(rng.randint(1, 32))
+        same(read_group(group(x), 0), (x, len(group(x))))
+
+
+@check
+def refusals(rng, rounds):
+    """A call is refused exactly when a condition of the tables holds, with the first in the order of its tests."""
+    session = Console()
+    for _, line in zip(range(20 * rounds), stream(rng.random(), session.shelf)):
+        request = parse(line)
+        found = set()
+        if request and request[0] in ORDER:
+            call, words_given = request[0], call_words(*request)
+            found = conditions(session.shelf, call, words_given)
+        before = list(session.shelf.places)
+        answer = session.answer(line)
+        if answer.startswith("refused") and request[0] in ORDER:
+            same(int(answer.split(" ")[1]), next(k for k in ORDER[call] if k in found))
+            same(session.shelf.places, before)
+        else:
+            same(found, set())
+
+
+@check
+def eliminated(rng, rounds):
+    """The exact factors are the only ones: elimination of neighbouring rows, then of columns, finds them again."""
+    for _ in range(rounds // 10):
+        n = rng.randint(1, 5)
+        fractions = [Fraction(rng.randint(1, 30), rng.randint(1, 30)) for _ in range(n * n)]
+        same(neville(multiply_out(n, fractions)), fractions)
+
+
+def neville(entries):
+    """Factors of a matrix by Neville's elimination, in fractions: rows from below, column by column, and the same for columns."""
+    n = len(entries)
+    factors = [[Fraction(0)] * n for _ in range(n)]
+    for lower in (True, False):
+        rows = [list(row) for row in entries] if lower else [list(row) for row in zip(*entries)]
+        for j in range(n - 1):
+            for i in range(n - 1, j, -1):
+                quotient = rows[i][j] / rows[i - 1][j]
+                rows[i] = [x - quotient * y for x, y in zip(rows[i], rows[i - 1])]
+                factors[i if lower else j][j if lower else i] = quotient
+        for i in range(n):
+            factors[i][i] = rows[i][i]
+    return sum(factors, [])

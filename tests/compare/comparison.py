@@ -1,0 +1,120 @@
+"""Requests put to the console and to its model, and their answers compared.
+
+batch: requests with the model's answers, from an empty shelf, each change of the shelf followed by `show`. answers: what a
+console answers to a batch. first_difference, shrunk: where they part, and a short batch that still shows it. Tally: counts.
+"""
+import subprocess
+import time
+from collections import Counter
+
+from console_model import Console, parse
+from model import PLACES
+
+CHANGING = {"load", "drop", "product", "inverse", "converse", "transpose", "submatrix"}
+SHOW_ALL_EVERY = 100
+SECONDS_PER_BATCH = 120
+
+
+def touched(line):
+    """The places of a request that may change the shelf."""
+    request = parse(line)
+    if request is None or request[0] not in CHANGING:
+        return []
+    call, words = request
+    named = words[:1] if call in ("load", "drop") else [words[0], words[-1]] if call == "submatrix" else words
+    return sorted({place for place in named if place < PLACES})
+
+
+def batch(lines_of, length):
+    """About `length` requests and the model's answers. lines_of is given the model's shelf and hands out lines."""
+    console = Console()
+    asked, wanted = [], []
+
+    def ask(line):
+        asked.append(line)
+        wanted.append(console.answer(line))
+
+    for made, line in enumerate(lines_of(console.shelf), 1):
+        ask(line)
+        for place in touched(line) if made % SHOW_ALL_EVERY else range(PLACES):
+            ask(f"show {place}")
+        if len(asked) >= length:
+            break
+    return asked, wanted
+
+
+def model_answers(lines):
+    console = Console()
+    return [console.answer(line) for line in lines]
+
+
+def answers(path, lines):
+    """A console's answers, with a last line of its own if it did not end well. Without a path the model answers."""
+    if path is None:
+        return model_answers(lines)
+    text = "".join(line + "\n" for line in lines).encode("latin-1")
+    try:
+        done = subprocess.run([path], input=text, stdout=subprocess.PIPE, timeout=SECONDS_PER_BATCH)
+    except subprocess.TimeoutExpired as late:
+        return (late.stdout or b"").decode("latin-1").split("\n")[:-1] + ["(no end)"]
+    found = done.stdout.decode("latin-1").split("\n")
+    last = found.pop()
+    if last:
+        found.append(last + " (line without an end)")
+    if done.returncode:
+        found.append(f"(exit status {done.returncode})")
+    return found
+
+
+def first_difference(wanted, found):
+    """The index of the first answer that differs, is missing or is too many; None if there is none."""
+    for index, (x, y) in enumerate(zip(wanted, found)):
+        if x != y:
+            return index
+    return None if len(wanted) == len(found) else min(len(wanted), len(found))
+
+
+def shrunk(path, lines, seconds=60):
+    """Fewer requests that still end in a difference."""
+    end = time.monotonic() + seconds
+
+    def cut(trial):
+        index = first_difference(model_answers(trial), answers(path, trial))
+        return None if index is None else trial[:index + 1]
+
+    lines = cut(lines) or lines
+    size = max(1, len(lines) // 2)
+    while time.monotonic() < end:
+        place, smaller = 0, False
+        while place < len(lines) and time.monotonic() < end:
+            trial = cut(lines[:place] + lines[place + size:])
+            if trial is not None and len(trial) < len(lines):
+                lines, smaller = trial, True
+            else:
+                place += size
+        if size == 1 and not smaller:
+            break
+        size = max(1, size // 2)
+    return lines
+
+
+class Tally:
+    """How often each call was accepted and refused, by number, and for which sizes operations were accepted."""
+
+    def __init__(self):
+        self.outcomes = Counter()
+
+    def count(self, line, answer):
+        request = parse(line)
+        call = request[0] if request else "(bad request)"
+        words = answer.split(" ")
+        self.outcomes[call, int(words[1]) if words[0] == "refused" else 0] += 1
+
+    def lines(self):
+        """A table: a row for each call, a column for accepted (0) and each refusal number."""
+        numbers = sorted({number for _, number in self.outcomes})
+        calls = sorted({call for call, _ in self.outcomes})
+        yield "call".ljust(14) + "".join(("accepted" if k == 0 else f"no. {k}").rjust(9) for k in numbers)
+        for call in calls:
+            yield call.ljust(14) + "".join(str(self.outcomes[call, k] or "").rjust(9) for k in numbers)
+        yield "in all".ljust(14) + "".join(str(sum(self.outcomes[c, k] for c in calls)).rjust(9) for k in numbers)

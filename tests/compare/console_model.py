@@ -1,0 +1,185 @@
+"""The console's model: for each request line its answer line, over one shelf. Run by itself it is such a console.
+
+Console.answer: the answer to a line, without its end. parse: the call and its arguments, or None for a bad request.
+doubtful: whether the description leaves open if a line is taken; the generator keeps clear of those.
+"""
+import re
+import sys
+
+from encoding import Refusal
+from model import ONE_SOURCE, PLACES, Shelf
+
+LONGEST_LINE = 4096
+MOST_PLACE, MOST_MASK, MOST_LENT, MOST_ITEMS = 2 ** 32 - 1, 255, 512, 16
+LENT_BYTE, LENT_ITEM = "a5", (1, 2 ** 31, 0)
+BAD_REQUEST = "bad request"
+# What is passed on whatever types the calls have, and what no machine type holds.
+SURE_ITEM = ((-128, 127), (0, 2 ** 32 - 1), (-2 ** 15, 2 ** 15 - 1))
+BEYOND = 10 ** 25
+
+WHOLE = re.compile(r"[0-9]+\Z")
+SIGNED = re.compile(r"-?[0-9]+\Z")
+HEX = re.compile(r"(?:[0-9a-f]{2})+\Z")
+
+# What follows each word of the console: P a place, M a mask, C a length to lend, B bytes, I items.
+FORMS = {
+    "load": "PB", "write": "PC", "drop": "P", "product": "PPP", "inverse": "PP", "converse": "PP", "transpose": "PP",
+    "submatrix": "PMMP", "minor": "PMM", "carry": "PCI", "reversals": "I", "rest": "B", "show": "P",
+}
+
+
+def whole(text, most):
+    """The whole number that the text stands for, None if it is none or above `most`."""
+    if not WHOLE.match(text):
+        return None
+    number = int(text)
+    return number if number <= most else None
+
+
+def data(text):
+    if text == "-":
+        return b""
+    return bytes.fromhex(text) if HEX.match(text) else None
+
+
+def item(text):
+    parts = text.split(",")
+    if len(parts) != 3 or not all(map(SIGNED.match, parts)) or parts[1].startswith("-"):
+        return None
+    numbers = tuple(map(int, parts))
+    ranges = zip(numbers, SURE_ITEM)
+    return None if any(not low <= number <= high for number, (low, high) in ranges) else numbers
+
+
+def items(texts):
+    found = [item(text) for text in texts]
+    return None if None in found or len(found) > MOST_ITEMS else found
+
+
+READERS = {
+    "P": lambda text: whole(text, MOST_PLACE), "M": lambda text: whole(text, MOST_MASK),
+    "C": lambda text: whole(text, MOST_LENT), "B": data,
+}
+
+
+def parse(line):
+    """The call and its arguments, in the console's order; None for a bad request."""
+    if len(line) > LONGEST_LINE:
+        return None
+    call, *texts = line.split(" ")
+    form = FORMS.get(call)
+    if form is None:
+        return None
+    fixed = len(form.rstrip("I"))
+    if len(texts) < fixed or (len(texts) > fixed and form[-1] != "I"):
+        return None
+    arguments = [READERS[kind](text) for kind, text in zip(form.rstrip("I"), texts)]
+    if form[-1] == "I":
+        arguments.append(items(texts[fixed:]))
+    return None if None in arguments else (call, arguments)
+
+
+def doubtful(line):
+    """Leading zeros, plus signs, minus zero, and numbers that only some types hold."""
+    call, *texts = line.split(" ")
+    form = FORMS.get(call, "")
+    for kind, text in zip(form.ljust(len(texts), form[-1:] or "?"), texts):
+        if kind == "B":
+            continue
+        for part, sure in zip(text.split(","), SURE_ITEM if kind == "I" else [(0, MOST_PLACE)] * 3):
+            if re.match(r"[-+]?0[0-9]|\+|-0", part):
+                return True
+            if SIGNED.match(part) and not sure[0] <= int(part) <= sure[1] and abs(int(part)) < BEYOND:
+                return True
+    return False
+
+
+def text_of_bytes(content):
+    return content.hex() or "-"
+
+
+def text_of_items(listed):
+    return " ".join("%d,%d,%d" % one for one in listed) or "-"
+
+
+def call_words(call, arguments):
+    """The arguments in the order that model.conditions takes them: a carry's list before the lent length."""
+    return [arguments[0], arguments[2], arguments[1]] if call == "carry" else arguments
+
+
+class Console:
+    def __init__(self):
+        self.shelf = Shelf()
+
+    def answer(self, line):
+        request = parse(line)
+        if request is None:
+            return BAD_REQUEST
+        call, arguments = request
+        try:
+            if call in ONE_SOURCE:
+                return self.one_source(call, *arguments)
+            return getattr(self, call)(*arguments)
+        except Refusal as fault:
+            return f"refused {fault.number} at {fault.offset}" + self.lent(call, arguments)
+
+    @staticmethod
+    def lent(call, arguments):
+        """What follows a refusal where a buffer was lent: the buffer, left alone."""
+        if call == "write":
+            return " " + (LENT_BYTE * arguments[1] or "-")
+        if call == "carry":
+            return " " + text_of_items([LENT_ITEM] * arguments[1])
+        return ""
+
+    def load(self, place, content):
+        self.shelf.load(place, content)
+        return "loaded"
+
+    def write(self, place, length):
+        content = self.shelf.write(place, length)
+        return f"wrote {len(content)} " + content.hex() + LENT_BYTE * (length - len(content))
+
+    def drop(self, place):
+        self.shelf.drop(place)
+        return "dropped"
+
+    def product(self, left, right, target):
+        return f"bound {self.shelf.product(left, right, target)}"
+
+    def one_source(self, call, place, target):
+        return f"bound {self.shelf.one_source(call, place, target)}"
+
+    def submatrix(self, place, rows, columns, target):
+        return f"bound {self.shelf.submatrix(place, rows, columns, target)}"
+
+    def minor(self, place, rows, columns):
+        return "number %d %d" % self.shelf.minor(place, rows, columns)
+
+    def carry(self, place, length, listed):
+        carried = self.shelf.carry(place, listed, length)
+        return "carried " + text_of_items(carried + [LENT_ITEM] * (length - len(carried)))
+
+    def reversals(self, listed):
+        return f"reversals {self.shelf.reversals(listed)}"
+
+    def rest(self, content):
+        return "rest " + text_of_bytes(self.shelf.rest(content))
+
+    def show(self, place):
+        if place >= PLACES:
+            raise Refusal(1)
+        matrix = self.shelf.places[place]
+        if matrix is None:
+            return "empty"
+        return f"matrix {matrix.n} " + " ".join("%d %d" % number for number in matrix.factors)
+
+
+def main():
+    console = Console()
+    for line in sys.stdin.buffer:
+        print(console.answer(line.removesuffix(b"\n").decode("latin-1")))
+
+
+if __name__ == "__main__":
+    main()

@@ -1,0 +1,193 @@
+"""The exact run, in fractions, and the matrices that its answers are held to.
+
+exact_run: the exact factors, by the same word, minors and formulas as the rounded rule. multiply_out: the entries that a
+matrix's letters multiply out to. requested: the entries that ordinary matrix arithmetic on the sources' entries gives.
+exact_parts: the exact run for measuring, without fractions in lowest terms. units: a ratio in unit roundings.
+"""
+import math
+from fractions import Fraction
+
+from number import value
+from words import Arithmetic, Walker, count, factors_by, interval, operation_word, plain_minor, rows_of, sets, updates
+
+FRACTIONS = Arithmetic(Fraction(0), Fraction(1), lambda a, b: a + b, lambda a, b: a * b, lambda a, b: a / b)
+UNIT = -math.log1p(-2.0 ** -32)
+
+
+def in_fractions(letters):
+    return [(kind, tuple(map(value, j)), w) if kind == "D" else (kind, j, value(w)) for kind, j, w in letters]
+
+
+def chosen_rows(kind, n, rows, columns):
+    every = rows_of(interval(1, n))
+    return (rows_of(rows), rows_of(columns)) if kind == "submatrix" else (every, every)
+
+
+def exact_run(kind, sources, rows=None, columns=None):
+    """One fraction for each (i, j), row by row."""
+    n = sources[0].n
+    letters = in_fractions(operation_word(kind, sources))
+    known = {}
+
+    def minor(r, c):
+        if (r, c) not in known:
+            known[r, c] = plain_minor(letters, n, r, c, FRACTIONS)
+        return known[r, c]
+
+    return factors_by(minor, FRACTIONS, *chosen_rows(kind, n, rows, columns))
+
+
+def identity(n):
+    return [[Fraction(i == j) for j in range(n)] for i in range(n)]
+
+
+def matrix_product(a, b):
+    return [[sum(a[i][k] * b[k][j] for k in range(len(b))) for j in range(len(b[0]))] for i in range(len(a))]
+
+
+def letter_matrix(letter, n):
+    kind, j, w = letter
+    entries = identity(n)
+    if kind == "D":
+        for i in range(n):
+            entries[i][i] = 1 / j[i] if w else j[i]
+    elif kind == "E":
+        entries[j - 1][j - 2] = w
+    else:
+        entries[j - 2][j - 1] = w
+    return entries
+
+
+def multiply_out(n, fractions):
+    """The entries that n * n factors, given as fractions row by row, multiply out to."""
+    entries = identity(n)
+    for letter in word_of_fractions(n, fractions):
+        entries = matrix_product(entries, letter_matrix(letter, n))
+    return entries
+
+
+def word_of_fractions(n, fractions):
+    """The word of document 01 once more, its letters taken by their own row and column."""
+    def b(i, j):
+        return fractions[(i - 1) * n + j - 1]
+
+    letters = []
+    for i in range(1, n):
+        for j in range(n - i + 1, n + 1):
+            letters.append(("E", j, b(j, i + j - n)))
+    letters.append(("D", [b(i, i) for i in range(1, n + 1)], False))
+    for i in range(n - 1, 0, -1):
+        for j in range(n, n - i, -1):
+            letters.append(("Et", j, b(i + j - n, j)))
+    return letters
+
+
+def entries_of(matrix):
+    return multiply_out(matrix.n, [value(x) for x in matrix.factors])
+
+
+def inverse(entries):
+    """The inverse by Gauss and Jordan's elimination."""
+    n = len(entries)
+    rows = [row + unit for row, unit in zip(entries, identity(n))]
+    for k in range(n):
+        pivot = next(i for i in range(k, n) if rows[i][k])
+        rows[k], rows[pivot] = rows[pivot], rows[k]
+        rows[k] = [x / rows[k][k] for x in rows[k]]
+        for i in range(n):
+            if i != k:
+                rows[i] = [x - rows[i][k] * y for x, y in zip(rows[i], rows[k])]
+    return [row[n:] for row in rows]
+
+
+def requested(kind, sources, rows=None, columns=None):
+    """The entries of the requested matrix."""
+    entries = entries_of(sources[0])
+    if kind == "product":
+        return matrix_product(entries, entries_of(sources[1]))
+    if kind == "inverse":
+        return [[(-1) ** (i + j) * x for j, x in enumerate(row)] for i, row in enumerate(inverse(entries))]
+    if kind == "converse":
+        return [row[::-1] for row in entries[::-1]]
+    return [[entries[i - 1][j - 1] for j in rows_of(columns)] for i in rows_of(rows)]
+
+
+def dyadic_add(a, b):
+    """The exact sum of m * 2^e and m' * 2^e', whole numbers m and m' of any size."""
+    gap = a[1] - b[1]
+    return ((a[0] << gap) + b[0], b[1]) if gap >= 0 else (a[0] + (b[0] << -gap), a[1])
+
+
+def dyadic_multiply(a, b):
+    return (a[0] * b[0], a[1] + b[1])
+
+
+class ExactWalker(Walker):
+    """Exact minors m * 2^e. Where D divides, each set is multiplied by the entries outside it instead: every minor but the
+    empty one then comes out times the product of all entries, which `scale` undoes."""
+
+    def __init__(self, letters, n):
+        super().__init__(letters, n)
+        self.walks = {0: {0: (1, 0)}}
+
+    def walk(self, columns):
+        n, size = self.n, count(columns)
+        numbers = [(0, 0)] * (1 << n)
+        numbers[columns] = (1, 0)
+        for kind, j, w in self.letters:
+            if kind == "D":
+                for s, rows in sets(n, size):
+                    for row in rows_of(interval(1, n) ^ s) if w else rows:
+                        numbers[s] = dyadic_multiply(numbers[s], j[row - 1])
+            else:
+                for s, t in updates(n, size, kind, j):
+                    if numbers[t][0]:
+                        numbers[s] = dyadic_add(numbers[s], dyadic_multiply(w, numbers[t]))
+        return numbers
+
+    def scale(self):
+        total = (1, 0)
+        for kind, j, w in self.letters:
+            if kind == "D" and w:
+                for entry in j:
+                    total = dyadic_multiply(total, entry)
+        return total
+
+
+def exact_parts(kind, sources, rows=None, columns=None):
+    """The exact run as pairs of whole numbers times powers of two, above and below the line, row by row."""
+    n = sources[0].n
+    walker = ExactWalker(operation_word(kind, sources), n)
+    scale = walker.scale()
+
+    def minor(r, c):
+        return walker.minor(r, c), scale if r else (1, 0)
+
+    quotients = Arithmetic(
+        None, None, None,
+        lambda a, b: (dyadic_multiply(a[0], b[0]), dyadic_multiply(a[1], b[1])),
+        lambda a, b: (dyadic_multiply(a[0], b[1]), dyadic_multiply(a[1], b[0])))
+    return factors_by(minor, quotients, *chosen_rows(kind, n, rows, columns))
+
+
+def units(number, parts):
+    """How far a rounded number is from the exact quotient, in unit roundings, signed."""
+    above = dyadic_multiply(number, parts[1])
+    below = parts[0]
+    difference, e = dyadic_add(above, (-below[0], below[1]))
+    shift = e - below[1] + 96
+    whole = (difference << shift) // below[0] if shift >= 0 else difference // (below[0] << -shift)
+    return math.log1p(whole / 2.0 ** 96) / UNIT
+
+
+def within(number, exact, k):
+    """Whether a number and a fraction have a ratio from (1 - 2^-32)^k to its reciprocal, by whole numbers."""
+    small, one = (2 ** 32 - 1) ** k, 2 ** (32 * k)
+    x = value(number)
+    left, right = x.numerator * exact.denominator, exact.numerator * x.denominator
+    return left * one >= right * small and right * one >= left * small
+
+
+def largest_units(kind, sources, result, rows=None, columns=None):
+    return max(abs(units(number, parts))
+               for number, parts in zip(result.factors, exact_parts(kind, sources, rows, columns)))

@@ -1,0 +1,140 @@
+#!/usr/bin/env python3
+"""Writes a transcript of the console with the model's answers: frozen.stdin and frozen.stdout.
+
+freeze.py [--seed S] [--count N] [--check]: about N requests, the same for the same seed. It covers every call, each refusal of
+each call, every pair of refusals that a call can meet at once, and each operation in all sizes, or it fails. With --check
+nothing is written: the files are held to what would be.
+"""
+import argparse
+import os
+import random
+import sys
+from collections import Counter
+from itertools import combinations
+
+import sweeps
+from comparison import Tally, batch
+from console_model import Console, call_words, doubtful, parse, text_of_bytes, text_of_items
+from encoding import encode
+from garbage import ODD_LINES
+from model import ORDER, conditions
+from number import HIGH, LOW, ONE
+from requests import Stream, stream
+from sources import good_masks, spread_number
+from words import Matrix
+
+HERE = os.path.dirname(os.path.abspath(__file__))
+OPERATIONS = ("product", "inverse", "converse", "transpose", "submatrix")
+TWO, THREE = (LOW, -30), (LOW + (1 << 30), -30)
+
+
+def load(place, n, factors):
+    return f"load {place} {text_of_bytes(encode(Matrix(n, tuple(factors))))}"
+
+
+def marked():
+    """P1 to P12, the arithmetic of P1 to P4 as a carry through all ones and as a product of one row."""
+    for place, n in ((0, 2), (1, 3), (2, 1)):
+        yield load(place, n, [ONE] * n * n)
+    for first, second in ((ONE, (LOW, -63)), ((LOW + 1, -31), (LOW, -63)), ((HIGH - 1, 0), (LOW, -32))):
+        yield f"carry 0 2 {text_of_items([(1,) + first, (1,) + second])}"
+    yield load(3, 1, [(HIGH - 1, 0)])
+    yield from ("product 3 3 4", "drop 3", "drop 4", "product 0 0 3", "drop 3", "inverse 0 3", "drop 3", "converse 0 3", "drop 3")
+    yield from ("submatrix 1 6 3 3", "drop 3", "minor 1 5 5")
+    yield load(3, 1, [THREE])
+    yield from ("inverse 3 4", "drop 4", "drop 3")
+    yield load(3, 1, [(LOW, 1000)])
+    yield load(4, 1, [TWO])
+    yield from ("product 3 2 5", "product 3 4 6", "inverse 3 6", f"carry 0 2 {text_of_items([(1,) + ONE, (-1,) + ONE])}")
+    yield from (f"drop {place}" for place in range(6))
+
+
+def tour(maker):
+    """Each size through every call."""
+    rng = maker.rng
+    for n in range(1, 9):
+        for place in (0, 1):
+            yield load(place, n, [spread_number(rng, 2) for _ in range(n * n)])
+        yield from ("product 0 1 2", "inverse 0 3", "converse 1 4", "transpose 0 5")
+        rows, columns = good_masks(rng, n)
+        yield from (f"submatrix 0 {rows} {columns} 6", f"submatrix 1 {2 ** n - 1} {2 ** n - 1} 7")
+        for place in (0, 2):
+            yield f"minor {place} " + " ".join(map(str, good_masks(rng, n)))
+        items = [(rng.choice((-1, 1)),) + spread_number(rng, 2) for _ in range(n)]
+        yield from (f"carry 2 {n} {text_of_items(items)}", f"reversals {text_of_items(items)}", "write 2 512")
+        yield from (f"drop {place}" for place in range(8))
+
+
+def lines(seed, shelf):
+    maker = Stream(random.Random(f"frozen {seed}"), shelf)
+    yield from marked()
+    yield from tour(maker)
+    yield from sweeps.every_order(maker)
+    yield from (line for line in ODD_LINES if not doubtful(line))
+    for sweep in (sweeps.every_minor, sweeps.every_length, sweeps.every_cut, sweeps.every_flip):
+        yield from sweep(maker)
+    yield from stream(f"frozen {seed}", shelf)
+
+
+def together(asked):
+    """For each call, the pairs of conditions that held at once."""
+    console, pairs = Console(), Counter()
+    for line in asked:
+        request = parse(line)
+        if request and request[0] in ORDER:
+            found = sorted(conditions(console.shelf, request[0], call_words(*request)), key=ORDER[request[0]].index)
+            pairs.update((request[0],) + pair for pair in combinations(found, 2))
+        console.answer(line)
+    return pairs
+
+
+def wanted_pairs():
+    """The pairs of conditions that a call can meet at once. Faults in bytes come one at a time; 13 and 8 leave nothing to work."""
+    alone = [{2, 3, 4, 5, 6, 7}, {13, 14}, {8, 14}, {9, 14}]
+    for call, order in ORDER.items():
+        for pair in combinations(order, 2):
+            # A place above 7 holds nothing, and an empty source leaves nothing to be judged but the target.
+            lone = call in ("write", "drop", "minor", "carry") and pair[0] in (1, 11)
+            hidden = pair[0] == 11 and set(pair[1:]) & {8, 9, 10, 13, 14} or (call, *pair) == ("load", 1, 12)
+            if not lone and not hidden and not any(set(pair) <= group for group in alone):
+                yield (call,) + pair
+
+
+def missing(asked, wanted, tally):
+    """What the transcript ought to cover and doesn't."""
+    for call, order in ORDER.items():
+        yield from (f"{call} {number}" for number in (0, *order) if not tally.outcomes[call, number])
+    sizes = {(line.split(" ")[0], answer) for line, answer in zip(asked, wanted)}
+    for call in OPERATIONS:
+        bounds = {answer for name, answer in sizes if name == call and answer.startswith("bound")}
+        if len(bounds) < (1 if call == "transpose" else 8):
+            yield f"{call} in all sizes"
+    pairs = together(asked)
+    yield from (f"{call} {first} with {second}" for call, first, second in wanted_pairs() if not pairs[call, first, second])
+
+
+def main():
+    parser = argparse.ArgumentParser(description=__doc__.splitlines()[0])
+    parser.add_argument("--seed", default="1")
+    parser.add_argument("--count", type=int, default=5000)
+    parser.add_argument("--check", action="store_true", help="hold the files to what would be written")
+    chosen = parser.parse_args()
+    asked, wanted = batch(lambda shelf: lines(chosen.seed, shelf), chosen.count)
+    tally = Tally()
+    for line, answer in zip(asked, wanted):
+        tally.count(line, answer)
+    print("\n".join(tally.lines()))
+    faults = [f"not covered: {case}" for case in missing(asked, wanted, tally)]
+    for name, content in (("frozen.stdin", asked), ("frozen.stdout", wanted)):
+        path, text = os.path.join(HERE, name), "".join(line + "\n" for line in content).encode("latin-1")
+        if not chosen.check:
+            with open(path, "wb") as file:
+                file.write(text)
+        elif not os.path.exists(path) or open(path, "rb").read() != text:
+            faults.append(f"{name} differs")
+    print(f"{len(asked)} requests", *faults, sep="\n")
+    return 1 if faults else 0
+
+
+if __name__ == "__main__":
+    sys.exit(main())

@@ -1,0 +1,69 @@
+"""Lines that are no requests, and some that still are.
+
+ODD_LINES: chosen by hand, about every rule of the line's form. garbled: one of them, or a request with a small change.
+"""
+from console_model import doubtful
+
+SAMPLES = (
+    "load 3 01ca0700", "write 0 13", "drop 2", "product 0 1 2", "inverse 0 1", "converse 2 3", "transpose 4 5", "submatrix 0 3 3 1",
+    "minor 0 1 1", "carry 0 2 1,2147483648,-31 -1,2147483648,-31", "reversals 1,2147483648,0 0,0,0", "rest 01ca0700ff", "show 0",
+    "carry 1 4", "load 0 -", "rest -",
+)
+ODD_LINES = (
+    "", " ", "-", "0", "load", "load 0", "load 0 ", "load 0  -", "load 0 0", "load 0 0G", "load 0 CA", "load 0 ca0", "load 0 - -",
+    "load - -", "load x -", "load -1 -", "Load 0 -", "LOAD 0 -", "loaded 0 -", "load\t0 -", "load 0 -\r", "load 0 --", "load 0 0x01",
+    "rest", "rest ", "rest -- ", "rest a", "rest AB", "rest 0a 0b", "write 0", "write 0 513", "write 0 600", "write 0 -1",
+    "write 0 1 1", "drop", "drop 0 0", "drop a", "product 0 1", "product 0 1 2 3", "inverse 0", "inverse 0 1 2", "converse", "transpose 1",
+    "transpose one two", "submatrix 0 1 1", "submatrix 0 256 1 2", "submatrix 0 1 256 2", "submatrix 0 -1 1 2", "minor 0 1",
+    "minor 0 256 1", "minor 0 1 300", "minor 0 1 1 1", "carry", "carry 0", "carry 0 513", "carry 0 513 0,0,0", "carry 0 2 0,0",
+    "carry 0 2 0,0,0,0", "carry 0 2 0;0;0", "carry 0 2 ,,", "carry 0 2 1,,0", "carry 0 2 0,0,", "carry 0 2 -", "carry 0 2 0,0,0 ",
+    "carry 0 2  0,0,0", "carry 0 2 1,-2147483648,0", "carry 0 2 a,0,0", "carry 0 2 1,2147483648,--1", "carry 0 2 1,2147483648,-",
+    "reversals ", "reversals -", "reversals 0", "reversals 0,0,0,", "reversals 0,0,0  0,0,0", "show", "show 0 0", "show -1", "show show",
+    "show " + "9" * 30, "drop " + "1" * 4000, "write 0 " + "8" * 40, "minor 0 " + "1" * 30 + " 1", "quit", "help", "exit 0", "#",
+    "bound 11", "refused 1 at 0", "\x00", "show 0\x00", "\xff\xfe", "show \xb2", "sh\xf6w 0", "reversals " + " ".join(["0,0,0"] * 17),
+    "carry 0 2 " + " ".join(["1,2147483648,0"] * 17), "reversals 1," + "2" * 30 + ",0", "reversals 1,2147483648," + "9" * 30,
+    "reversals -" + "9" * 30 + ",2147483648,0", "load 99 " + "00" * 2044, "load 9 " + "00" * 2045, "rest " + "01" * 2045, "rest " + "01" * 2046,
+    "x" * 4096, "x" * 4097, "y" * 9000, "show 0" + " " * 4090, "show 0" + " " * 4091, "load 0 " + "ff" * 4000,
+)
+
+
+def cut(rng, line):
+    return line[:rng.randrange(len(line))]
+
+
+def doubled(rng, line):
+    place = rng.randrange(len(line) + 1)
+    return line[:place] + rng.choice(" ,-0a\t\r\x00\x7f\xe9") + line[place:]
+
+
+def replaced(rng, line):
+    place = rng.randrange(len(line))
+    return line[:place] + chr(rng.choice((rng.randrange(32, 127), rng.randrange(11, 256)))) + line[place + 1:]
+
+
+def words_shuffled(rng, line):
+    parts = line.split(" ")
+    rng.shuffle(parts)
+    return " ".join(parts)
+
+
+def word_doubled(rng, line):
+    parts = line.split(" ")
+    place = rng.randrange(len(parts))
+    return " ".join(parts[:place] + parts[place:place + 1] + parts[place:])
+
+
+def noise(rng, line):
+    return "".join(chr(rng.choice((rng.randrange(32, 127), rng.randrange(11, 256)))) for _ in range(rng.randrange(60)))
+
+
+GARBLERS = (cut, doubled, doubled, replaced, replaced, words_shuffled, word_doubled, noise,
+            lambda rng, line: rng.choice(ODD_LINES), lambda rng, line: rng.choice(ODD_LINES))
+
+
+def garbled(rng):
+    """A line that the console's description decides."""
+    while True:
+        line = rng.choice(GARBLERS)(rng, rng.choice(SAMPLES))
+        if "\n" not in line and not doubtful(line):
+            return line

@@ -1,0 +1,210 @@
+"""Document 01 as a program: the shelf and its calls, over number.py, words.py, exact.py and encoding.py.
+
+Shelf: places 0 to 7. Each call returns its answer or raises Refusal with the number and the offset, in document 01's
+order of tests, and then the shelf is as before. conditions: every condition of the two tables that holds for a call.
+shown: what the program of "Shown in full" prints.
+"""
+from encoding import Refusal, encode, read_single, rest
+from number import HIGH, ITEM_ZERO, LOW, stored
+from words import bound, carry, count, interval, minor, operate, reversals, transpose
+
+PLACES = 8
+ONE_SOURCE = ("inverse", "converse", "transpose")
+# The tests of each call, in order. A load reads its bytes (2 to 7) from the left, last.
+ORDER = {
+    "load": (1, 12, 2, 3, 4, 5, 6, 7), "write": (1, 11, 10), "drop": (1, 11),
+    "product": (1, 11, 12, 13, 14), "inverse": (1, 11, 12, 14), "converse": (1, 11, 12, 14), "transpose": (1, 11, 12),
+    "submatrix": (1, 11, 12, 8, 14), "minor": (1, 11, 8, 14), "carry": (1, 11, 9, 14, 10), "reversals": (9,), "rest": (),
+}
+
+
+def sets_good(n, rows, columns):
+    every = interval(1, n)
+    return rows != 0 and count(rows) == count(columns) and (rows | columns) & ~every == 0
+
+
+def item_good(item):
+    sign, m, e = item
+    if sign == 0:
+        return item == ITEM_ZERO
+    return sign in (-1, 1) and LOW <= m < HIGH and stored((m, e))
+
+
+def in_range(matrix):
+    return all(stored(number) for number in matrix.factors)
+
+
+class Shelf:
+    def __init__(self):
+        self.places = [None] * PLACES
+
+    def source(self, place):
+        if self.places[place] is None:
+            raise Refusal(11)
+        return self.places[place]
+
+    @staticmethod
+    def known(*places):
+        if any(place >= PLACES for place in places):
+            raise Refusal(1)
+
+    def free(self, place):
+        if self.places[place] is not None:
+            raise Refusal(12)
+
+    def keep(self, place, matrix, k):
+        if not in_range(matrix):
+            raise Refusal(14)
+        self.places[place] = matrix
+        return k
+
+    def load(self, place, data):
+        self.known(place)
+        self.free(place)
+        self.places[place] = read_single(data)
+
+    def write(self, place, length):
+        self.known(place)
+        data = encode(self.source(place))
+        if length < len(data):
+            raise Refusal(10)
+        return data
+
+    def drop(self, place):
+        self.known(place)
+        self.source(place)
+        self.places[place] = None
+
+    def product(self, left, right, target):
+        self.known(left, right, target)
+        sources = [self.source(left), self.source(right)]
+        self.free(target)
+        if sources[0].n != sources[1].n:
+            raise Refusal(13)
+        return self.keep(target, operate("product", sources), bound("product", sources[0].n))
+
+    def one_source(self, kind, place, target):
+        self.known(place, target)
+        source = self.source(place)
+        self.free(target)
+        result = transpose(source) if kind == "transpose" else operate(kind, [source])
+        return self.keep(target, result, bound(kind, source.n))
+
+    def submatrix(self, place, rows, columns, target):
+        self.known(place, target)
+        source = self.source(place)
+        self.free(target)
+        if not sets_good(source.n, rows, columns):
+            raise Refusal(8)
+        return self.keep(target, operate("submatrix", [source], rows, columns), bound("submatrix", source.n))
+
+    def minor(self, place, rows, columns):
+        self.known(place)
+        source = self.source(place)
+        if not sets_good(source.n, rows, columns):
+            raise Refusal(8)
+        number = minor(source, rows, columns)
+        if not stored(number):
+            raise Refusal(14)
+        return number
+
+    def carry(self, place, items, length):
+        """The n carried items; `length` is that of the lent list."""
+        self.known(place)
+        source = self.source(place)
+        if len(items) != source.n or not all(map(item_good, items)):
+            raise Refusal(9)
+        carried = carry(source, items)
+        if not all(item == ITEM_ZERO or stored(item[1:]) for item in carried):
+            raise Refusal(14)
+        if length < source.n:
+            raise Refusal(10)
+        return carried
+
+    @staticmethod
+    def reversals(items):
+        if not 1 <= len(items) <= 8 or not all(map(item_good, items)):
+            raise Refusal(9)
+        return reversals(items)
+
+    @staticmethod
+    def rest(data):
+        return rest(data)
+
+
+def places_named(call, words):
+    """The sources and the target (or None) that a call names."""
+    if call == "load":
+        return [], words[0]
+    if call in ("write", "drop", "minor", "carry"):
+        return [words[0]], None
+    if call in ("reversals", "rest"):
+        return [], None
+    return list(words[:1] if call != "product" else words[:2]), words[-1]
+
+
+def conditions(shelf, call, words):
+    """Every condition of the tables that holds, each judged where it has a meaning. The words are the call's arguments."""
+    sources, target = places_named(call, words)
+    found = set()
+    named = sources + ([] if target is None else [target])
+    if any(place >= PLACES for place in named):
+        found.add(1)
+    held = [shelf.places[place] for place in sources if place < PLACES]
+    if None in held:
+        found.add(11)
+    if target is not None and target < PLACES and shelf.places[target] is not None:
+        found.add(12)
+    if call == "load":
+        try:
+            read_single(words[1])
+        except Refusal as fault:
+            found.add(fault.number)
+    elif call == "reversals":
+        if not 1 <= len(words[0]) <= 8 or not all(map(item_good, words[0])):
+            found.add(9)
+    elif len(held) == len(sources) and None not in held and held:
+        found |= conditions_of_work(call, held, words)
+    return found
+
+
+def conditions_of_work(call, held, words):
+    """Those that concern what the sources hold: 8, 9, 10, 13, 14."""
+    n = held[0].n
+    if call == "product":
+        if held[0].n != held[1].n:
+            return {13}
+        return set() if in_range(operate(call, held)) else {14}
+    if call in ("inverse", "converse"):
+        return set() if in_range(operate(call, held)) else {14}
+    if call in ("submatrix", "minor"):
+        if not sets_good(n, words[1], words[2]):
+            return {8}
+        good = in_range(operate(call, held, *words[1:3])) if call == "submatrix" else stored(minor(held[0], *words[1:]))
+        return set() if good else {14}
+    if call == "write":
+        return {10} if words[1] < len(encode(held[0])) else set()
+    found = set()
+    if call == "carry":
+        items = words[1]
+        if words[2] < n:
+            found.add(10)
+        if len(items) != n or not all(map(item_good, items)):
+            found.add(9)
+        elif not all(item == ITEM_ZERO or stored(item[1:]) for item in carry(held[0], items)):
+            found.add(14)
+    return found
+
+
+def shown(left, right):
+    """What the program of "Shown in full" prints for the bytes of its two files."""
+    shelf = Shelf()
+    try:
+        shelf.load(0, left)
+        shelf.load(1, right)
+        shelf.product(0, 1, 2)
+    except Refusal as fault:
+        return f"refused {fault.number} at {fault.offset}\n"
+    n, factors = shelf.places[2]
+    lines = [f"{1 + k // n} {1 + k % n} {m} {e}" for k, (m, e) in enumerate(factors)]
+    return "\n".join([str(n)] + lines) + "\n"

@@ -1,0 +1,122 @@
+"""Numbers: a mantissa m from 2^31 to 2^32 - 1 and an exponent e, the pair (m, e), of value m * 2^e; zero is (0, 0).
+
+add, multiply, divide: the exact result rounded once to nearest, ties to even, at 32 bits, by integers and shifts.
+signed_add: the same for items (sign, m, e). round_fraction, value and the slow_ functions say it again with fractions.
+"""
+from fractions import Fraction
+
+BITS = 32
+LOW, HIGH = 1 << 31, 1 << 32
+HIGH_PRODUCT = 1 << 63
+ZERO = (0, 0)
+ONE = (LOW, -31)
+ITEM_ZERO = (0, 0, 0)
+EXPONENT_LIMIT = 1000
+# From this distance on the smaller operand cannot change the larger one, not even just below a power of two.
+FAR = 40
+
+
+def round_whole(whole, e):
+    """The positive whole number `whole` times 2^e, rounded."""
+    shift = whole.bit_length() - BITS
+    if shift <= 0:
+        return (whole << -shift, e + shift)
+    m = (whole + (1 << (shift - 1)) - 1 + ((whole >> shift) & 1)) >> shift
+    return (m, e + shift) if m < HIGH else (LOW, e + shift + 1)
+
+
+def multiply(a, b):
+    p = a[0] * b[0]
+    if p >= HIGH_PRODUCT:
+        # No carry: the largest product is 2^64 - 2^33 + 1.
+        return ((p + 0x7FFFFFFF + ((p >> 32) & 1)) >> 32, a[1] + b[1] + 32)
+    if not p:
+        return ZERO
+    m = (p + 0x3FFFFFFF + ((p >> 31) & 1)) >> 31
+    if m < HIGH:
+        return (m, a[1] + b[1] + 31)
+    return (LOW, a[1] + b[1] + 32)
+
+
+def add(a, b):
+    if not a[0]:
+        return b
+    if not b[0]:
+        return a
+    gap = a[1] - b[1]
+    if gap < 0:
+        a, b, gap = b, a, -gap
+    if gap > FAR:
+        return a
+    return round_whole((a[0] << gap) + b[0], b[1])
+
+
+def divide(a, b):
+    """a over b, b not zero. A quotient of 34 bits or more and a bit for the remainder round as the exact one does."""
+    if not a[0]:
+        return ZERO
+    q, r = divmod(a[0] << 34, b[0])
+    return round_whole(2 * q + (r > 0), a[1] - b[1] - 35)
+
+
+def signed_add(x, y):
+    """The sum of two items (sign, m, e), rounded once; full cancellation gives zero."""
+    if not x[0]:
+        return y
+    if not y[0]:
+        return x
+    if x[2] < y[2]:
+        x, y = y, x
+    gap = x[2] - y[2]
+    if gap > FAR:
+        return x
+    whole = x[0] * (x[1] << gap) + y[0] * y[1]
+    if not whole:
+        return ITEM_ZERO
+    return (1 if whole > 0 else -1,) + round_whole(abs(whole), y[2])
+
+
+def signed_multiply(weight, x):
+    """A positive number times an item."""
+    return (x[0],) + multiply(weight, x[1:]) if x[0] else ITEM_ZERO
+
+
+def stored(number):
+    """Whether a nonzero number may be stored or answered."""
+    return -EXPONENT_LIMIT <= number[1] <= EXPONENT_LIMIT
+
+
+def value(number):
+    m, e = number
+    return Fraction(m << e) if e >= 0 else Fraction(m, 1 << -e)
+
+
+def round_fraction(x):
+    """The nonnegative fraction x rounded: the nearest m * 2^e with m below 2^32, even m at a tie."""
+    if x == 0:
+        return ZERO
+    e = x.numerator.bit_length() - x.denominator.bit_length() - BITS
+    while x >= Fraction(2) ** (e + BITS):
+        e += 1
+    while x < Fraction(2) ** (e + BITS - 1):
+        e -= 1
+    m = round(x / Fraction(2) ** e)
+    return (m, e) if m < HIGH else (LOW, e + 1)
+
+
+def slow_add(a, b):
+    return round_fraction(value(a) + value(b))
+
+
+def slow_multiply(a, b):
+    return round_fraction(value(a) * value(b))
+
+
+def slow_divide(a, b):
+    return round_fraction(value(a) / value(b))
+
+
+def slow_signed_add(x, y):
+    total = x[0] * value(x[1:]) + y[0] * value(y[1:])
+    sign = (total > 0) - (total < 0)
+    return (sign,) + round_fraction(abs(total))

@@ -1,0 +1,98 @@
+"""Scenarios that go through every case of something: sets, lengths, cuts, flipped bits, orders of tests.
+
+Each takes a requests.Stream and gives lines as its scenarios do.
+"""
+from itertools import product
+
+from console_model import text_of_bytes, text_of_items
+from encoding import encode
+from model import ONE_SOURCE, PLACES
+from number import ITEM_ZERO, LOW, ONE
+from sources import matrix
+from words import Matrix
+
+BEYOND = 9
+# Good for two rows (the first is out of range in `wild`), unequal, empty, and beyond n.
+MASK_PAIRS = ((2, 2), (3, 3), (1, 2), (1, 3), (0, 0), (0, 1), (4, 1), (1, 128))
+BYTES = (
+    "01ca0700", "-", "01", "8000", "09", "ac02", "0100", "01d20f", "018000", "01ca0780808080", "01ca078080808008",
+    "01ca078080808010", "01ca070000", "8080808080", "8080808000", "018080808000", "01ca078080808000",
+    "01ca07ffffffff07", "01d10f00", "010100",
+)
+
+
+def every_minor(stream):
+    """All pairs of sets over n rows and one beyond."""
+    yield from stream.put(matrix(stream.rng, stream.rng.choice((1, 2, 2, 3))))
+    place, most = stream.last, 2 << stream.n(stream.last)
+    for rows in range(most):
+        for columns in range(most):
+            yield f"minor {place} {rows} {columns}"
+
+
+def every_length(stream):
+    """A matrix written to buffers of every length from none to a few bytes more than it needs, and the largest."""
+    yield from stream.put(matrix(stream.rng, stream.rng.choice((1, 1, 2, 2, 3))))
+    place = stream.last
+    for length in [*range(len(encode(stream.shelf.places[place])) + 4), 511, 512]:
+        yield f"write {place} {length}"
+
+
+def every_cut(stream):
+    """All beginnings of an encoding."""
+    yield from stream.make_room()
+    data = encode(matrix(stream.rng, stream.rng.choice((1, 2, 2, 3))))
+    for length in range(len(data) + 1):
+        yield from stream.bytes_judged(data[:length])
+
+
+def every_flip(stream):
+    """An encoding with each of its bits changed."""
+    yield from stream.make_room()
+    data = encode(matrix(stream.rng, stream.rng.choice((1, 1, 2))))
+    for place in range(8 * len(data)):
+        changed = bytearray(data)
+        changed[place // 8] ^= 1 << place % 8
+        yield from stream.bytes_judged(bytes(changed))
+
+
+def every_order(stream):
+    """Each call with arguments good and bad in every combination, so that each test meets each later one."""
+    for place in stream.full():
+        yield f"drop {place}"
+    small, wild, good, hollow, target = stream.rng.sample(range(PLACES), 5)
+    far = (LOW, 1000)
+    for place, source in ((small, Matrix(1, (far,))), (wild, Matrix(2, (far,) * 4)), (good, Matrix(2, (ONE,) * 4))):
+        yield f"load {place} {text_of_bytes(encode(source))}"
+    sources, targets = (good, wild, hollow, BEYOND), (target, good, BEYOND)
+    for line in [*orders_of_operations(small, sources, targets), *orders_of_reading(sources, len(encode(Matrix(2, (ONE,) * 4))))]:
+        yield line
+        if stream.shelf.places[target] is not None:
+            yield f"drop {target}"
+    for place, text in product(targets, BYTES):
+        yield f"load {place} {text}"
+        if stream.shelf.places[target] is not None:
+            yield f"drop {target}"
+    yield f"drop {hollow}"
+    yield f"drop {BEYOND}"
+
+
+def orders_of_operations(small, sources, targets):
+    for left, right, target in product((small,) + sources, (small,) + sources, targets):
+        yield f"product {left} {right} {target}"
+    for kind, source, target in product(ONE_SOURCE, sources, targets):
+        yield f"{kind} {source} {target}"
+        yield f"{kind} {source} {source}"
+    for source, sets, target in product(sources, MASK_PAIRS, targets):
+        yield f"submatrix {source} {sets[0]} {sets[1]} {target}"
+
+
+def orders_of_reading(sources, length):
+    one = (1,) + ONE
+    lists = ([one, one], [ITEM_ZERO, ITEM_ZERO], [one, (1, LOW, 1000)], [one, (1, 0, 0)], [(2,) + ONE, one], [one], [one] * 3, [])
+    for source, sets in product(sources, MASK_PAIRS):
+        yield f"minor {source} {sets[0]} {sets[1]}"
+    for source, items, lent in product(sources, lists, (0, 1, 2, 3)):
+        yield f"carry {source} {lent}" + (" " + text_of_items(items) if items else "")
+    for source, lent in product(sources, (0, length - 1, length, 512)):
+        yield f"write {source} {lent}"

@@ -1,0 +1,212 @@
+"""The matrix, its word of letters, and the rounded rule.
+
+Matrix: n and its n * n factors, row by row. A letter is ("E", j, w), ("Et", j, w), or ("D", entries, divides), the
+entries of the positions 1 to n. word, inverse_word, converse_word; formula: the minors that a new factor is made of.
+Walker: minors of a word by the rounded rule, one walk for each column set. plain_minor: the same rule said letter by
+letter for any arithmetic, one minor at a time. Row sets are masks, bit 0 for row 1.
+"""
+from collections import namedtuple
+from functools import lru_cache
+
+from number import ITEM_ZERO, ONE, ZERO, add, divide, multiply, signed_add, signed_multiply
+
+Matrix = namedtuple("Matrix", "n factors")
+Arithmetic = namedtuple("Arithmetic", "zero one add multiply divide")
+ROUNDED = Arithmetic(ZERO, ONE, add, multiply, divide)
+
+
+def factor(matrix, i, j):
+    return matrix.factors[(i - 1) * matrix.n + j - 1]
+
+
+def bit(row):
+    return 1 << (row - 1)
+
+
+def rows_of(mask):
+    """The rows of a set, ascending."""
+    return [row for row in range(1, mask.bit_length() + 1) if mask >> (row - 1) & 1]
+
+
+def count(mask):
+    return mask.bit_count()
+
+
+def interval(a, b):
+    """The set a..b, empty if b < a."""
+    return sum(bit(row) for row in range(a, b + 1))
+
+
+# The position of each mask among the masks with equally many rows, smallest first, from 0.
+POSITION = [sum(count(other) == count(mask) for other in range(mask)) for mask in range(256)]
+
+
+def word(matrix):
+    """The letters, left to right."""
+    n = matrix.n
+    lower = [("E", j, factor(matrix, j, i + j - n)) for i in range(1, n) for j in range(n - i + 1, n + 1)]
+    upper = [("Et", j, factor(matrix, i + j - n, j)) for i in range(n - 1, 0, -1) for j in range(n, n - i, -1)]
+    return lower + [("D", tuple(factor(matrix, i, i) for i in range(1, n + 1)), False)] + upper
+
+
+def inverse_word(matrix):
+    """The word reversed, letters kept, D dividing."""
+    return [("D", x[1], True) if x[0] == "D" else x for x in reversed(word(matrix))]
+
+
+def converse_word(matrix):
+    """Each E_j an Et_(n+2-j), each Et_j an E_(n+2-j), D read backwards, order kept."""
+    n = matrix.n
+    letters = []
+    for kind, j, w in word(matrix):
+        if kind == "D":
+            letters.append(("D", j[::-1], w))
+        else:
+            letters.append(("Et" if kind == "E" else "E", n + 2 - j, w))
+    return letters
+
+
+def operation_word(kind, sources):
+    """The word that an operation walks."""
+    if kind == "product":
+        return word(sources[0]) + word(sources[1])
+    return {"inverse": inverse_word, "converse": converse_word, "submatrix": word}[kind](sources[0])
+
+
+@lru_cache(None)
+def formula(i, j):
+    """The minors above and below the line in the new factor (i, j), as pairs of a row set and a column set."""
+    if i == j:
+        return [(interval(1, i), interval(1, i))], [(interval(1, i - 1), interval(1, i - 1))]
+    if i < j:
+        above, below = formula(j, i)
+        return [minor[::-1] for minor in above], [minor[::-1] for minor in below]
+    above = [(interval(i - j + 1, i), interval(1, j)), (interval(i - j, i - 2), interval(1, j - 1))]
+    below = [(interval(i - j + 1, i - 1), interval(1, j - 1)), (interval(i - j, i - 1), interval(1, j))]
+    return above, below
+
+
+def chosen(mask, rows):
+    """The members of `rows` whose places, from 1, are in mask."""
+    return sum(bit(rows[place - 1]) for place in rows_of(mask))
+
+
+def factors_by(minor, arithmetic, rows, columns):
+    """The new factors, row by row, with the sets of the formulas counted among the chosen rows and columns."""
+    size = len(rows)
+    result = []
+    for i in range(1, size + 1):
+        for j in range(1, size + 1):
+            parts = []
+            for minors in formula(i, j):
+                numbers = [minor(chosen(r, rows), chosen(c, columns)) for r, c in minors]
+                parts.append(numbers[0] if i == j else arithmetic.multiply(*numbers))
+            result.append(arithmetic.divide(*parts))
+    return tuple(result)
+
+
+@lru_cache(None)
+def updates(n, size, kind, j):
+    """The sets of `size` rows that a letter changes, each with the set it takes from."""
+    here, there = (bit(j), bit(j - 1)) if kind == "E" else (bit(j - 1), bit(j))
+    return [(s, s ^ here ^ there) for s in range(1 << n) if count(s) == size and s & here and not s & there]
+
+
+@lru_cache(None)
+def sets(n, size):
+    return [(s, rows_of(s)) for s in range(1 << n) if count(s) == size]
+
+
+class Walker:
+    """Minors of a word over n rows by the rounded rule. One walk from a column set gives its minors for all row sets."""
+
+    def __init__(self, letters, n):
+        self.n = n
+        self.letters = letters[::-1]
+        self.walks = {0: {0: ONE}}
+
+    def minor(self, rows, columns):
+        numbers = self.walks.get(columns)
+        if numbers is None:
+            numbers = self.walks[columns] = self.walk(columns)
+        return numbers[rows]
+
+    def walk(self, columns):
+        n, size = self.n, count(columns)
+        numbers = [ZERO] * (1 << n)
+        numbers[columns] = ONE
+        for kind, j, w in self.letters:
+            if kind == "D":
+                step = divide if w else multiply
+                for s, rows in sets(n, size):
+                    x = numbers[s]
+                    if x[0]:
+                        for row in rows:
+                            x = step(x, j[row - 1])
+                        numbers[s] = x
+            else:
+                for s, t in updates(n, size, kind, j):
+                    x = numbers[t]
+                    if x[0]:
+                        numbers[s] = add(numbers[s], multiply(w, x))
+        return numbers
+
+
+def plain_minor(letters, n, rows, columns, arithmetic=ROUNDED):
+    """One minor as document 01 says it, for any arithmetic; the letters hold that arithmetic's numbers."""
+    numbers = {s: arithmetic.zero for s in range(1 << n) if count(s) == count(columns)}
+    numbers[columns] = arithmetic.one
+    for kind, j, w in reversed(letters):
+        for s in sorted(numbers):
+            if kind == "E" and s & bit(j) and not s & bit(j - 1):
+                term = arithmetic.multiply(w, numbers[s - bit(j) + bit(j - 1)])
+                numbers[s] = arithmetic.add(numbers[s], term)
+            elif kind == "Et" and s & bit(j - 1) and not s & bit(j):
+                term = arithmetic.multiply(w, numbers[s - bit(j - 1) + bit(j)])
+                numbers[s] = arithmetic.add(numbers[s], term)
+            elif kind == "D":
+                for row in rows_of(s):
+                    numbers[s] = (arithmetic.divide if w else arithmetic.multiply)(numbers[s], j[row - 1])
+    return numbers[rows]
+
+
+def minor(matrix, rows, columns):
+    return Walker(word(matrix), matrix.n).minor(rows, columns)
+
+
+def operate(kind, sources, rows=None, columns=None):
+    """The new factors of a product, inverse, converse or submatrix by the rounded rule, whatever their exponents."""
+    n = sources[0].n
+    every = rows_of(interval(1, n))
+    rows, columns = (rows_of(rows), rows_of(columns)) if kind == "submatrix" else (every, every)
+    walker = Walker(operation_word(kind, sources), n)
+    return Matrix(len(rows), factors_by(walker.minor, ROUNDED, rows, columns))
+
+
+def transpose(matrix):
+    n = matrix.n
+    return Matrix(n, tuple(factor(matrix, j, i) for i in range(1, n + 1) for j in range(1, n + 1)))
+
+
+def carry(matrix, items):
+    """The list of n items taken through the word, right to left."""
+    items = [ITEM_ZERO] + list(items)
+    for kind, j, w in reversed(word(matrix)):
+        if kind == "D":
+            items[1:] = [signed_multiply(entry, item) for entry, item in zip(j, items[1:])]
+        elif kind == "E":
+            items[j] = signed_add(items[j], signed_multiply(w, items[j - 1]))
+        else:
+            items[j - 1] = signed_add(items[j - 1], signed_multiply(w, items[j]))
+    return items[1:]
+
+
+def reversals(items):
+    """Pairs of neighbours, one positive and one negative."""
+    return sum(x[0] * y[0] < 0 for x, y in zip(items, items[1:]))
+
+
+def bound(kind, n):
+    if kind == "transpose":
+        return 0
+    return 16 * n * n - 8 * n + 3 if kind == "product" else 8 * n * n - 4 * n + 3
