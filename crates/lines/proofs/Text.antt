@@ -1,4 +1,4 @@
--- Text put one piece behind the other (`sets-behind`, `index-behind`), and a byte at a time (`Put`).
+-- Text put one piece behind the other (`puts-behind`), and a byte at a time (`Put`).
 use Prim.Native.Nat.{ℕ, suc, _+_, _-_, _≤_, _<_, min}
 use native.Mathlib.Numerals.{add-one}
 use native.Mathlib.Decide.{decLe}
@@ -8,7 +8,7 @@ use mathlib.Core.Path.{_≡_, refl, sym, ap, _∙_}
 use mathlib.Core.List.{List, [], _∷_, _++_}
 use lib.ListN.{length, getD, drop, set, length-append, length-set, drop-of-length-le}
 use lib.Seq.{drop-cons, sets, set-out, length-sets}
-use Rattle.lines.specs.Text.{indexAfter, pairText, pairsText, bytesText}
+use Rattle.lines.specs.Text.{indexAfter, Puts, pairText, pairsText, bytesText}
 
 pub sets-out : (vs l : List ℕ) (i : ℕ) → length l ≤ i → sets l i vs ≡ l
 sets-out [] l i h = refl
@@ -21,7 +21,7 @@ sets-append (x ∷ a) b l i =
     rw e (sets-append a b (set l i x) (suc i))
 
 module _ (a b out : List ℕ) (at : ℕ) where
-  pub sets-behind : sets (sets out at a) (indexAfter out at a) b ≡ sets out at (a ++ b)
+  sets-behind : sets (sets out at a) (indexAfter out at a) b ≡ sets out at (a ++ b)
   unfolding indexAfter
   sets-behind = go (decLe (at + length a) (length out))
     where
@@ -33,14 +33,14 @@ module _ (a b out : List ℕ) (at : ℕ) where
           let f = length-sets out at a in
           sets-out b (sets out at a) _ (omega arith) ∙ sym (sets-out b (sets out at a) (at + length a) (omega arith)) ∙ sets-append a b out at
 
-  pub index-behind : indexAfter (sets out at a) (indexAfter out at a) b ≡ indexAfter out at (a ++ b)
+  index-behind : indexAfter (sets out at a) (indexAfter out at a) b ≡ indexAfter out at (a ++ b)
   unfolding indexAfter
   index-behind = simp (length-sets, length-append) (omega arith)
 
-  -- one piece put behind the other
-  pub put-behind : (out′ out″ : List ℕ) (to to′ : ℕ) → to ≡ indexAfter out at a → out′ ≡ sets out at a → to′ ≡ indexAfter out′ to b → out″ ≡ sets out′ to b →
-      (to′ ≡ indexAfter out at (a ++ b)) × (out″ ≡ sets out at (a ++ b))
-  put-behind out′ out″ to to′ e f g h = (g ∙ rw (e, f) index-behind, h ∙ rw (e, f) sets-behind)
+-- one piece put behind the other
+pub puts-behind : {a b out out′ out″ : List ℕ} {at to to′ : ℕ} → Puts out at a out′ to → Puts out′ to b out″ to′ → Puts out at (a ++ b) out″ to′
+puts-behind {a} {b} {out} {at = at} p q =
+    record { index = q .index ∙ rw (p .index, p .bytes) (index-behind a b out at); bytes = q .bytes ∙ rw (p .index, p .bytes) (sets-behind a b out at) }
 
 pub bytes-none : (s : List ℕ) → length s ≡ 0 → bytesText s ≡ 45 ∷ []
 bytes-none [] e = refl
@@ -61,14 +61,14 @@ pub put-none : (out : List ℕ) (at : ℕ) (text : List ℕ) → Put out at text
 put-none out at text = record { within = omega arith; reached = omega arith; room = omega arith; kept = refl; same = refl }
 
 module _ {out₀ : List ℕ} {at : ℕ} {text out : List ℕ} {to i : ℕ} (p : Put out₀ at text out to i) where
-  pub put-end : length text ≤ i → (to ≡ indexAfter out₀ at text) × (out ≡ sets out₀ at text)
+  pub put-end : length text ≤ i → Puts out₀ at text out to
   unfolding indexAfter
-  put-end h = (omega (arith, p), sym (p .same ∙ rw (drop-of-length-le text h)))
+  put-end h = record { index = omega (arith, p); bytes = sym (p .same ∙ rw (drop-of-length-le text h)) }
 
   module _ (h : i < length text) where
-    pub put-full : length out ≤ to → (to ≡ indexAfter out₀ at text) × (out ≡ sets out₀ at text)
+    pub put-full : length out ≤ to → Puts out₀ at text out to
     unfolding indexAfter
-    put-full f = (omega (arith, p), sym (p .same ∙ sets-out (drop i text) out to f))
+    put-full f = record { index = omega (arith, p); bytes = sym (p .same ∙ sets-out (drop i text) out to f) }
 
     pub put-more : to < length out → Put out₀ at text (set out to (getD text i 0)) (to + 1) (i + 1)
     put-more r =
@@ -102,16 +102,15 @@ unfolding indexAfter
 index-none out at = omega arith
 
 module _ {out₀ : List ℕ} {at : ℕ} {s out : List ℕ} {to i : ℕ} (p : Spelt out₀ at s out to i) where
-  pub spelt-end : length s ≤ i → (to ≡ indexAfter out₀ at (pairsText s)) × (out ≡ sets out₀ at (pairsText s))
+  pub spelt-end : length s ≤ i → Puts out₀ at (pairsText s) out to
   spelt-end h =
-      (sym (p .index ∙ rw (drop-of-length-le s h, pairs-none, index-none)), sym (p .same ∙ rw (drop-of-length-le s h, pairs-none)))
+      record { index = sym (p .index ∙ rw (drop-of-length-le s h, pairs-none, index-none)); bytes = sym (p .same ∙ rw (drop-of-length-le s h, pairs-none)) }
 
-  pub spelt-more : (h : i < length s) (out′ : List ℕ) (to′ : ℕ) → to′ ≡ indexAfter out to (pairText (getD s i 0)) → out′ ≡ sets out to (pairText (getD s i 0)) →
-      Spelt out₀ at s out′ to′ (i + 1)
-  spelt-more h out′ to′ e f =
+  pub spelt-more : (h : i < length s) (out′ : List ℕ) (to′ : ℕ) → Puts out to (pairText (getD s i 0)) out′ to′ → Spelt out₀ at s out′ to′ (i + 1)
+  spelt-more h out′ to′ q =
       record {
         within = omega arith;
-        kept = rw (f, length-sets) (p .kept);
-        index = p .index ∙ rw (pairs-at s i h, e, f) (sym (index-behind (pairText (getD s i 0)) (pairsText (drop (i + 1) s)) out to));
-        same = p .same ∙ rw (pairs-at s i h, e, f) (sym (sets-behind (pairText (getD s i 0)) (pairsText (drop (i + 1) s)) out to));
+        kept = rw (q .bytes, length-sets) (p .kept);
+        index = p .index ∙ rw (pairs-at s i h, q .index, q .bytes) (sym (index-behind (pairText (getD s i 0)) (pairsText (drop (i + 1) s)) out to));
+        same = p .same ∙ rw (pairs-at s i h, q .index, q .bytes) (sym (sets-behind (pairText (getD s i 0)) (pairsText (drop (i + 1) s)) out to));
       }

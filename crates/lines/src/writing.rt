@@ -1,14 +1,12 @@
 // Text put into a buffer from an index on. What has no room is left out.
 ghost use mathlib.Core.Path.{_≡_};
 ghost use Prim.Native.Nat.{_<_};
-ghost use lib.Seq.{sets};
 ghost use Rattle.io.specs.Digits.{glyph};
-ghost use Rattle.lines.specs.Text.{indexAfter, decimal, signedText, pairText, pairsText, bytesText};
+ghost use Rattle.lines.specs.Text.{Puts, decimal, signedText, pairText, pairsText, bytesText};
 
 // Puts text at an index, and answers the index behind it.
 pub fn put(out: &mut [u8], at: usize, text: &[u8]) -> usize
-    ensures { λ r. ⌜ r ≡ indexAfter (now (out .entry)) at (now (text .entry)) ⌝ }
-    ensures { λ _. ⌜ now (out .exit) ≡ sets (now (out .entry)) at (now (text .entry)) ⌝ }
+    ensures { λ r. ⌜ Puts (now (out .entry)) at (now (text .entry)) (now (out .exit)) r ⌝ }
 {
     let mut to = at;
     let mut i: usize = 0;
@@ -25,8 +23,7 @@ pub fn put(out: &mut [u8], at: usize, text: &[u8]) -> usize
 
 // A whole number in decimal.
 pub fn put_whole(out: &mut [u8], at: usize, n: u64) -> usize
-    ensures { λ r. ⌜ r ≡ indexAfter (now (out .entry)) at (decimal n) ⌝ }
-    ensures { λ _. ⌜ now (out .exit) ≡ sets (now (out .entry)) at (decimal n) ⌝ }
+    ensures { λ r. ⌜ Puts (now (out .entry)) at (decimal n) (now (out .exit)) r ⌝ }
 {
     let mut text = [0u8; 20];
     let k = io::decimal(n, &mut text);
@@ -35,8 +32,7 @@ pub fn put_whole(out: &mut [u8], at: usize, n: u64) -> usize
 
 // A number with its sign: `-` in front of a negative one.
 pub fn put_signed(out: &mut [u8], at: usize, negative: bool, size: u64) -> usize
-    ensures { λ r. ⌜ r ≡ indexAfter (now (out .entry)) at (signedText negative size) ⌝ }
-    ensures { λ _. ⌜ now (out .exit) ≡ sets (now (out .entry)) at (signedText negative size) ⌝ }
+    ensures { λ r. ⌜ Puts (now (out .entry)) at (signedText negative size) (now (out .exit)) r ⌝ }
 {
     if negative {
         let next = put(out, at, b"-");
@@ -53,16 +49,14 @@ fn glyph(d: u8) -> u8
 }
 
 fn put_pair(out: &mut [u8], at: usize, b: u8) -> usize
-    ensures { λ r. ⌜ r ≡ indexAfter (now (out .entry)) at (pairText b) ⌝ }
-    ensures { λ _. ⌜ now (out .exit) ≡ sets (now (out .entry)) at (pairText b) ⌝ }
+    ensures { λ r. ⌜ Puts (now (out .entry)) at (pairText b) (now (out .exit)) r ⌝ }
 {
     let text = [glyph(b / 16), glyph(b % 16)];
     put(out, at, &text)
 }
 
 fn put_pairs(out: &mut [u8], at: usize, s: &[u8]) -> usize
-    ensures { λ r. ⌜ r ≡ indexAfter (now (out .entry)) at (pairsText (now (s .entry))) ⌝ }
-    ensures { λ _. ⌜ now (out .exit) ≡ sets (now (out .entry)) at (pairsText (now (s .entry))) ⌝ }
+    ensures { λ r. ⌜ Puts (now (out .entry)) at (pairsText (now (s .entry))) (now (out .exit)) r ⌝ }
 {
     let mut to = at;
     let mut i: usize = 0;
@@ -75,8 +69,7 @@ fn put_pairs(out: &mut [u8], at: usize, s: &[u8]) -> usize
 
 // Bytes in hexadecimal, `-` for none.
 pub fn put_bytes(out: &mut [u8], at: usize, s: &[u8]) -> usize
-    ensures { λ r. ⌜ r ≡ indexAfter (now (out .entry)) at (bytesText (now (s .entry))) ⌝ }
-    ensures { λ _. ⌜ now (out .exit) ≡ sets (now (out .entry)) at (bytesText (now (s .entry))) ⌝ }
+    ensures { λ r. ⌜ Puts (now (out .entry)) at (bytesText (now (s .entry))) (now (out .exit)) r ⌝ }
 {
     if s.len() == 0 {
         return put(out, at, b"-");

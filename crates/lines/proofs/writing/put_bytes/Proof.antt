@@ -17,7 +17,7 @@ same-length c = search needs
 returns : tie.Need-returns
 returns c =
     let e = bytes-none (now (c .before .before .before .before .before .before .before .before .args .s)) (c .before .before .before .before .before .if1 .taken) in
-    (rw e (c .before .before .put .ensures .0), rw e (c .before .before .put .ensures .1))
+    rw e (c .before .before .put .ensures)
 
 put-pairs-requires : tie.Need-put-pairs-requires
 put-pairs-requires c κs = search needs
@@ -28,7 +28,7 @@ same-length-2 c = search needs
 returns-2 : tie.Need-returns-2
 returns-2 c =
     let e = bytes-some (now (c .before .before .before .before .before .before .before .args .s)) (c .before .before .before .before .if1 .left) in
-    (rw e (c .before .before .put-pairs .ensures .0), rw e (c .before .before .put-pairs .ensures .1))
+    rw e (c .before .before .put-pairs .ensures)
 
 pub put-bytes-spec : {M : Type 1} → statement M
 put-bytes-spec =

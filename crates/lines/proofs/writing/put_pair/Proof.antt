@@ -19,7 +19,7 @@ same-length : tie.Need-same-length
 same-length c = search needs
 
 returns : tie.Need-returns
-returns c = (cc, cc)
+returns c = record { index = cc; bytes = cc }
 
 pub put-pair-spec : {M : Type 1} → statement M
 put-pair-spec =

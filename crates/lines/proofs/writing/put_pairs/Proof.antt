@@ -30,7 +30,7 @@ loop-less c = omega arith
 
 loop-again : tie.Need-loop-again Inv-loop μ-loop
 loop-again c =
-    spelt-more (c .before .before .before .before .before .before .loop .inv) (omega arith) _ _ (c .before .before .put-pair .ensures .0) (c .before .before .put-pair .ensures .1)
+    spelt-more (c .before .before .before .before .before .before .loop .inv) (omega arith) _ _ (c .before .before .put-pair .ensures)
 
 same-length : tie.Need-same-length Inv-loop μ-loop
 same-length c = c .before .loop .inv .kept

@@ -1,7 +1,6 @@
 -- `lines::put_signed` meets its contract.
 use mathlib.Core.List.{[], _∷_}
-use Rattle.lines.specs.Text.{decimal}
-use Rattle.lines.proofs.Text.{put-behind}
+use Rattle.lines.proofs.Text.{puts-behind}
 use borrow.Author.Needs.{needs}
 use Rattle.lines.proofs.writing.put_signed.Statement.{statement}
 use Rattle.lines.proofs.writing.put_signed.Tie as tie
@@ -19,9 +18,7 @@ same-length : tie.Need-same-length
 same-length c = search needs
 
 returns : tie.Need-returns
-returns c =
-    rw (c .before .before .before .before .before .before .before .before .before .if1 .taken)
-    (put-behind (45 ∷ []) (decimal _) _ _ _ _ _ _ (c .before .before .before .before .before .before .put .ensures .0) (c .before .before .before .before .before .before .put .ensures .1) (c .before .before .put-whole .ensures .0) (c .before .before .put-whole .ensures .1))
+returns c = rw (c .before .before .before .before .before .before .before .before .before .if1 .taken) (puts-behind {a = 45 ∷ []} (c .before .before .before .before .before .before .put .ensures) (c .before .before .put-whole .ensures))
 
 put-whole-requires-2 : tie.Need-put-whole-requires-2
 put-whole-requires-2 c κs = search needs

@@ -25,7 +25,7 @@ returns : tie.Need-returns
 returns c =
     let d = c .before .before .before .before .before .decimal .ensures in
     let e = d .1 .1 ∙ digits-decimal _ _ (omega (arith, c .before .before .before .before .before .before .before .before .fits .n)) (d .1 .0) in
-    (rw e at (c .before .before .put .ensures .0), rw e at (c .before .before .put .ensures .1))
+    rw e at (c .before .before .put .ensures)
 
 pub put-whole-spec : {M : Type 1} → statement M
 put-whole-spec =
