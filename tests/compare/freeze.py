@@ -20,11 +20,12 @@ from garbage import ODD_LINES
 from model import ORDER, conditions
 from number import HIGH, LOW, ONE
 from requests import Stream, stream
-from sources import good_masks, spread_number
+from sources import far_apart, good_masks, spread_number
 from words import Matrix
 
 HERE = os.path.dirname(os.path.abspath(__file__))
 OPERATIONS = ("product", "inverse", "converse", "transpose", "submatrix")
+COUNT = 5500
 TWO, THREE = (LOW, -30), (LOW + (1 << 30), -30)
 
 
@@ -65,13 +66,32 @@ def tour(maker):
         yield from (f"drop {place}" for place in range(8))
 
 
+def limits(maker):
+    """Where the working numbers go farthest and the result is still stored: the largest factors below the diagonal and on it."""
+    for n in range(1, 9):
+        exponents = [1000 if i >= j else -1000 for i in range(n) for j in range(n)]
+        yield load(0, n, [(maker.rng.randrange(LOW, HIGH - 1000), e) for e in exponents])
+        yield from (f"submatrix 0 {2 ** n - 1} {2 ** n - 1} 1", "transpose 0 2", f"submatrix 2 {2 ** n - 1} {2 ** n - 1} 3")
+        yield from (f"drop {place}" for place in range(4))
+
+
+def sums(maker):
+    """Terms about 32 places apart in small operations, so that the smaller just decides the rounding or just doesn't."""
+    for _ in range(20):
+        for place in (0, 1):
+            yield load(place, 2, [far_apart(maker.rng) for _ in range(4)])
+        yield from ("product 0 1 2", "converse 0 3", "inverse 1 4")
+        yield from (f"drop {place}" for place in range(5))
+
+
 def lines(seed, shelf):
     maker = Stream(random.Random(f"frozen {seed}"), shelf)
     yield from marked()
-    yield from tour(maker)
+    for part in (tour, limits, sums):
+        yield from part(maker)
     yield from sweeps.every_order(maker)
     yield from (line for line in ODD_LINES if not doubtful(line))
-    for sweep in (sweeps.every_minor, sweeps.every_length, sweeps.every_cut, sweeps.every_flip):
+    for sweep in (sweeps.every_minor, sweeps.every_length, sweeps.every_cut, sweeps.every_flip, sweeps.every_gap):
         yield from sweep(maker)
     yield from stream(f"frozen {seed}", shelf)
 
@@ -116,7 +136,7 @@ def missing(asked, wanted, tally):
 def main():
     parser = argparse.ArgumentParser(description=__doc__.splitlines()[0])
     parser.add_argument("--seed", default="1")
-    parser.add_argument("--count", type=int, default=5000)
+    parser.add_argument("--count", type=int, default=COUNT)
     parser.add_argument("--check", action="store_true", help="hold the files to what would be written")
     chosen = parser.parse_args()
     asked, wanted = batch(lambda shelf: lines(chosen.seed, shelf), chosen.count)

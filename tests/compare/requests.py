@@ -223,7 +223,7 @@ SCENARIOS = (
     (Stream.fill, 30), (Stream.operate, 80), (Stream.chain, 14), (Stream.edge, 24), (Stream.faults, 60), (Stream.drop, 14),
     (Stream.minor, 14), (sweeps.every_minor, 0.1), (Stream.write, 12), (sweeps.every_length, 0.5), (Stream.carry, 25),
     (Stream.no_items, 1), (Stream.reversals, 8), (Stream.byte_faults, 12), (Stream.load_anywhere, 12), (Stream.random_bytes, 4),
-    (sweeps.every_cut, 0.3), (sweeps.every_flip, 0.1), (sweeps.every_order, 0.1), (Stream.bundle, 4), (Stream.garbage, 12),
+    (sweeps.every_cut, 0.3), (sweeps.every_flip, 0.1), (sweeps.every_order, 0.1), (sweeps.every_gap, 0.1), (Stream.bundle, 4), (Stream.garbage, 12),
 )
 
 

@@ -48,7 +48,8 @@ def graded(rng, n):
 
 def steep(rng, n):
     """Factors large below the diagonal and as small above it, or the reverse: working exponents run far, results stay stored."""
-    side, middle = rng.choice((rng.randint(-EDGE, EDGE), -EDGE, EDGE)), rng.choice((0, 0, rng.randint(-EDGE, EDGE), EDGE + 31))
+    most = EDGE + 31
+    side, middle = rng.choice((rng.randint(-EDGE, EDGE), -most, most)), rng.choice((0, 0, rng.randint(-EDGE, EDGE), most))
 
     def factor(i, j):
         return (mantissa(rng), clamp(-31 + (middle if i == j else side if i > j else -side) + rng.randint(-1, 1)))
@@ -63,12 +64,17 @@ def nearly_singular(rng, n):
     return Matrix(n, tuple(factors))
 
 
+def far_apart(rng):
+    """Exponents whose differences make one term of a sum reach just to the last bit of the other, or not quite."""
+    return (mantissa(rng), -31 + rng.choice((0, 0, 16, -16, 31, 32, 33, -31, -32, -33)))
+
+
 KINDS = (
     filled(lambda rng: (LOW, -31)), filled(lambda rng: (LOW, rng.randint(-34, -28))), filled(lambda rng: whole_number(rng, 9)),
     filled(lambda rng: whole_number(rng, 2 ** 40)), filled(lambda rng: spread_number(rng, 2)),
     filled(lambda rng: spread_number(rng, 2)), filled(lambda rng: (LOW + rng.randrange(4), rng.randint(-33, -30))),
     filled(lambda rng: spread_number(rng, 40)), filled(lambda rng: spread_number(rng, 400)), filled(near_edge),
-    filled(lambda rng: spread_number(rng, EDGE)), graded, steep, nearly_singular,
+    filled(lambda rng: spread_number(rng, EDGE)), filled(far_apart), graded, steep, nearly_singular,
 )
 
 

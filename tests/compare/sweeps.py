@@ -7,7 +7,7 @@ from itertools import product
 from console_model import text_of_bytes, text_of_items
 from encoding import encode
 from model import ONE_SOURCE, PLACES
-from number import ITEM_ZERO, LOW, ONE
+from number import HIGH, ITEM_ZERO, LOW, ONE
 from sources import matrix
 from words import Matrix
 
@@ -54,6 +54,15 @@ def every_flip(stream):
         changed = bytearray(data)
         changed[place // 8] ^= 1 << place % 8
         yield from stream.bytes_judged(bytes(changed))
+
+
+def every_gap(stream):
+    """Sums and differences of two items at all distances that matter, the larger one also a power of two."""
+    yield from stream.put(Matrix(2, (ONE,) * 4))
+    mantissas = (LOW, LOW + 1, HIGH - 1)
+    for gap, large, small, sign in product((0, 1, 2, *range(30, 36)), mantissas, (*mantissas, stream.rng.randrange(LOW, HIGH)), (1, -1)):
+        items = [(1, large, gap - 31), (sign, small, -31)]
+        yield f"carry {stream.last} 2 {text_of_items(items)}"
 
 
 def every_order(stream):

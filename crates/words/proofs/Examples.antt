@@ -1,10 +1,12 @@
--- Document 01's marked examples on words hold (rule-examples), and so do its tables of bounds (bound-examples), by computing; the bounds are the
+-- Document 01's marked examples hold, P5 to P12 (rule-examples) and all of P1 to P12 as one table (marked-examples), and so do its tables of bounds (bound-examples), by computing; the bounds are the
 -- paper's formulas (product-bound, source-bound).
 use mathlib.Core.Path.{_≡_, refl}
 use Prim.Native.Nat.{ℕ, _+_, _-_, _*_}
 use native.Mathlib.Omega.{arith}
 use lib.Ieee.{size}
-use Rattle.number.specs.Examples.{AllHold}
+use mathlib.Core.List.{List, [], _∷_, _++_}
+use Rattle.number.specs.Examples.{Row, AllHold, arithmeticTable}
+use Rattle.number.proofs.Examples.{examples}
 use Rattle.number.specs.Number.{round, carried, sumOf, productOf, quotientOf, inRange}
 use Rattle.number.specs.Signed.{signedRound, signedSum, withSign, signedProduct}
 use Rattle.words.specs.RowSet.{has, put, count, equal, rows, ofMask, among}
@@ -12,7 +14,7 @@ use Rattle.words.specs.Word.{ascending, descending, word, inverseWord, c
 use Rattle.words.specs.Walk.{oneAt, moved, scaled, act, walk, minor, carryLetter, carry}
 use Rattle.words.specs.Formula.{onDiagonal, belowDiagonal, newFactor}
 use Rattle.words.specs.Operation.{joinedWord, boundOf, rowByRow, refactored}
-use Rattle.words.specs.Examples.{ruleTable, boundTable}
+use Rattle.words.specs.Examples.{ruleTable, boundTable, markedTable}
 
 pub rule-examples : AllHold ruleTable
 unfolding ruleTable has put count equal rows ofMask among ascending descending word inverseWord converseWord joinedWord oneAt moved scaled act walk minor carryLetter carry
@@ -29,3 +31,13 @@ product-bound n = omega arith
 
 pub source-bound : (n : ℕ) → boundOf 1 n ≡ 8 * n * n - 4 * n + 3
 source-bound n = omega arith
+
+-- two tables, one behind the other
+hold-append : (T S : List Row) → AllHold T → AllHold S → AllHold (T ++ S)
+hold-append [] S t s = s
+hold-append (r ∷ T) S t s = (t .0, hold-append T S (t .1) s)
+
+-- P1 TO P12
+pub marked-examples : AllHold markedTable
+unfolding markedTable
+marked-examples = hold-append arithmeticTable ruleTable examples rule-examples

@@ -1,13 +1,13 @@
--- Document 01's marked examples on words, P5 to P12, as rows of one table, and its two tables of bounds.
+-- Document 01's marked examples: P5 to P12 on words (ruleTable), all of P1 to P12 as rows of one table (markedTable), and its two tables of bounds.
 use mathlib.Core.Bool.{true, false, cond}
-use mathlib.Core.List.{List, [], _∷_}
+use mathlib.Core.List.{List, [], _∷_, _++_}
 use Prim.Native.Nat.{ℕ, _*_, _^_}
 use lib.Dec.{eqb, ltb}
 use Rattle.number.specs.declared.Number.{Number}
 use Rattle.number.specs.Number.{oneNumber, rounded, inRange}
 use Rattle.number.specs.declared.signed.Signed.{Signed}
 use Rattle.number.specs.Signed.{plain, zeroSigned, signedArithmetic}
-use Rattle.number.specs.Examples.{Row, row, up, down}
+use Rattle.number.specs.Examples.{Row, row, up, down, arithmeticTable}
 use Rattle.words.specs.RowSet.{ofMask}
 use Rattle.words.specs.Word.{Factors, word, forUp}
 use Rattle.words.specs.Walk.{minor, carry}
@@ -81,3 +81,7 @@ boundTable =
     ∷ row (forUp 1 8 (λ n. bound n (inverse ones) ∷ [])) (7 ∷ 27 ∷ 63 ∷ 115 ∷ 183 ∷ 267 ∷ 367 ∷ 483 ∷ [])
     ∷ row (bound 3 (cornerOf ones)) 63  -- P8's, which goes by the source's rows
     ∷ []
+
+-- P1 to P12: the numbers' rows, then the words'
+unfoldable pub markedTable : List Row
+markedTable = arithmeticTable ++ ruleTable

@@ -1,0 +1,43 @@
+-- The first n items of a vector as a list (`first-length`, `first-at`), and so a row that is carried as a vector is carried as a list (`carries-list`).
+use mathlib.Core.Path.{_≡_, refl, sym, ap, _∙_}
+use mathlib.Core.List.{List, [], _∷_}
+use Prim.Native.Nat.{ℕ, zero, suc, _+_, _-_, _≤_, _<_}
+use native.Mathlib.Omega.{arith}
+use lib.ListN.{length, getD, take, length-take}
+use lib.Seq.{ext-getD, getD-take}
+use Rattle.number.specs.Signed.{plain, zeroSigned}
+use Rattle.number.specs.declared.Number.{Number}
+use Rattle.number.specs.declared.signed.Signed.{Signed}
+use Rattle.words.specs.Word.{Factors, ascending, word}
+use Rattle.lists.specs.Lists.{vectorOf, firstItems, carried, carriedList}
+use Rattle.lists.specs.Carrying.{Carries}
+
+module _ {A : Type 0} (f : ℕ → A) where
+  ascending-length : (a c : ℕ) → length (ascending a c (λ i. f i ∷ [])) ≡ c
+  unfolding ascending
+  ascending-length a zero = refl
+  ascending-length a (suc c) = ap suc (ascending-length (suc a) c)
+
+  ascending-at : (a c k : ℕ) (d : A) → k < c → getD (ascending a c (λ i. f i ∷ [])) k d ≡ f (a + k)
+  unfolding ascending
+  ascending-at a zero k d h = absurd (omega arith)
+  ascending-at a (suc c) zero d h = ap f (omega arith)
+  ascending-at a (suc c) (suc k) d h = ascending-at (suc a) c k d (omega arith) ∙ ap f (omega arith)
+
+pub first-length : (n : ℕ) (v : ℕ → Signed) → length (firstItems n v) ≡ n
+first-length n v = ascending-length v 1 (suc n - 1) ∙ (omega arith)
+
+pub first-at : (n : ℕ) (v : ℕ → Signed) (k : ℕ) → k < n → getD (firstItems n v) k zeroSigned ≡ v (k + 1)
+first-at n v k h = ascending-at v 1 (suc n - 1) k zeroSigned (omega arith) ∙ ap v (omega arith)
+
+pub carries-list : {n k : ℕ} (b : Factors Number) (v u : List Signed) → n ≤ 8 → length u ≡ 8 → Carries n k (word n (λ i j. plain (b i j))) v u → take n u ≡ carriedList n b (take n v)
+unfolding carried
+carries-list {n} b v u few eight c =
+    let L : List Signed = carriedList n b (take n v) in
+    ext-getD zeroSigned (take n u) L (omega (arith, length-take n u, first-length n (carried n b (vectorOf (take n v)))))
+    (λ k h.
+    let l : k < n = omega (arith, length-take n u) in
+    let e : k ≡ k + 1 - 1 = omega arith in
+    getD-take n u k zeroSigned l ∙ ap (λ i. getD u i zeroSigned) e
+    ∙ c .agrees (vectorOf (take n v)) (λ i p q. sym (getD-take n v (i - 1) zeroSigned (omega arith))) (k + 1) (omega arith) (omega arith)
+    ∙ sym (first-at n (carried n b (vectorOf (take n v))) k l))

@@ -1,0 +1,102 @@
+-- Laws of list items: what three numbers are by the code's tests (`Storable`, `item-zero`, `item-value`, `item-malformed`), that it is in range
+-- (`item-ranged`), and three numbers written (`put-is`).
+use mathlib.Core.Path.{_≡_, refl}
+use mathlib.Core.Bool.{Bool, true, false, not, cond, _&&_, false≢true}
+use mathlib.Core.List.{List, [], _∷_}
+use Prim.Native.Nat.{ℕ, zero, suc, _+_, _^_, _≤_, _<_}
+use native.Mathlib.Omega.{arith}
+use borrow.Author.Tests.{eq-eqb, ne-eqb, le-leb, lt-ltb, eqb-true, leb-true, ltb-true, not-true}
+use lib.Dec.{eqb, leb, ltb}
+use lib.IntN.{ℤ, natAbs}
+use lib.ListN.{set}
+use lib.Seq.{sets}
+use Rattle.number.specs.Signed.{zeroSigned, SignedRanged}
+use Rattle.number.proofs.SignedReach.{signed-ranged-zero}
+use Rattle.lists.specs.Items.{isNegative, biased, storable, itemOf}
+use Rattle.lists.specs.declared.items.Item.{Item}
+use Rattle.lists.specs.declared.items.Item.the-variants.{Value, Malformed}
+use Rattle.lists.proofs.Wholes.{biased-near}
+
+pub both : (s t : Bool) → (s && t) ≡ true → (s ≡ true) × (t ≡ true)
+both true t e = (refl, e)
+both false t e = absurd (false≢true e)
+
+unless : (t : Bool) → (t ≡ true → ⊥) → t ≡ false
+unless true h = absurd (h refl)
+unless false h = refl
+
+module _ (s m e : ℤ) where
+  -- a sign of 1 or -1, a mantissa and an exponent in the stored ranges
+  pub record Storable : Type 0 where
+    pub sign : natAbs s ≡ 1
+    pub plain : isNegative m ≡ false
+    pub low : 2 ^ 31 ≤ natAbs m
+    pub high : natAbs m < 2 ^ 32
+    pub near : natAbs e ≤ 1000
+
+  storable-true : Storable → storable s m e ≡ true
+  unfolding storable
+  storable-true h = simp (eq-eqb (natAbs s) 1 (h .sign), h .plain, le-leb (2 ^ 31) (natAbs m) (h .low), lt-ltb (natAbs m) (2 ^ 32) (h .high), le-leb (natAbs e) 1000 (h .near))
+
+  storable-facts : storable s m e ≡ true → Storable
+  unfolding storable
+  storable-facts h =
+      let a = both (eqb (natAbs s) 1) _ h in
+      let b = both (not (isNegative m)) _ (a .1) in
+      let c = both (leb (2 ^ 31) (natAbs m)) _ (b .1) in
+      let d = both (ltb (natAbs m) (2 ^ 32)) _ (c .1) in
+      record {
+        sign = eqb-true _ _ (a .0);
+        plain = not-true _ (b .0);
+        low = leb-true _ _ (c .0);
+        high = ltb-true _ _ (d .0);
+        near = leb-true _ _ (d .1);
+      }
+
+  allZero : Bool
+  allZero = eqb (natAbs s) 0 && (eqb (natAbs m) 0 && eqb (natAbs e) 0)
+
+  pub item-zero : natAbs s ≡ 0 → natAbs m ≡ 0 → natAbs e ≡ 0 → itemOf s m e ≡ Value zeroSigned
+  unfolding itemOf
+  item-zero p q r = simp (eq-eqb (natAbs s) 0 p, eq-eqb (natAbs m) 0 q, eq-eqb (natAbs e) 0 r)
+
+  pub item-value : Storable → (t : Bool) (a x : ℕ) → t ≡ isNegative s → a ≡ natAbs m → x ≡ biased e → itemOf s m e ≡ Value (record { negative = t; size = record { m = a; x = x } })
+  unfolding itemOf
+  item-value h t a x p q r = rw (p, q, r) (simp (ne-eqb (natAbs s) 0 (λ z. omega (arith, h .sign)), storable-true h))
+
+  pub item-malformed : (natAbs s ≡ 0 → natAbs m ≡ 0 → natAbs e ≡ 0 → ⊥) → (Storable → ⊥) → itemOf s m e ≡ Malformed
+  unfolding itemOf allZero
+  item-malformed p q = simp (
+    unless allZero (λ h.
+        let a = both (eqb (natAbs s) 0) _ h in
+        let b = both (eqb (natAbs m) 0) _ (a .1) in
+        p (eqb-true _ _ (a .0)) (eqb-true _ _ (b .0)) (eqb-true _ _ (b .1))),
+    unless (storable s m e) (λ h. q (storable-facts h)),
+  )
+
+-- a well-formed item is in range
+abbrev pub RangedItem : Item → Type 0
+RangedItem (Value a) = SignedRanged 1000 a
+RangedItem Malformed = Unit {0}
+
+pub item-ranged : (s m e : ℤ) → RangedItem (itemOf s m e)
+unfolding itemOf
+item-ranged s m e = go (eqb (natAbs s) 0 && (eqb (natAbs m) 0 && eqb (natAbs e) 0)) (storable s m e) refl
+  where
+    go : (t y : Bool) → storable s m e ≡ y → RangedItem (cond t (Value zeroSigned) (cond y (Value (record { negative = isNegative s; size = record { m = natAbs m; x = biased e } })) Malformed))
+    go true y h = signed-ranged-zero 1000
+    go false true h =
+        let f = storable-facts s m e h in
+        let n = biased-near e (f .near) in
+        record {
+          size = record { zero = λ z. absurd (omega (arith, f .low)); low = λ p. f .low; high = f .high; start = n .0; stop = n .1 };
+          zero = λ z. absurd (omega (arith, f .low));
+        }
+    go false false h = tt
+
+-- three numbers put one after the other
+pub put-is : (z : List ℤ) (i : ℕ) (a b c a′ b′ c′ : ℤ) → a ≡ a′ → b ≡ b′ → c ≡ c′ → set (set (set z i a) (i + 1) b) (i + 2) c ≡ sets z i (a′ ∷ b′ ∷ c′ ∷ [])
+put-is z i a b c a′ b′ c′ p q r =
+    let e : i + 1 ≡ suc i = omega arith in
+    let f : i + 2 ≡ suc (suc i) = omega arith in
+    rw (p, q, r, e, f)

@@ -1,0 +1,13 @@
+pub mod Wholes
+pub mod ItemForms
+pub mod Reading
+pub mod Fronts
+pub mod Vectors
+pub mod Outcomes
+pub mod LetterReach
+pub mod Carried
+pub mod Staged
+pub mod Scaled
+pub mod FirstItems
+pub mod RoundTrip
+pub mod Examples

@@ -1,0 +1,5 @@
+pub mod Items
+pub mod Lists
+pub mod Table
+pub mod Carrying
+pub mod Examples

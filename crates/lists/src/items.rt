@@ -1,0 +1,200 @@
+// List items: read from three whole numbers, and written as three.
+ghost use mathlib.Core.Path.{_≡_};
+ghost use mathlib.Core.Option.{none};
+ghost use Prim.Native.Nat.{_+_, _*_, _^_, _≤_, _<_};
+ghost use lib.IntN.{pos, natAbs};
+ghost use lib.ListN.{length, getD, take};
+ghost use lib.Seq.{sets};
+ghost use Rattle.number.specs.Number.{reach};
+ghost use Rattle.number.specs.Signed.{SignedRanged};
+ghost use Rattle.lists.specs.Items.{biased, unbiased, blank, itemOf, listOf, listed, listedFrom, signOf, itemNumbers, listNumbers};
+ghost use Rattle.lists.specs.Carrying.{Working};
+use crate::whole;
+use number::Number;
+use number::signed::Signed;
+
+const BIAS: u64 = 4194304;
+
+// What three whole numbers are.
+pub enum Item {
+    Value(Signed),
+    Malformed,
+}
+
+// The items of a list, at the start of eight, if it is a proper one.
+pub struct Listed {
+    pub proper: bool,
+    pub count: usize,
+    pub items: [Signed; 8],
+}
+
+fn biased(e: i64) -> u64
+    requires { ⌜ natAbs e ≤ 1000 ⌝ }
+    ensures { λ r. ⌜ r ≡ biased e ⌝ }
+{
+    let far = whole::magnitude(e);
+    if whole::is_negative(e) {
+        return BIAS - far;
+    }
+    BIAS + far
+}
+
+fn unbiased(x: u64) -> i64
+    requires { ⌜ x < 2 ^ 23 ⌝ }
+    ensures { λ r. ⌜ r ≡ unbiased x ⌝ }
+{
+    if x < BIAS {
+        return whole::minus(BIAS - x);
+    }
+    whole::plus(x - BIAS)
+}
+
+// The item of sign s, mantissa m and exponent e.
+fn item_of(s: i64, m: i64, e: i64) -> Item
+    ensures { λ r. ⌜ r ≡ itemOf s m e ⌝ }
+{
+    let sign = whole::magnitude(s);
+    let size = whole::magnitude(m);
+    let far = whole::magnitude(e);
+    if sign == 0 {
+        if size == 0 {
+            if far == 0 {
+                return Item::Value(Signed::zero());
+            }
+        }
+        return Item::Malformed;
+    }
+    if sign != 1 {
+        return Item::Malformed;
+    }
+    if whole::is_negative(m) {
+        return Item::Malformed;
+    }
+    if size < 0x8000_0000 {
+        return Item::Malformed;
+    }
+    if 0xffff_ffff < size {
+        return Item::Malformed;
+    }
+    if 1000 < far {
+        return Item::Malformed;
+    }
+    let x = biased(e);
+    let negative = whole::is_negative(s);
+    Item::Value(Signed {
+        negative,
+        size: Number { m: size, x },
+    })
+}
+
+// Item k, counted from 0, of a row of numbers.
+fn item_at(items: &[i64], k: usize) -> Item
+    requires { ⌜ 3 * k + 2 < length (now items) ⌝ }
+    ensures { λ r. ⌜ r ≡ itemOf (getD (now (items .entry)) (3 * k) (pos 0)) (getD (now (items .entry)) (3 * k + 1) (pos 0)) (getD (now (items .entry)) (3 * k + 2) (pos 0)) ⌝ }
+{
+    let s = items[3 * k];
+    let m = items[3 * k + 1];
+    let e = items[3 * k + 2];
+    item_of(s, m, e)
+}
+
+fn blank() -> [Signed; 8]
+    ensures { λ r. ⌜ r ≡ blank ⌝ }
+{
+    let zero = Signed::zero();
+    [zero; 8]
+}
+
+fn improper() -> Listed
+    ensures { λ r. ⌜ r ≡ listedFrom blank 0 none ⌝ }
+{
+    Listed {
+        proper: false,
+        count: 0,
+        items: blank(),
+    }
+}
+
+// The n items of a row of 3 n numbers.
+fn items_of(items: &[i64], n: usize) -> Listed
+    requires { ⌜ (n ≤ 8) × (length (now items) ≡ 3 * n) ⌝ }
+    ensures { λ r. ⌜ r ≡ listedFrom blank 0 (listOf (now (items .entry))) ⌝ }
+{
+    let mut v = blank();
+    let mut k = 0;
+    while k < n {
+        let item = item_at(items, k);
+        match item {
+            Item::Value(a) => {
+                v[k] = a;
+            }
+            Item::Malformed => {
+                return improper();
+            }
+        }
+        k += 1;
+    }
+    Listed {
+        proper: true,
+        count: n,
+        items: v,
+    }
+}
+
+// A list of least to most items.
+pub fn read(items: &[i64], least: usize, most: usize) -> Listed
+    requires { ⌜ most ≤ 8 ⌝ }
+    ensures { λ r. ⌜ r ≡ listed least most (listOf (now (items .entry))) ⌝ }
+{
+    let n = items.len() / 3;
+    if 3 * n < items.len() {
+        return improper();
+    }
+    if n < least {
+        return improper();
+    }
+    if most < n {
+        return improper();
+    }
+    items_of(items, n)
+}
+
+fn sign(a: Signed) -> i64
+    ensures { λ r. ⌜ r ≡ signOf a ⌝ }
+{
+    let size = a.size;
+    if size.m == 0 {
+        return 0;
+    }
+    if a.negative {
+        return whole::minus(1);
+    }
+    1
+}
+
+// Writes an item's three numbers from index `at` on.
+fn put(a: Signed, out: &mut [i64], at: usize)
+    requires { ⌜ SignedRanged reach a × (at + 2 < length (now out)) ⌝ }
+    ensures { λ r. ⌜ now (out .exit) ≡ sets (now (out .entry)) at (itemNumbers a) ⌝ }
+{
+    let s = sign(a);
+    let size = a.size;
+    let m = whole::plus(size.m);
+    let e = unbiased(size.x);
+    out[at] = s;
+    out[at + 1] = m;
+    out[at + 2] = e;
+}
+
+// Writes the first n of eight items.
+pub fn write(v: [Signed; 8], n: usize, out: &mut [i64])
+    requires { ⌜ (n ≤ 8) × Working reach n v × (3 * n ≤ length (now out)) ⌝ }
+    ensures { λ r. ⌜ now (out .exit) ≡ sets (now (out .entry)) 0 (listNumbers (take n v)) ⌝ }
+{
+    let mut k = 0;
+    while k < n {
+        let a = v[k];
+        put(a, out, 3 * k);
+        k += 1;
+    }
+}
