@@ -5,7 +5,7 @@ use mathlib.Core.List.{List, [], _∷_, _++_}
 use lib.Dec.{ltb}
 use Rattle.number.specs.declared.Number.{Number}
 use Rattle.number.specs.Number.{bias}
-use Rattle.shelf.specs.declared.Refusal.{Refusal}
+use Rattle.places.specs.declared.Refusal.{Refusal}
 use Rattle.lines.specs.Text.{decimal, signedText}
 
 -- an exponent, from the way it is kept

@@ -3,7 +3,7 @@ ghost use mathlib.Core.Path.{_≡_};
 ghost use Rattle.lines.specs.Text.{Puts};
 ghost use Rattle.answers.specs.Answers.{exponentText, numberText, refusalText};
 use number::Number;
-use shelf::Refusal;
+use places::Refusal;
 
 // The exponent 0, as it is kept.
 const BIAS: u64 = 4194304;

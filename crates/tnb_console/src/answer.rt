@@ -1,18 +1,18 @@
 // The call of each request, and its answer put into the output.
-ghost use Rattle.shelf.specs.Shelf.{Good};
+ghost use Rattle.places.specs.Shelf.{Good};
 use crate::items;
 use crate::request;
 use crate::request::Call;
 use crate::request::Request;
 use number::Number;
+use places::Refusal;
+use places::Shelf;
+use places::Verdict;
 use shelf::Bounded;
 use shelf::Changed;
 use shelf::Counted;
 use shelf::Operated;
-use shelf::Refusal;
-use shelf::Shelf;
 use shelf::Valued;
-use shelf::Verdict;
 use shelf::Written;
 
 // The shelf after a request, and the index of the output behind the answer.
@@ -166,7 +166,7 @@ fn reversals(list: &[i64], out: &mut [u8], at: usize) -> usize {
 
 fn rest(bytes: &[u8], out: &mut [u8], at: usize) -> usize {
     let part = lines::put(out, at, b"rest ");
-    lines::put_bytes(out, part, shelf::behind(bytes))
+    lines::put_bytes(out, part, reader::behind(bytes))
 }
 
 // The factor at a cell of eight rows of eight, if n rows have it.
@@ -197,9 +197,8 @@ fn show(shelf: Shelf, place: usize, out: &mut [u8], at: usize) -> usize {
         };
         return answers::put_refusal(out, at, why);
     }
-    let held = shelf::look(shelf, place);
-    let n = held.rows;
-    let factors = held.factors;
+    let n = places::rows_at(shelf, place);
+    let factors = places::table_at(shelf, place);
     if n == 0 {
         return lines::put(out, at, b"empty");
     }
@@ -274,7 +273,7 @@ fn to_request(shelf: Shelf, r: Request, bytes: &[u8], list: &[i64], out: &mut [u
     let call = r.call;
     match call {
         Call::Load => put_changed(shelf::load(shelf, place, some_bytes(bytes, count)), b"loaded", out, at),
-        Call::Drop => put_changed(shelf::drop(shelf, place), b"dropped", out, at),
+        Call::Drop => put_changed(shelf::drop_place(shelf, place), b"dropped", out, at),
         _ => to_operation(shelf, r, bytes, list, out, at),
     }
 }

@@ -1,8 +1,8 @@
 // A console for one shelf: requests on standard input, one to a line, and one line for each on standard output.
-ghost use Rattle.shelf.specs.Shelf.{Good};
+ghost use Rattle.places.specs.Shelf.{Good};
 use libc::STDIN_FILENO;
 use libc::STDOUT_FILENO;
-use shelf::Shelf;
+use places::Shelf;
 
 mod answer; // answer.rt: the call of each request, and its answer
 mod items; // items.rt: list items, read and put
@@ -176,7 +176,7 @@ fn finish(was: State, input: &[u8], held: usize, output: &mut [u8])
 
 // Nothing says that the input ends, so turns are counted down from a number that no run uses up.
 fn serve(input: &mut [u8], output: &mut [u8]) {
-    let mut now = keep(shelf::new(), 0, 0, false);
+    let mut now = keep(places::new(), 0, 0, false);
     let mut held: usize = 0;
     let mut turns = u64::MAX;
     while turns > 0 {

@@ -1,7 +1,7 @@
 -- `tnb_console::respond_all` is safe and ends: the shelf stays a good one, and turns count down.
 use mathlib.Core.Path.{_≡_}
 use lib.ListN.{length}
-use Rattle.shelf.specs.Shelf.{Good}
+use Rattle.places.specs.Shelf.{Good}
 use borrow.Author.Needs.{needs}
 use Rattle.tnb_console.proofs.respond_all.Statement.{statement}
 use Rattle.tnb_console.proofs.respond_all.Tie as tie
