@@ -3,3 +3,4 @@ pub mod Words
 pub mod Numerals
 pub mod Pairs
 pub mod Text
+pub mod ReadBack

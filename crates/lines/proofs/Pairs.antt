@@ -1,14 +1,13 @@
 -- Reading bytes in hexadecimal: `Checked` is what holds when the first i digits are passed, `Filled` when k bytes are put.
-use Prim.Native.Nat.{ℕ, suc, _+_, _-_, _*_, _/_, _%_, _≤_, _<_}
+use Prim.Native.Nat.{ℕ, suc, _+_, _*_, _/_, _%_, _≤_, _<_}
 use native.Mathlib.Numerals.{add-one}
 use native.Mathlib.Omega.{arith}
-use mathlib.Core.Path.{_≡_, refl, sym, ap, _∙_}
-use mathlib.Core.Bool.{Bool, true, false, not, cond, _&&_, _||_}
+use mathlib.Core.Path.{_≡_, refl, sym, _∙_}
+use mathlib.Core.Bool.{Bool, true, false, not, _&&_, _||_}
 use mathlib.Core.List.{List, [], _∷_}
-use lib.Dec.{eqb, ltb}
+use lib.Dec.{eqb}
 use lib.ListN.{length, getD, drop, set, drop-of-length-le, length-drop, length-set}
 use lib.Seq.{drop-cons, sets}
-use borrow.Author.Tests.{ltb-true, ltb-false}
 use Rattle.lines.specs.Decimal.{isNumeral}
 use Rattle.lines.specs.Hexadecimal.{isLetter, byteOf, allDigits, bytesOf, hexadecimal}
 

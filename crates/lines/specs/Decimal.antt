@@ -1,7 +1,7 @@
--- Decimal numbers: what a word spells (`wholeOf`, `signedOf`), and how a number is spelled (`decimal`, `signedText`).
-use Prim.Native.Nat.{ℕ, zero, suc, _+_, _-_, _*_, _/_, _%_, _^_, _≤_}
-use mathlib.Core.Bool.{Bool, true, false, not, cond, _&&_}
-use mathlib.Core.List.{List, [], _∷_, _++_}
+-- Decimal numbers: what a word spells (`wholeOf`, `signedOf`).
+use Prim.Native.Nat.{ℕ, _+_, _-_, _*_, _^_, _≤_}
+use mathlib.Core.Bool.{Bool, true, not, cond, _&&_}
+use mathlib.Core.List.{List, [], _∷_}
 use lib.Dec.{leb, ltb, eqb}
 use Rattle.lines.specs.declared.reading.Whole.{Whole}
 use Rattle.lines.specs.declared.reading.Whole.the-variants as whole

@@ -4,8 +4,11 @@ ghost use Prim.Native.Nat.{_≤_, _<_};
 ghost use Rattle.places.specs.Shelf.{emptyShelf, Good};
 ghost use Rattle.shelf.specs.Calls.{changed, loadCall, dropCall, writeCall, bytesAfter, transposeCall};
 use number::Number;
-use places::{judge, tables};
-pub use places::{Refusal, Shelf, Verdict};
+pub use places::Refusal;
+pub use places::Shelf;
+pub use places::Verdict;
+use places::judge;
+use places::tables;
 
 mod operations; // operations.rt: their results, and how these are kept
 

@@ -8,7 +8,8 @@ use crate::Proposed;
 use crate::Refusal;
 use crate::Shelf;
 use crate::Verdict;
-use places::{judge, tables};
+use places::judge;
+use places::tables;
 
 // No result.
 fn refusal(why: Refusal) -> Proposed

@@ -110,7 +110,14 @@ fn write_lent(shelf: Shelf, place: usize, count: usize, out: &mut [u8], at: usiz
     write(shelf, place, &mut lent[0..count], out, at)
 }
 
-fn carry(shelf: Shelf, place: usize, list: &[i64], lent: &mut [i64], out: &mut [u8], at: usize) -> usize
+fn carry(
+    shelf: Shelf,
+    place: usize,
+    list: &[i64],
+    lent: &mut [i64],
+    out: &mut [u8],
+    at: usize,
+) -> usize
     requires { ⌜ Good shelf ⌝ }
 {
     items::fill(lent);
@@ -129,7 +136,14 @@ fn carry(shelf: Shelf, place: usize, list: &[i64], lent: &mut [i64], out: &mut [
 }
 
 // Lends so many items to carry a list into.
-fn carry_lent(shelf: Shelf, place: usize, count: usize, list: &[i64], out: &mut [u8], at: usize) -> usize
+fn carry_lent(
+    shelf: Shelf,
+    place: usize,
+    count: usize,
+    list: &[i64],
+    out: &mut [u8],
+    at: usize,
+) -> usize
     requires { ⌜ Good shelf ⌝ }
 {
     let mut numbers = [0i64; 1536];
@@ -223,7 +237,14 @@ fn some_items(list: &[i64], count: usize) -> &[i64] {
 }
 
 // The answer to a request that leaves the shelf as it is.
-fn to_question(shelf: Shelf, r: Request, bytes: &[u8], list: &[i64], out: &mut [u8], at: usize) -> usize
+fn to_question(
+    shelf: Shelf,
+    r: Request,
+    bytes: &[u8],
+    list: &[i64],
+    out: &mut [u8],
+    at: usize,
+) -> usize
     requires { ⌜ Good shelf ⌝ }
 {
     let v = r.values;
@@ -242,7 +263,14 @@ fn to_question(shelf: Shelf, r: Request, bytes: &[u8], list: &[i64], out: &mut [
 }
 
 // The answer to an operation, or to a question.
-fn to_operation(shelf: Shelf, r: Request, bytes: &[u8], list: &[i64], out: &mut [u8], at: usize) -> Answered
+fn to_operation(
+    shelf: Shelf,
+    r: Request,
+    bytes: &[u8],
+    list: &[i64],
+    out: &mut [u8],
+    at: usize,
+) -> Answered
     requires { ⌜ Good shelf ⌝ }
     ensures { λ r. ⌜ Good (r .shelf) ⌝ }
 {
@@ -257,13 +285,24 @@ fn to_operation(shelf: Shelf, r: Request, bytes: &[u8], list: &[i64], out: &mut 
         Call::Inverse => put_operated(shelf::inverse(shelf, a, b), out, at),
         Call::Converse => put_operated(shelf::converse(shelf, a, b), out, at),
         Call::Transpose => put_operated(shelf::transpose(shelf, a, b), out, at),
-        Call::Submatrix => put_operated(shelf::submatrix(shelf, a, mask(v[1]), mask(v[2]), d), out, at),
+        Call::Submatrix => put_operated(
+            shelf::submatrix(shelf, a, mask(v[1]), mask(v[2]), d),
+            out,
+            at,
+        ),
         _ => after(shelf, to_question(shelf, r, bytes, list, out, at)),
     }
 }
 
 // The answer to a request, without the line's end.
-fn to_request(shelf: Shelf, r: Request, bytes: &[u8], list: &[i64], out: &mut [u8], at: usize) -> Answered
+fn to_request(
+    shelf: Shelf,
+    r: Request,
+    bytes: &[u8],
+    list: &[i64],
+    out: &mut [u8],
+    at: usize,
+) -> Answered
     requires { ⌜ Good shelf ⌝ }
     ensures { λ r. ⌜ Good (r .shelf) ⌝ }
 {
@@ -272,14 +311,26 @@ fn to_request(shelf: Shelf, r: Request, bytes: &[u8], list: &[i64], out: &mut [u
     let count = r.count;
     let call = r.call;
     match call {
-        Call::Load => put_changed(shelf::load(shelf, place, some_bytes(bytes, count)), b"loaded", out, at),
+        Call::Load => put_changed(
+            shelf::load(shelf, place, some_bytes(bytes, count)),
+            b"loaded",
+            out,
+            at,
+        ),
         Call::Drop => put_changed(shelf::drop_place(shelf, place), b"dropped", out, at),
         _ => to_operation(shelf, r, bytes, list, out, at),
     }
 }
 
 // The buffers go by their references as arrays, whose types say how long they are.
-fn to_arrays(shelf: Shelf, r: Request, bytes: &[u8; 2048], list: &[i64; 48], out: &mut [u8], at: usize) -> Answered
+fn to_arrays(
+    shelf: Shelf,
+    r: Request,
+    bytes: &[u8; 2048],
+    list: &[i64; 48],
+    out: &mut [u8],
+    at: usize,
+) -> Answered
     requires { ⌜ Good shelf ⌝ }
     ensures { λ r. ⌜ Good (r .shelf) ⌝ }
 {

@@ -6,6 +6,7 @@ use lists::whole;
 
 // A mantissa is passed on as a number of 64 bits with a sign.
 const LARGEST: u64 = 0x7fff_ffff_ffff_ffff;
+
 const MOST: usize = 16;
 
 pub enum Items {

@@ -4,7 +4,9 @@ use lines::Bytes;
 use lines::Whole;
 
 const PLACE: u64 = 4294967295;
+
 const MASK: u64 = 255;
+
 const LENT: u64 = 512;
 
 pub enum Call {
@@ -82,7 +84,12 @@ fn operation_form(word: &[u8]) -> Form {
         return places(Call::Transpose, 2);
     }
     if check::same(word, b"submatrix") {
-        return follows(Call::Submatrix, 4, [PLACE, MASK, MASK, PLACE], Tail::Nothing);
+        return follows(
+            Call::Submatrix,
+            4,
+            [PLACE, MASK, MASK, PLACE],
+            Tail::Nothing,
+        );
     }
     places(Call::Bad, 0)
 }

@@ -1,5 +1,5 @@
 -- `lines::is_hexadecimal` meets its contract.
-use mathlib.Core.Path.{_≡_, sym, _∙_}
+use mathlib.Core.Path.{sym, _∙_}
 use denote.Ref.{now}
 use borrow.Author.Tests.{eq-eqb, ne-eqb}
 use Rattle.lines.proofs.Pairs.{hexadecimal-none, hexadecimal-one, hexadecimal-pairs}

@@ -1,5 +1,5 @@
 -- `lines::read_signed` meets its contract.
-use mathlib.Core.Path.{_≡_, sym, ap, _∙_}
+use mathlib.Core.Path.{sym, ap, _∙_}
 use denote.Ref.{now}
 use Rattle.lines.specs.Decimal.{plus, minus}
 use Rattle.lines.proofs.Words.{part-from}
