@@ -1,0 +1,12 @@
+pub mod Order
+pub mod Changed
+pub mod Held
+pub mod Sweep
+pub mod Moves
+pub mod Scaling
+pub mod Diagonals
+pub mod Spelling
+pub mod Stages
+pub mod Acts
+pub mod Walking
+pub mod Minors

@@ -1,0 +1,118 @@
+-- D on 70 numbers: a number scaled by the entries of one more row (Scaled, scaled-in, scaled-out), entries that agree (scaled-entries), and the sets of k rows one after the other (diagonal-next, diagonal-all).
+use mathlib.Core.Path.{_≡_, refl, sym, ap, ap₂, _∙_, subst}
+use mathlib.Core.Bool.{Bool, true, false, false≢true}
+use mathlib.Core.List.{List, [], _∷_}
+use Prim.Native.Nat.{ℕ, zero, suc, _+_, _-_, _*_, _^_, _≤_, _<_}
+use native.Mathlib.Numerals.{add-one}
+use native.Mathlib.Omega.{arith}
+use lib.ListN.{getD, set, length}
+use Rattle.number.specs.Number.{rounded, productOf, quotientOf, Ranged, Stored, bias}
+use Rattle.number.specs.declared.Number.{Number}
+use Rattle.number.proofs.Reach.{ranged-more, ranged-stored, ranged-product, ranged-quotient}
+use Rattle.rowset.specs.Mask.{maskHas, maskCount, countBelow, positionOf}
+use Rattle.rowset.proofs.Sets.{ofMask-suc, ofMask-length}
+use Rattle.rowset.proofs.Positions.{position-injective}
+use Rattle.words.specs.RowSet.{RowSet, ofMask}
+use Rattle.words.specs.Walk.{State, scaled}
+use Rattle.walk.specs.Sets.{SetAt}
+use Rattle.walk.specs.Table.{absent}
+use Rattle.walk.specs.Steps.{scaling, entriesOf}
+use Rattle.walk.specs.Held.{heldAt, stateOf, Agree, Working, letterReach}
+use Rattle.walk.proofs.Order.{position-lt, position-within}
+use Rattle.walk.proofs.Held.{held-back, held-working, agree-masks}
+use Rattle.walk.proofs.Sweep.{Swept, below-256, swept-next, swept-all}
+
+-- ONE NUMBER
+module _ (op : Number → Number → Number) (e : ℕ → Number) (s : ℕ) (x : Number) where
+  scaled-row : (i : ℕ) (b : Bool) → maskHas (suc i) s ≡ b → scaled rounded op e (ofMask (suc i) s) x ≡ scaled rounded op e (b ∷ ofMask i s) x
+  scaled-row i b h = ap (λ (S : RowSet). scaled rounded op e S x) (ofMask-suc i s ∙ ap (λ (y : Bool). y ∷ ofMask i s) h)
+
+  scaled-has : (i : ℕ) → maskHas (suc i) s ≡ true → scaled rounded op e (ofMask (suc i) s) x ≡ op (scaled rounded op e (ofMask i s) x) (e (suc i))
+  unfolding scaled
+  scaled-has i h = scaled-row i true h ∙ ap (λ (k : ℕ). op (scaled rounded op e (ofMask i s) x) (e (suc k))) (ofMask-length i s)
+
+  scaled-not : (i : ℕ) → maskHas (suc i) s ≡ false → scaled rounded op e (ofMask (suc i) s) x ≡ scaled rounded op e (ofMask i s) x
+  unfolding scaled
+  scaled-not i h = scaled-row i false h
+
+scale-reach : {r : ℕ} {y e : Number} (b : Bool) → Ranged r y → Stored e → r + 1064 ≤ bias → Ranged (r + 1033) (scaling b y e)
+scale-reach {r} true u s h = ranged-more (omega arith) (ranged-quotient u (ranged-stored s) (omega arith) (omega (arith, s .low)))
+scale-reach {r} false u s h = ranged-more (omega arith) (ranged-product u (ranged-stored s) (omega arith))
+
+pub entry-at : (d : List Number) (i : ℕ) → entriesOf d (i + 1) ≡ getD d i absent
+unfolding entriesOf
+entry-at d i = let j : i + 1 - 1 ≡ i = omega arith in ap (λ (k : ℕ). getD d k absent) j
+
+-- y is x scaled by the entries of the first i rows
+pub record Scaled (b : Bool) (d : List Number) (s : ℕ) (x y : Number) (i : ℕ) : Type 0 where
+  pub is : y ≡ scaled rounded (scaling b) (entriesOf d) (ofMask i s) x
+  pub ranged : Ranged (letterReach + 1033 * i) y
+
+pub scaled-none : (b : Bool) (d : List Number) (s : ℕ) (x : Number) → Ranged letterReach x → Scaled b d s x x 0
+unfolding scaled ofMask
+scaled-none b d s x u = record { is = refl; ranged = ranged-more (omega arith) u }
+
+module _ {b : Bool} {d : List Number} {s : ℕ} {x y : Number} {i : ℕ} (S : Scaled b d s x y i) (l : i < 8) where
+  pub scaled-in : (z : Number) → maskHas (i + 1) s ≡ true → Stored (entriesOf d (i + 1)) → z ≡ scaling b y (getD d i absent) → Scaled b d s x z (i + 1)
+  scaled-in z h e q =
+      let r : z ≡ scaling b y (entriesOf d (i + 1)) = q ∙ ap (scaling b y) (sym (entry-at d i)) in
+      record {
+        is = r ∙ ap (λ (a : Number). scaling b a (entriesOf d (i + 1))) (S .is)
+            ∙ subst (λ (k : ℕ). scaling b (scaled rounded (scaling b) (entriesOf d) (ofMask i s) x) (entriesOf d k) ≡ scaled rounded (scaling b) (entriesOf d) (ofMask k s) x)
+            (sym (add-one i)) (sym (scaled-has (scaling b) (entriesOf d) s x i (subst (λ (k : ℕ). maskHas k s ≡ true) (add-one i) h)));
+        ranged = subst (Ranged (letterReach + 1033 * (i + 1))) (sym r) (ranged-more (omega arith) (scale-reach b (S .ranged) e (omega arith)));
+      }
+
+  pub scaled-out : (z : Number) → maskHas (i + 1) s ≡ false → z ≡ y → Scaled b d s x z (i + 1)
+  scaled-out z h q =
+      record {
+        is = q ∙ S .is ∙ subst (λ (k : ℕ). scaled rounded (scaling b) (entriesOf d) (ofMask i s) x ≡ scaled rounded (scaling b) (entriesOf d) (ofMask k s) x)
+            (sym (add-one i)) (sym (scaled-not (scaling b) (entriesOf d) s x i (subst (λ (k : ℕ). maskHas k s ≡ false) (add-one i) h)));
+        ranged = subst (Ranged (letterReach + 1033 * (i + 1))) (sym q) (ranged-more (omega arith) (S .ranged));
+      }
+
+-- only the entries of the rows of S matter
+pub scaled-entries : (op : Number → Number → Number) (e f : ℕ → Number) (S : RowSet) (x : Number) → ((i : ℕ) → 1 ≤ i → i ≤ length S → e i ≡ f i)
+    → scaled rounded op e S x ≡ scaled rounded op f S x
+unfolding scaled
+scaled-entries op e f [] x h = refl
+scaled-entries op e f (true ∷ S) x h = ap₂ op (scaled-entries op e f S x (λ i l g. h i l (omega arith))) (h (suc (length S)) (omega arith) (omega arith))
+scaled-entries op e f (false ∷ S) x h = scaled-entries op e f S x (λ i l g. h i l (omega arith))
+
+-- THE SETS OF k ROWS, the set at p in place: no other set is read
+module _ (n k : ℕ) (b : Bool) (d v : List Number) where
+  unfoldable pub scaledAt : ℕ → Number
+  scaledAt s = scaled rounded (scaling b) (entriesOf d) (ofMask n s) (heldAt v s)
+
+  abbrev every : ℕ → Bool
+  every s = true
+
+  abbrev pub SweptDiagonal : List Number → ℕ → Type 0
+  SweptDiagonal u p = Swept n k every positionOf scaledAt (heldAt v) u p
+
+  module _ (ln : n ≤ 8) where
+    module _ {p s : ℕ} (C : SetAt k p s) (lp : p < countBelow k (2 ^ n)) where
+      pub diagonal-lt : s < 2 ^ n
+      diagonal-lt = position-within k s (2 ^ n) (C .rows) (omega (arith, C .position))
+
+      module _ {u : List Number} (S : SweptDiagonal u p) where
+        pub diagonal-old : getD u p absent ≡ heldAt v s
+        unfolding heldAt
+        diagonal-old = ap (λ (x : ℕ). getD u x absent) (sym (C .position)) ∙ S .rest s diagonal-lt (C .rows) (λ m. omega (arith, C .position))
+
+        pub diagonal-ready : Working letterReach n k (stateOf v) → Ranged letterReach (getD u p absent)
+        diagonal-ready r = subst (Ranged letterReach) (sym diagonal-old) (held-working v ln r s diagonal-lt (C .rows))
+
+        pub diagonal-next : (z : Number) (u' : List Number) → z ≡ scaled rounded (scaling b) (entriesOf d) (ofMask n s) (getD u p absent) → u' ≡ set u p z → SweptDiagonal u' (p + 1)
+        unfolding scaledAt
+        diagonal-next z u' ez eu =
+            swept-next S s ln diagonal-lt (C .rows) refl (C .position)
+            (λ t bt ct mt e. position-injective t s (ct ∙ sym (C .rows)) (e ∙ sym (C .position)))
+            u' z (eu ∙ ap (λ (x : ℕ). set u x z) (sym (C .position))) (ez ∙ ap (scaled rounded (scaling b) (entriesOf d) (ofMask n s)) diagonal-old)
+
+    pub diagonal-all : {u : List Number} {p : ℕ} → SweptDiagonal u p → countBelow k (2 ^ n) ≤ p → Agree n k (stateOf u) (λ S. scaled rounded (scaling b) (entriesOf d) S (stateOf v S))
+    unfolding scaledAt
+    diagonal-all {u} S h =
+        agree-masks n k u (λ S. scaled rounded (scaling b) (entriesOf d) S (stateOf v S)) ln
+        (λ s l c. swept-all S (λ s l c m. omega (arith, position-lt k s (2 ^ n) c l)) (λ s l c m. absurd (false≢true (sym m))) s l c
+        ∙ ap (scaled rounded (scaling b) (entriesOf d) (ofMask n s)) (sym (held-back v n s l)))

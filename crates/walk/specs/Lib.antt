@@ -1,0 +1,5 @@
+pub mod Sets
+pub mod Table
+pub mod Steps
+pub mod Letters
+pub mod Held
