@@ -1,86 +1,91 @@
--- Laws of carrying: no letter (`carries-none`), one word after another (`carries-then`), fewer letters (`carries-more`), and a letter E or Et (`carries-raise`,
--- `carries-lower`).
-use mathlib.Core.Path.{_≡_, sym, ap, ap₂, _∙_, subst}
+-- Laws of carrying: vectors that agree (`carry-agree`), the letters of a word from the right, none (`carries-start`) and one more (`carries-letter`), how far the items are
+-- then (`carries-working`), and an item added to another (`added-agrees`).
+use mathlib.Core.Path.{_≡_, refl, sym, ap, ap₂, _∙_, subst}
 use mathlib.Core.Bool.{cond}
-use mathlib.Core.List.{List, [], _∷_, _++_}
-use Prim.Native.Nat.{ℕ, _+_, _-_, _*_, _≤_}
+use mathlib.Core.List.{List, [], _∷_}
+use Prim.Native.Nat.{ℕ, suc, _+_, _-_, _≤_, _<_}
 use native.Mathlib.Decide.{ℕ-discrete}
 use native.Mathlib.Omega.{arith}
 use borrow.Author.Tests.{eq-eqb, ne-eqb}
 use lib.Dec.{eqb}
-use lib.ListN.{length, set, length-set}
-use Rattle.number.specs.Number.{Stored}
+use lib.ListN.{length, set, getD, take, drop, drop-of-length-le, take-append-drop}
+use lib.Seq.{drop-cons}
 use Rattle.number.specs.Signed.{plain, signedSum, signedProduct, signedArithmetic, SignedRanged}
 use Rattle.number.specs.declared.Number.{Number}
 use Rattle.number.specs.declared.signed.Signed.{Signed}
-use Rattle.number.proofs.Reach.{ranged-stored}
 use Rattle.number.proofs.Signs.{signed-product-comm}
-use Rattle.number.proofs.SignedReach.{signed-ranged-more, signed-ranged-plain}
-use Rattle.words.specs.Word.{Word, E, Et}
+use Rattle.number.proofs.SignedReach.{signed-ranged-more}
+use Rattle.words.specs.RowSet.{In}
+use Rattle.words.specs.Word.{Letter, E, Et, D, Dinv, Word}
 use Rattle.words.specs.Walk.{carry, carryLetter}
-use Rattle.words.proofs.Walks.{carry-append}
+use Rattle.words.proofs.Counts.{total-append}
+use Rattle.words.proofs.Related.{letterCost}
+use Rattle.words.proofs.Walks.{All, all-behind}
 use Rattle.lists.specs.Lists.{vectorOf}
-use Rattle.lists.specs.Carrying.{Agree, Working, Carries, letterReach, workingReach}
-use Rattle.lists.proofs.LetterReach.{added-reach}
-use Rattle.lists.proofs.Vectors.{working-more, vector-here, vector-other}
+use Rattle.lists.specs.Carrying.{Agree, Carries, Working, letterReach, workingReach}
+use Rattle.lists.proofs.LetterReach.{StoredLetter, reachOf, carry-reach}
+use Rattle.lists.proofs.Vectors.{vector-here, vector-other}
+
+-- a letter makes of vectors that agree such vectors
+module _ (n : ℕ) (v w : ℕ → Signed) (h : Agree n v w) where
+  moved-agree : (a o : ℕ) (x : Signed) → In n o → Agree n (λ i. cond (eqb i a) (signedSum (v i) (signedProduct x (v o))) (v i)) (λ i. cond (eqb i a) (signedSum (w i) (signedProduct x (w o))) (w i))
+  moved-agree a o x p i l = ap₂ (λ y z. cond (eqb i a) (signedSum y (signedProduct x z)) y) (h i l) (h o p)
+
+  letter-agree : (l : Letter Signed) → StoredLetter n l → Agree n (carryLetter signedArithmetic l v) (carryLetter signedArithmetic l w)
+  unfolding carryLetter
+  letter-agree (E j x) s = moved-agree j (j - 1) x (omega (arith, s .0), omega (arith, s .1))
+  letter-agree (Et j x) s = moved-agree (j - 1) j x (omega (arith, s .0), s .1)
+  letter-agree (D e) s = λ i l. ap (λ y. signedProduct y (e i)) (h i l)
+  letter-agree (Dinv e) s = absurd s
+
+pub carry-agree : (n : ℕ) (W : Word Signed) → All (StoredLetter n) W → (v w : ℕ → Signed) → Agree n v w → Agree n (carry signedArithmetic W v) (carry signedArithmetic W w)
+unfolding carry
+carry-agree n [] s v w h = h
+carry-agree n (l ∷ W) s v w h = letter-agree n (carry signedArithmetic W v) (carry signedArithmetic W w) (carry-agree n W (s .1) v w h) l (s .0)
 
 module _ {n : ℕ} where
-  pub carries-none : (v : List Signed) → Carries n 0 [] v v
+  carries-none : (v : List Signed) → length v ≡ 8 → Carries n [] v v
   unfolding carry
-  carries-none v = record { agrees = λ ω h. h; working = λ r h w. working-more (omega arith) w }
+  carries-none v e = record { eight = e; agrees = λ i p. refl }
 
-  pub carries-then : {k l : ℕ} {W X : Word Signed} {v u t : List Signed} → Carries n k W v u → Carries n l X u t → Carries n (k + l) (X ++ W) v t
-  carries-then {k} {l} {W} {X} {v} {u} {t} c d =
+  carries-next : {W : Word Signed} {v u t : List Signed} (l : Letter Signed) → StoredLetter n l → Carries n W v u → Carries n (l ∷ []) u t → Carries n (l ∷ W) v t
+  unfolding carry
+  carries-next {W} {v} {u} {t} l s c d = record { eight = d .eight; agrees = λ i p. d .agrees i p ∙ letter-agree n (vectorOf u) (carry signedArithmetic W (vectorOf v)) (c .agrees) l s i p }
+
+-- ---- the letters of a word from the right, those from t on done
+module _ (n : ℕ) (X : Word Signed) (s : All (StoredLetter n) X) where
+  behind : (t : ℕ) → All (StoredLetter n) (drop t X)
+  behind t = all-behind (StoredLetter n) (take t X) (drop t X) (subst (All (StoredLetter n)) (sym (take-append-drop t X)) s)
+
+  pub carries-start : (t : ℕ) (v : List Signed) → t ≡ length X → length v ≡ 8 → Carries n (drop t X) v v
+  carries-start t v e h = subst (λ W. Carries n W v v) (sym (drop-of-length-le X {i = t} (omega arith))) (carries-none v h)
+
+  pub carries-letter : (t : ℕ) (d : Letter Signed) {v u w : List Signed} → t < length X → Carries n (drop (t + 1) X) v u → Carries n (getD X t d ∷ []) u w → Carries n (drop t X) v w
+  carries-letter t d {v} {u} {w} h c l =
+      let e : suc t ≡ t + 1 = omega arith in
+      let f : drop t X ≡ getD X t d ∷ drop (t + 1) X = drop-cons X t d h ∙ ap (λ i. getD X t d ∷ drop i X) e in
+      subst (λ W. Carries n W v w) (sym f) (carries-next (getD X t d) (subst (All (StoredLetter n)) f (behind t) .0) c l)
+
+  pub carries-working : (t r : ℕ) {v u : List Signed} → r + reachOf X ≤ workingReach → Working r n v → Carries n (drop t X) v u → Working (r + reachOf X) n u
+  carries-working t r {v} {u} far w c =
+      let e : reachOf X ≡ reachOf (take t X) + reachOf (drop t X) = ap reachOf (sym (take-append-drop t X)) ∙ total-append (letterCost letterReach letterReach) (take t X) (drop t X) in
       record {
-        agrees = λ ω h. subst (Agree n t) (sym (carry-append signedArithmetic X W ω)) (d .agrees (carry signedArithmetic W ω) (c .agrees ω h));
-        working = λ r h w. working-more (omega arith) (d .working (r + k * letterReach) (omega arith) (c .working r (omega arith) w));
+        eight = c .eight;
+        ranged = λ i p. subst (SignedRanged (r + reachOf X)) (sym (c .agrees i p))
+            (signed-ranged-more (omega arith) (carry-reach n r (vectorOf v) (w .ranged) (drop t X) (behind t) (omega arith) i p));
       }
 
-  pub carries-more : {k l : ℕ} {W : Word Signed} {v u : List Signed} → k ≤ l → Carries n k W v u → Carries n l W v u
-  carries-more h c = record { agrees = c .agrees; working = λ r g w. working-more (omega arith) (c .working r (omega arith) w) }
+-- ---- item a gets w times item o added
+module _ (n a o : ℕ) (w : Number) (v : List Signed) where
+  abbrev sum : ℕ → Signed
+  sum i = signedSum (vectorOf v i) (signedProduct (plain w) (vectorOf v o))
 
-module _ (n a o : ℕ) (w : Number) (v : List Signed) (few : n ≤ 8) (eight : length v ≡ 8) (to-low : 1 ≤ a) (to-high : a ≤ n) (from-low : 1 ≤ o) (from-high : o ≤ n) (s : Stored w) where
-  abbrev added : List Signed
-  added = set v (a - 1) (signedSum (vectorOf v a) (signedProduct (vectorOf v o) (plain w)))
+  abbrev new : Signed
+  new = signedSum (vectorOf v a) (signedProduct (vectorOf v o) (plain w))
 
-  added-here : (i : ℕ) → i ≡ a → vectorOf added i ≡ signedSum (vectorOf v a) (signedProduct (vectorOf v o) (plain w))
-  added-here i e = ap (vectorOf added) e ∙ vector-here v eight a to-low (omega arith) _
-
-  added-other : (i : ℕ) → 1 ≤ i → (i ≡ a → ⊥) → vectorOf added i ≡ vectorOf v i
-  added-other i h e = vector-other v eight a to-low (omega arith) _ i h e
-
-  added-agrees : (ω : ℕ → Signed) → Agree n v ω → Agree n added (λ i. cond (eqb i a) (signedSum (ω i) (signedProduct (plain w) (ω o))) (ω i))
-  added-agrees ω h i p q = elim (ℕ-discrete i a) [
-    | yes e ↦ added-here i e ∙ ap₂ signedSum (h a to-low to-high ∙ ap ω (sym e)) (ap (λ x. signedProduct x (plain w)) (h o from-low from-high) ∙ signed-product-comm (ω o) (plain w))
-        ∙ sym (ap (λ t. cond t (signedSum (ω i) (signedProduct (plain w) (ω o))) (ω i)) (eq-eqb i a e))
-    | no e ↦ added-other i p e ∙ h i p q ∙ sym (ap (λ t. cond t (signedSum (ω i) (signedProduct (plain w) (ω o))) (ω i)) (ne-eqb i a e))
+  pub added-agrees : n ≤ 8 → length v ≡ 8 → In n a → Agree n (vectorOf (set v (a - 1) new)) (λ i. cond (eqb i a) (sum i) (vectorOf v i))
+  added-agrees few eight to i p = elim (ℕ-discrete i a) [
+    | yes e ↦ ap (vectorOf (set v (a - 1) new)) e ∙ vector-here v eight a (to .0) (omega (arith, to .1)) new ∙ ap (signedSum (vectorOf v a)) (signed-product-comm (vectorOf v o) (plain w))
+        ∙ ap sum (sym e) ∙ sym (ap (λ t. cond t (sum i) (vectorOf v i)) (eq-eqb i a e))
+    | no e ↦ vector-other v eight a (to .0) (omega (arith, to .1)) new i (p .0) e ∙ sym (ap (λ t. cond t (sum i) (vectorOf v i)) (ne-eqb i a e))
   ]
-
-  added-working : (r : ℕ) → r + 1 * letterReach ≤ workingReach → Working r n v → Working (r + 1 * letterReach) n added
-  added-working r h W =
-      record {
-        eight = length-set v (a - 1) _ ∙ eight;
-        ranged = λ i p q. elim (ℕ-discrete i a) [
-          | yes e ↦ subst (SignedRanged (r + 1 * letterReach)) (sym (added-here i e)) (signed-ranged-more (omega arith) (added-reach (omega arith) (W .ranged o from-low from-high) (signed-ranged-plain (ranged-stored s)) (W .ranged a to-low to-high)))
-          | no e ↦ subst (SignedRanged (r + 1 * letterReach)) (sym (added-other i p e)) (signed-ranged-more (omega arith) (W .ranged i p q))
-        ];
-      }
-
-module _ (n j : ℕ) (w : Number) (v : List Signed) (few : n ≤ 8) (eight : length v ≡ 8) (low : 2 ≤ j) (high : j ≤ n) (s : Stored w) where
-  -- E j w
-  pub carries-raise : Carries n 1 (E j (plain w) ∷ []) v (set v (j - 1) (signedSum (vectorOf v j) (signedProduct (vectorOf v (j - 1)) (plain w))))
-  unfolding carry carryLetter
-  carries-raise =
-      record {
-        agrees = added-agrees n j (j - 1) w v few eight (omega arith) high (omega arith) (omega arith) s;
-        working = added-working n j (j - 1) w v few eight (omega arith) high (omega arith) (omega arith) s;
-      }
-
-  -- Et j w
-  pub carries-lower : Carries n 1 (Et j (plain w) ∷ []) v (set v (j - 1 - 1) (signedSum (vectorOf v (j - 1)) (signedProduct (vectorOf v j) (plain w))))
-  unfolding carry carryLetter
-  carries-lower =
-      record {
-        agrees = added-agrees n (j - 1) j w v few eight (omega arith) (omega arith) (omega arith) high s;
-        working = added-working n (j - 1) j w v few eight (omega arith) (omega arith) (omega arith) high s;
-      }

@@ -48,7 +48,8 @@ module _ (v : List Signed) (n k : ℕ) (d : Signed) (h : k < n) (g : n ≤ lengt
   outside-later e = ap anyOutside (front-next v n k d h g) ∙ ap (λ (t : Bool). t || anyOutside (drop (k + 1) (take n v))) e
 
   -- ---- items written
-  pub write-next : (out out′ : List ℤ) → out′ ≡ sets out (3 * k) (itemNumbers (getD v k d)) → sets out (3 * k) (listNumbers (drop k (take n v))) ≡ sets out′ (3 * (k + 1)) (listNumbers (drop (k + 1) (take n v)))
+  pub write-next : (out out′ : List ℤ) → out′ ≡ sets out (3 * k) (itemNumbers (getD v k d))
+      → sets out (3 * k) (listNumbers (drop k (take n v))) ≡ sets out′ (3 * (k + 1)) (listNumbers (drop (k + 1) (take n v)))
   unfolding listNumbers
   write-next out out′ e =
       let f : suc (suc (suc (3 * k))) ≡ 3 * (k + 1) = omega arith in

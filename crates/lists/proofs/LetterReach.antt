@@ -1,5 +1,5 @@
--- How far a letter takes the exponents: an item times a factor (`product-reach`), that added to another item (`added-reach`), and so the items carried through a word
--- (`StoredLetter`, `carry-reach`), as the word of stored factors (`carried-reach`).
+-- How far a letter takes the exponents: an item times a factor (`product-reach`), that added to another item (`added-reach`); and so the items carried through a word
+-- (`StoredLetter`, `carry-reach`), as that of stored factors (`stored-letters`, `word-reach`, `carried-reach`).
 use mathlib.Core.Path.{_≡_, subst}
 use mathlib.Core.Bool.{Bool, true, false, cond}
 use mathlib.Core.List.{[], _∷_}
@@ -7,20 +7,22 @@ use Prim.Native.Nat.{ℕ, _+_, _-_, _*_, _≤_}
 use native.Mathlib.Nat.{mul-le-mul}
 use native.Mathlib.Omega.{arith}
 use lib.Dec.{eqb}
+use Rattle.number.specs.Number.{Stored}
 use Rattle.number.specs.Signed.{plain, signedSum, signedProduct, signedArithmetic, SignedRanged}
 use Rattle.number.specs.declared.Number.{Number}
 use Rattle.number.specs.declared.signed.Signed.{Signed}
 use Rattle.number.proofs.Reach.{ranged-stored}
 use Rattle.number.proofs.Signs.{signed-product-comm}
 use Rattle.number.proofs.SignedReach.{signed-ranged-more, signed-ranged-plain, signed-ranged-sum, signed-ranged-product}
-use Rattle.words.specs.Word.{Factors, Letter, E, Et, D, Dinv, Word, word}
+use Rattle.words.specs.RowSet.{In}
+use Rattle.words.specs.Word.{Factors, Letter, E, Et, D, Dinv, Word}
 use Rattle.words.specs.Walk.{carry, carryLetter}
-use Rattle.words.proofs.Alike.{each-word, each-all}
 use Rattle.words.proofs.Counts.{word-cost}
 use Rattle.words.proofs.Related.{total, letterCost}
+use Rattle.words.proofs.Stages.{word-all}
+use Rattle.words.proofs.Steps.{Table}
 use Rattle.words.proofs.Walks.{All}
-use Rattle.lists.specs.Lists.{carried}
-use Rattle.lists.specs.Table.{StoredFactors}
+use Rattle.lists.specs.Lists.{signedWord, carried}
 use Rattle.lists.specs.Carrying.{letterReach, workingReach}
 
 module _ {r : ℕ} {y w : Signed} (far : r ≤ workingReach) (v : SignedRanged r y) (s : SignedRanged 1000 w) where
@@ -34,35 +36,36 @@ module _ {r : ℕ} {y w : Signed} (far : r ≤ workingReach) (v : SignedRanged r
 abbrev pub StoredLetter : ℕ → Letter Signed → Type 0
 StoredLetter n (E j w) = (2 ≤ j) × (j ≤ n) × SignedRanged 1000 w
 StoredLetter n (Et j w) = (2 ≤ j) × (j ≤ n) × SignedRanged 1000 w
-StoredLetter n (D e) = (i : ℕ) → 1 ≤ i → i ≤ n → SignedRanged 1000 (e i)
+StoredLetter n (D e) = (i : ℕ) → In n i → SignedRanged 1000 (e i)
 StoredLetter n (Dinv e) = ⊥
 
 abbrev pub Within : ℕ → ℕ → (ℕ → Signed) → Type 0
-Within r n v = (i : ℕ) → 1 ≤ i → i ≤ n → SignedRanged r (v i)
+Within r n v = (i : ℕ) → In n i → SignedRanged r (v i)
 
 module _ (n r : ℕ) (far : r ≤ workingReach) (v : ℕ → Signed) (h : Within r n v) where
-  moved-reach : (a o : ℕ) (w : Signed) → 1 ≤ o → o ≤ n → SignedRanged 1000 w → Within (r + letterReach) n (λ i. cond (eqb i a) (signedSum (v i) (signedProduct w (v o))) (v i))
-  moved-reach a o w p q s i l m = go (eqb i a)
+  moved-reach : (a o : ℕ) (w : Signed) → In n o → SignedRanged 1000 w → Within (r + letterReach) n (λ i. cond (eqb i a) (signedSum (v i) (signedProduct w (v o))) (v i))
+  moved-reach a o w p s i l = go (eqb i a)
     where
       go : (t : Bool) → SignedRanged (r + letterReach) (cond t (signedSum (v i) (signedProduct w (v o))) (v i))
-      go true = subst (λ z. SignedRanged (r + letterReach) (signedSum (v i) z)) (signed-product-comm (v o) w) (added-reach far (h o p q) s (h i l m))
-      go false = signed-ranged-more (omega arith) (h i l m)
+      go true = subst (λ z. SignedRanged (r + letterReach) (signedSum (v i) z)) (signed-product-comm (v o) w) (added-reach far (h o p) s (h i l))
+      go false = signed-ranged-more (omega arith) (h i l)
 
   letter-reach : (l : Letter Signed) → StoredLetter n l → Within (r + letterReach) n (carryLetter signedArithmetic l v)
   unfolding carryLetter
-  letter-reach (E j w) s = moved-reach j (j - 1) w (omega (arith, s .0)) (omega (arith, s .1)) (s .2)
-  letter-reach (Et j w) s = moved-reach (j - 1) j w (omega (arith, s .0)) (s .1) (s .2)
-  letter-reach (D e) s = λ i l m. signed-ranged-more (omega arith) (product-reach far (h i l m) (s i l m))
+  letter-reach (E j w) s = moved-reach j (j - 1) w (omega (arith, s .0), omega (arith, s .1)) (s .2)
+  letter-reach (Et j w) s = moved-reach (j - 1) j w (omega (arith, s .0), s .1) (s .2)
+  letter-reach (D e) s = λ i l. signed-ranged-more (omega arith) (product-reach far (h i l) (s i l))
   letter-reach (Dinv e) s = absurd s
 
-abbrev reachOf : Word Signed → ℕ
+-- how far the letters of a word go
+abbrev pub reachOf : Word Signed → ℕ
 reachOf W = total (letterCost letterReach letterReach) W
 
 pub carry-reach : (n r : ℕ) (v : ℕ → Signed) → Within r n v → (W : Word Signed) → All (StoredLetter n) W → r + reachOf W ≤ workingReach → Within (r + reachOf W) n (carry signedArithmetic W v)
 unfolding carry total
-carry-reach n r v h [] s far i l m = signed-ranged-more (omega arith) (h i l m)
-carry-reach n r v h (x ∷ W) s far i l m =
-    signed-ranged-more (cost x) (letter-reach n (r + reachOf W) (omega arith) (carry signedArithmetic W v) (carry-reach n r v h W (s .1) (omega arith)) x (s .0) i l m)
+carry-reach n r v h [] s far i l = signed-ranged-more (omega arith) (h i l)
+carry-reach n r v h (x ∷ W) s far i l =
+    signed-ranged-more (cost x) (letter-reach n (r + reachOf W) (omega arith) (carry signedArithmetic W v) (carry-reach n r v h W (s .1) (omega arith)) x (s .0) i l)
   where
     cost : (x : Letter Signed) → r + reachOf W + letterReach ≤ r + (letterCost letterReach letterReach x + reachOf W)
     cost (E j w) = omega arith
@@ -70,16 +73,24 @@ carry-reach n r v h (x ∷ W) s far i l m =
     cost (D e) = omega arith
     cost (Dinv e) = omega arith
 
-pub carried-reach : (n : ℕ) (b : Factors Number) (v : ℕ → Signed) → 1 ≤ n → n ≤ 8 → StoredFactors n b → Within 1000 n v → Within workingReach n (carried n b v)
-unfolding carried
-carried-reach n b v low high s h i l m =
-    let W : Word Signed = word n (λ i j. plain (b i j)) in
-    let stored : (i j : ℕ) → 1 ≤ i → i ≤ n → 1 ≤ j → j ≤ n → SignedRanged 1000 (plain (b i j)) = λ i j p q t u. signed-ranged-plain (ranged-stored (s .stored i j p q t u)) in
-    let letters : All (StoredLetter n) W =
-    each-all (StoredLetter n) W (each-word (λ x y. StoredLetter n x) n (λ i j. plain (b i j)) (λ i j. plain (b i j))
-    (λ i j p q t. (omega arith, t, stored j i (omega arith) t p (omega arith)))
-    (λ i p q. stored i i p q p q)
-    (λ i j p q t. (omega arith, t, stored i j p (omega arith) (omega arith) t))) in
-    let cost : reachOf W ≡ letterReach * (n * n - n) + letterReach = word-cost letterReach letterReach n (λ i j. plain (b i j)) low in
-    let few : n * n ≤ 8 * 8 = mul-le-mul high high in
-    signed-ranged-more (omega arith) (carry-reach n 1000 v h W letters (omega arith) i l m)
+module _ (n : ℕ) (b : Factors Number) where
+  pub stored-letters : Table Stored n b → All (StoredLetter n) (signedWord n b)
+  stored-letters s = word-all (StoredLetter n) n (λ i j. plain (b i j))
+      (λ i j p q t. (omega arith, t, stored i j (omega arith, t) (p, omega arith)))
+      (λ i p. stored i i p p)
+      (λ i j p q t. (omega arith, t, stored j i (p, omega arith) (omega arith, t)))
+    where
+      stored : (i j : ℕ) → In n i → In n j → SignedRanged 1000 (plain (b i j))
+      stored i j p q = signed-ranged-plain (ranged-stored (s i j p q))
+
+  pub word-reach : 1 ≤ n → n ≤ 8 → reachOf (signedWord n b) ≤ 64 * letterReach
+  word-reach low high =
+      let cost : reachOf (signedWord n b) ≡ letterReach * (n * n - n) + letterReach = word-cost letterReach letterReach n (λ i j. plain (b i j)) low in
+      let few : n * n ≤ 8 * 8 = mul-le-mul high high in
+      omega arith
+
+  pub carried-reach : (v : ℕ → Signed) → 1 ≤ n → n ≤ 8 → Table Stored n b → Within 1000 n v → Within workingReach n (carried n b v)
+  unfolding carried
+  carried-reach v low high s h i l =
+      let few = word-reach low high in
+      signed-ranged-more (omega arith) (carry-reach n 1000 v h (signedWord n b) (stored-letters s) (omega arith) i l)

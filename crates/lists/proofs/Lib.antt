@@ -6,8 +6,8 @@ pub mod Vectors
 pub mod Outcomes
 pub mod LetterReach
 pub mod Carried
-pub mod Staged
 pub mod Scaled
+pub mod Spelled
 pub mod FirstItems
 pub mod RoundTrip
 pub mod Examples

@@ -73,13 +73,12 @@ module _ (least most : ℕ) (z : List ℤ) (r : Listed) (e : r ≡ listed least 
 -- its items are in range
 pub read-working : (n : ℕ) (z : List ℤ) (r : Listed) → Read n n z r → Working 1000 n (r .items)
 read-working n z r h =
+    let l : length (h .list) ≡ n = omega (arith, h .low, h .high) in
     record {
       eight = h .eight;
-      ranged = λ i p q.
-          let e = list-ranged z in
-          let l : length (h .list) ≡ n = omega (arith, h .low, h .high) in
-          subst (SignedRanged 1000) (ap (λ (L : List Signed). getD L (i - 1) zeroSigned) (sym (h .front)) ∙ getD-take (length (h .list)) (r .items) (i - 1) zeroSigned (omega arith))
-          (subst RangedItems (h .formed) (list-ranged z) (i - 1) (omega arith));
+      ranged = λ i p. subst (SignedRanged 1000)
+          (ap (λ (L : List Signed). getD L (i - 1) zeroSigned) (sym (h .front)) ∙ getD-take (length (h .list)) (r .items) (i - 1) zeroSigned (omega (arith, p .0, p .1)))
+          (subst RangedItems (h .formed) (list-ranged z) (i - 1) (omega (arith, p .0, p .1)));
     }
 
 -- ---- a count of reversals

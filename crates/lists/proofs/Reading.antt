@@ -103,7 +103,8 @@ list-ranged (s ∷ m ∷ x ∷ z) = go (itemOf s m x) (listOf z) (item-ranged s 
 
 -- ---- the tests of a list's length: n is a third of the numbers
 module _ (least most : ℕ) (z : List ℤ) where
-  improper : (o : Option (List Signed)) → Numbered z o → ((L : List Signed) → length z ≡ 3 * length L → (leb least (length L) && leb (length L) most) ≡ false) → listed least most o ≡ listedFrom blank 0 none
+  improper : (o : Option (List Signed)) → Numbered z o → ((L : List Signed) → length z ≡ 3 * length L → (leb least (length L) && leb (length L) most) ≡ false)
+      → listed least most o ≡ listedFrom blank 0 none
   unfolding listed
   improper (some L) h g = ap (λ (t : Bool). listedFrom blank 0 (cond t (some L) none)) (g L h)
   improper none h g = refl

@@ -1,32 +1,32 @@
--- Items multiplied by the entries of D, one after the other: k of them done (`Scaled`, `scaled-none`, `scaled-next`), and all of them (`scaled-all`).
+-- Items multiplied by the entries of D, one after the other: an entry (`entry-is`), none of them (`scaled-none`), and one more (`scaled-old`, `scaled-next`).
 use mathlib.Core.Path.{_≡_, refl, sym, ap, _∙_, subst}
 use mathlib.Core.List.{List}
 use Prim.Native.Nat.{ℕ, _+_, _-_, _*_, _≤_, _<_}
 use native.Mathlib.Decide.{ℕ-discrete}
 use native.Mathlib.Omega.{arith}
 use lib.ListN.{length, getD, set, length-set}
-use Rattle.number.specs.Signed.{plain, zeroSigned, signedProduct, SignedRanged}
+use Rattle.number.specs.Number.{zeroNumber}
+use Rattle.number.specs.Signed.{plain, zeroSigned, signedProduct}
 use Rattle.number.specs.declared.Number.{Number}
 use Rattle.number.specs.declared.signed.Signed.{Signed}
-use Rattle.number.proofs.Reach.{ranged-stored}
-use Rattle.number.proofs.SignedReach.{signed-ranged-more, signed-ranged-plain}
 use Rattle.words.specs.Word.{Factors}
-use Rattle.words.specs.Walk.{carry, carryLetter}
+use Rattle.walk.specs.Table.{cellOf, factorsOf, absent}
+use Rattle.walk.proofs.Diagonals.{read-default}
 use Rattle.lists.specs.Lists.{vectorOf}
-use Rattle.lists.specs.Table.{StoredFactors}
-use Rattle.lists.specs.Carrying.{Carries, diagonalOf}
+use Rattle.lists.specs.Carrying.{Scaled}
 use Rattle.lists.proofs.Fronts.{read-any}
 use Rattle.lists.proofs.Vectors.{vector-here, vector-other}
-use Rattle.lists.proofs.LetterReach.{product-reach}
 
-pub record Scaled (k : ℕ) (b : Factors Number) (v u : List Signed) : Type 0 where
-  pub eight : length u ≡ 8
-  pub done : (i : ℕ) → 1 ≤ i → i ≤ k → vectorOf u i ≡ signedProduct (vectorOf v i) (plain (b i i))
-  pub rest : (i : ℕ) → k < i → vectorOf u i ≡ vectorOf v i
+-- entry k + 1 of D, as the code reads it
+pub entry-is : (b : List Number) (k : ℕ) → k < 8 → length b ≡ 64 → getD b (k * 9) absent ≡ factorsOf b (k + 1) (k + 1)
+unfolding factorsOf
+entry-is b k h e =
+    let p : k * 9 ≡ cellOf (k + 1) (k + 1) = omega arith in
+    read-default b (k * 9) (omega arith) ∙ ap (λ i. getD b i zeroNumber) p
 
 module _ {b : Factors Number} {v : List Signed} where
   pub scaled-none : length v ≡ 8 → Scaled 0 b v v
-  scaled-none e = record { eight = e; done = λ i p q. absurd (omega arith); rest = λ i p. refl }
+  scaled-none e = record { eight = e; done = λ i p. absurd (omega (arith, p .0, p .1)); rest = λ i p. refl }
 
   module _ {k : ℕ} {u : List Signed} (s : Scaled k b v u) (h : k < 8) where
     -- the item that is read has not been changed yet
@@ -41,9 +41,9 @@ module _ {b : Factors Number} {v : List Signed} where
         subst (λ (i : ℕ). Scaled (k + 1) b v (set u i y)) e
         (record {
           eight = length-set u (k + 1 - 1) y ∙ s .eight;
-          done = λ i p q. elim (ℕ-discrete i (k + 1)) [
+          done = λ i p. elim (ℕ-discrete i (k + 1)) [
             | yes g ↦ ap (vectorOf (set u (k + 1 - 1) y)) g ∙ here ∙ f ∙ ap (λ (j : ℕ). signedProduct (vectorOf v j) (plain (b j j))) (sym g)
-            | no g ↦ other i p g ∙ s .done i p (omega arith)
+            | no g ↦ other i (p .0) g ∙ s .done i (p .0, omega (arith, p .1))
           ];
           rest = λ i p. other i (omega arith) (λ g. omega arith) ∙ s .rest i (omega arith);
         })
@@ -53,15 +53,3 @@ module _ {b : Factors Number} {v : List Signed} where
 
         other : (i : ℕ) → 1 ≤ i → (i ≡ k + 1 → ⊥) → vectorOf (set u (k + 1 - 1) y) i ≡ vectorOf u i
         other i p g = vector-other u (s .eight) (k + 1) (omega arith) (omega arith) y i p g
-
-  pub scaled-all : {n : ℕ} {u : List Signed} → StoredFactors n b → Scaled n b v u → Carries n 8 (diagonalOf b) v u
-  unfolding carry carryLetter
-  scaled-all {n} {u} f s =
-      record {
-        agrees = λ ω h i p q. s .done i p q ∙ ap (λ (x : Signed). signedProduct x (plain (b i i))) (h i p q);
-        working = λ r h w. record {
-          eight = s .eight;
-          ranged = λ i p q. subst (SignedRanged (r + 8 * 1064)) (sym (s .done i p q))
-              (signed-ranged-more (omega arith) (product-reach (omega arith) (w .ranged i p q) (signed-ranged-plain (ranged-stored (f .stored i i p q p q)))));
-        };
-      }

@@ -1,28 +1,24 @@
--- Rows of items as vectors: items read (`ranged-front`), ranges widened (`working-more`), one item changed (`vector-here`, `vector-other`), and factors read
--- from their table (`factor-is`).
+-- Rows of items as vectors: items read (`ranged-front`), ranges widened (`working-more`), and one item changed (`vector-here`, `vector-other`).
 use mathlib.Core.Path.{_≡_, ap, _∙_, subst}
 use mathlib.Core.List.{List}
 use Prim.Native.Nat.{ℕ, _+_, _-_, _≤_, _<_}
 use native.Mathlib.Omega.{arith}
 use lib.ListN.{length, getD, set}
 use lib.Seq.{getD-set-same, getD-set-other}
-use Rattle.number.specs.Number.{zeroNumber}
 use Rattle.number.specs.Signed.{zeroSigned, SignedRanged}
-use Rattle.number.specs.declared.Number.{Number}
 use Rattle.number.specs.declared.signed.Signed.{Signed}
 use Rattle.number.proofs.SignedReach.{signed-ranged-more}
 use Rattle.lists.specs.Lists.{vectorOf}
-use Rattle.lists.specs.Table.{placeOf, factorsOf}
 use Rattle.lists.specs.Carrying.{Working}
 use Rattle.lists.proofs.Fronts.{read-any}
 
 pub working-more : {r s n : ℕ} {v : List Signed} → r ≤ s → Working r n v → Working s n v
-working-more h w = record { eight = w .eight; ranged = λ i p q. signed-ranged-more h (w .ranged i p q) }
+working-more h w = record { eight = w .eight; ranged = λ i p. signed-ranged-more h (w .ranged i p) }
 
 pub ranged-front : {r : ℕ} (v : List Signed) (n k : ℕ) (d : Signed) → k < n → n ≤ 8 → Working r n v → SignedRanged r (getD v k d)
 ranged-front {r} v n k d h g w =
     let e : k + 1 - 1 ≡ k = omega arith in
-    subst (SignedRanged r) (ap (λ (i : ℕ). getD v i zeroSigned) e ∙ read-any v k zeroSigned d (omega (arith, w .eight))) (w .ranged (k + 1) (omega arith) (omega arith))
+    subst (SignedRanged r) (ap (λ (i : ℕ). getD v i zeroSigned) e ∙ read-any v k zeroSigned d (omega (arith, w .eight))) (w .ranged (k + 1) (omega arith, omega arith))
 
 module _ (v : List Signed) (e : length v ≡ 8) (a : ℕ) (low : 1 ≤ a) (high : a ≤ 8) (x : Signed) where
   pub vector-here : vectorOf (set v (a - 1) x) a ≡ x
@@ -30,7 +26,3 @@ module _ (v : List Signed) (e : length v ≡ 8) (a : ℕ) (low : 1 ≤ a) (high 
 
   pub vector-other : (i : ℕ) → 1 ≤ i → (i ≡ a → ⊥) → vectorOf (set v (a - 1) x) i ≡ vectorOf v i
   vector-other i h g = getD-set-other v (a - 1) (i - 1) x zeroSigned (λ f. g (omega arith))
-
-pub factor-is : (b : List Number) (i j : ℕ) (d : Number) → length b ≡ 64 → 1 ≤ i → i ≤ 8 → 1 ≤ j → j ≤ 8 → getD b (placeOf i j) d ≡ factorsOf b i j
-unfolding factorsOf
-factor-is b i j d e p q r s = read-any b (placeOf i j) d zeroNumber (omega arith)

@@ -2,16 +2,11 @@
 use mathlib.Core.List.{List, [], _∷_, _++_}
 use Prim.Native.Nat.{_^_}
 use lib.IntN.{ℤ, pos, negsuc}
-use Rattle.number.specs.Number.{oneNumber}
 use Rattle.number.specs.Examples.{Row, row, up}
-use Rattle.number.specs.declared.Number.{Number}
-use Rattle.words.specs.Word.{Factors}
+use Rattle.words.specs.Examples.{ones}
 use Rattle.lists.specs.Lists.{carryOf, reversalsOf}
 use Rattle.lists.specs.declared.Answer.the-variants.{Done, Refused}
 use Rattle.lists.specs.declared.Counted.the-variants as counted
-
-abbrev pub ones : Factors Number
-ones i j = oneNumber
 
 -- 1, -1 and 0 as they are lent: sign, mantissa, exponent
 abbrev pub plusOne : List ℤ

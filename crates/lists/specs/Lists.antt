@@ -11,7 +11,7 @@ use Rattle.number.specs.Number.{inRange}
 use Rattle.number.specs.Signed.{plain, zeroSigned, signedArithmetic}
 use Rattle.number.specs.declared.Number.{Number}
 use Rattle.number.specs.declared.signed.Signed.{Signed}
-use Rattle.words.specs.Word.{Factors, word, forUp}
+use Rattle.words.specs.Word.{Factors, Word, word, forUp}
 use Rattle.words.specs.Walk.{carry}
 use Rattle.lists.specs.Items.{isZero, listOf, listNumbers, proper}
 use Rattle.lists.specs.declared.Answer.{Answer}
@@ -45,9 +45,12 @@ vectorOf L i = getD L (i - 1) zeroSigned
 abbrev pub firstItems : ℕ → (ℕ → Signed) → List Signed
 firstItems n v = forUp 1 n (λ i. v i ∷ [])
 
--- carried through the word of n rows with the factors b
+-- the word of n rows with the factors b, as signed numbers
+abbrev pub signedWord : ℕ → Factors Number → Word Signed
+signedWord n b = word n (λ i j. plain (b i j))
+
 unfoldable pub carried : ℕ → Factors Number → (ℕ → Signed) → ℕ → Signed
-carried n b v = carry signedArithmetic (word n (λ i j. plain (b i j))) v
+carried n b v = carry signedArithmetic (signedWord n b) v
 
 abbrev pub carriedList : ℕ → Factors Number → List Signed → List Signed
 carriedList n b L = firstItems n (carried n b (vectorOf L))

@@ -31,7 +31,8 @@ returns : tie.Need-returns Inv-loop μ-loop
 returns c =
     let b = c .before .before .before .before in
     let g : length (b .before .args .t1) ≡ 8 = search needs in
-    sym (b .loop .inv .1 ∙ outside-here (b .before .args .t1) (b .before .args .n) (b .loop .k) unset (c .before .before .before .loop-test .taken) (omega (arith, b .before .pre)) (sym (c .before .outside .ensures) ∙ c .if1 .taken))
+    sym (b .loop .inv .1 ∙ outside-here (b .before .args .t1) (b .before .args .n) (b .loop .k) unset (c .before .before .before .loop-test .taken) (omega (arith, b .before .pre))
+    (sym (c .before .outside .ensures) ∙ c .if1 .taken))
 
 add-k : tie.Need-add-k Inv-loop μ-loop
 add-k c = search needs
@@ -44,7 +45,8 @@ loop-again c =
     let b = c .before .before .before .before in
     let g : length (b .before .args .t1) ≡ 8 = search needs in (
       omega (arith, c .before .before .before .loop-test .taken),
-      b .loop .inv .1 ∙ outside-later (b .before .args .t1) (b .before .args .n) (b .loop .k) unset (c .before .before .before .loop-test .taken) (omega (arith, b .before .pre)) (sym (c .before .outside .ensures) ∙ c .if1 .left),
+      b .loop .inv .1 ∙ outside-later (b .before .args .t1) (b .before .args .n) (b .loop .k) unset (c .before .before .before .loop-test .taken) (omega (arith, b .before .pre))
+          (sym (c .before .outside .ensures) ∙ c .if1 .left),
     )
 
 returns-2 : tie.Need-returns-2 Inv-loop μ-loop

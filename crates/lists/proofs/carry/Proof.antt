@@ -9,9 +9,9 @@ use denote.Ref.{now}
 use lib.ListN.{length, take}
 use lib.Seq.{sets}
 use Rattle.number.specs.declared.signed.Signed.{Signed}
+use Rattle.walk.specs.Table.{factorsOf}
 use Rattle.lists.specs.Items.{listNumbers}
 use Rattle.lists.specs.Lists.{anyOutside, carriedList, Outcome}
-use Rattle.lists.specs.Table.{factorsOf}
 use Rattle.lists.proofs.Outcomes.{Read, read-proper, read-improper, read-working, carry-improper, carry-outside, carry-short, carry-done}
 use Rattle.lists.proofs.carry.Statement.{statement}
 use Rattle.lists.proofs.carry.Tie as tie
@@ -53,7 +53,8 @@ returns c =
     let t = c .before .before in
     let a = t .before .before .before .before .args in
     let p = proper (t .before .before) in
-    let e = carry-outside (a .n) (factorsOf (a .factors)) (now (a .items)) (now (a .out)) (p .list) (p .formed) (exact (t .before .before)) (sym (ap anyOutside (carries t)) ∙ sym (c .before .any-outside .ensures) ∙ c .if2 .taken) in
+    let e = carry-outside (a .n) (factorsOf (a .factors)) (now (a .items)) (now (a .out)) (p .list) (p .formed) (exact (t .before .before))
+    (sym (ap anyOutside (carries t)) ∙ sym (c .before .any-outside .ensures) ∙ c .if2 .taken) in
     (sym (ap (λ (x : Outcome). x .answer) e), sym (ap (λ (x : Outcome). x .out) e))
 
 mul-if3 : tie.Need-mul-if3

@@ -50,7 +50,8 @@ loop-again c =
     let g : length (b .before .before .args .t1) ≡ 8 = search needs in (
       omega arith,
       omega (arith, turned c, b .loop .inv .1),
-      count-next (b .before .before .args .t1) (b .before .before .args .n) (b .loop .k) unset h (omega (arith, b .before .before .pre)) _ (b .loop .found) (c .turn .result) (b .loop .last) (c .turn .ensures) (b .loop .inv .2),
+      count-next (b .before .before .args .t1) (b .before .before .args .n) (b .loop .k) unset h (omega (arith, b .before .before .pre)) _ (b .loop .found)
+          (c .turn .result) (b .loop .last) (c .turn .ensures) (b .loop .inv .2),
     )
 
 returns : tie.Need-returns Inv-loop μ-loop

@@ -44,7 +44,9 @@ from-is c =
     let e : length (c .args .v) ≡ 8 = search needs in
     read-any (c .args .v) (c .args .from - 1) unset zeroSigned (omega (arith, c .pre .0))
 
-product-is : (c : tie.After-times) → c .times .result ≡ signedProduct (vectorOf (c .before .before .before .args .v) (c .before .before .before .args .from)) (plain (c .before .before .before .args .w))
+product-is : (c : tie.After-times) →
+    let a = c .before .before .before .args in
+    c .times .result ≡ signedProduct (vectorOf (a .v) (a .from)) (plain (a .w))
 product-is c = c .times .ensures ∙ ap (λ (x : Signed). signedProduct x (plain (c .before .before .before .args .w))) (from-is (c .before .before .before))
 
 times-requires : tie.Need-times-requires

@@ -3,10 +3,10 @@ use borrow.Author.Needs.{needs}
 use mathlib.Core.Path.{_≡_, sym, ap, _∙_}
 use mathlib.Core.Bool.{true}
 use mathlib.Core.List.{List}
-use Prim.Native.Nat.{ℕ, _-_, _*_, _≤_}
+use Prim.Native.Nat.{ℕ, _+_, _-_, _*_, _≤_, _<_}
 use native.Mathlib.Omega.{arith}
 use denote.Ref.{now}
-use lib.ListN.{drop}
+use lib.ListN.{length, drop}
 use Rattle.number.specs.declared.signed.Signed.{Signed}
 use Rattle.lists.specs.Items.{blank, listOf, listedFrom}
 use Rattle.lists.proofs.Reading.{listed-value, listed-malformed, listed-end}
@@ -43,11 +43,15 @@ enum-told c = search needs
 improper-requires : tie.Need-improper-requires Inv-loop μ-loop
 improper-requires c κs = search needs
 
+-- there is one more item to read
+more : (c : tie.In-loop Inv-loop μ-loop) → 3 * c .before .loop .k + 2 < length (now (c .before .before .before .args .items))
+more c = omega (arith, c .before .before .before .pre .1, c .loop-test .taken)
+
 returns : tie.Need-returns Inv-loop μ-loop
 returns c =
     let b = c .before .before .before .before .before in
     c .improper .ensures
-    ∙ sym (b .loop .inv .1 ∙ listed-malformed (now (b .before .before .args .items)) (b .loop .v) (b .loop .k) (omega (arith, b .before .before .pre .1, c .before .before .before .before .loop-test .taken))
+    ∙ sym (b .loop .inv .1 ∙ listed-malformed (now (b .before .before .args .items)) (b .loop .v) (b .loop .k) (more (c .before .before .before .before))
     (sym (c .before .before .before .item-at .ensures) ∙ c .before .enum-told .given .1))
 
 add-k : tie.Need-add-k Inv-loop μ-loop
@@ -60,7 +64,7 @@ loop-again : tie.Need-loop-again Inv-loop μ-loop
 loop-again c =
     let b = c .before .before .before .before .before in (
       omega (arith, c .before .before .before .before .loop-test .taken),
-      b .loop .inv .1 ∙ listed-value (now (b .before .before .args .items)) (b .loop .v) (b .loop .k) (c .before .item .given .0 .0) (omega (arith, b .before .before .pre .1, c .before .before .before .before .loop-test .taken))
+      b .loop .inv .1 ∙ listed-value (now (b .before .before .args .items)) (b .loop .v) (b .loop .k) (c .before .item .given .0 .0) (more (c .before .before .before .before))
           (sym (c .before .before .before .item-at .ensures) ∙ c .before .item .given .1),
     )
 
@@ -68,7 +72,8 @@ returns-2 : tie.Need-returns-2 Inv-loop μ-loop
 returns-2 c =
     let b = c .before in
     let e : b .loop .k ≡ b .before .before .args .n = omega (arith, b .loop .inv .0, c .loop-test .left) in
-    sym (b .loop .inv .1 ∙ listed-end (now (b .before .before .args .items)) (b .loop .v) (b .loop .k) (omega (arith, b .before .before .pre .1, c .loop-test .left)) ∙ ap (λ (n : ℕ). record { proper = true; count = n; items = b .loop .v }) e)
+    sym (b .loop .inv .1 ∙ listed-end (now (b .before .before .args .items)) (b .loop .v) (b .loop .k) (omega (arith, b .before .before .pre .1, c .loop-test .left))
+    ∙ ap (λ (n : ℕ). record { proper = true; count = n; items = b .loop .v }) e)
 
 pub items-of-spec : {M : Type 1} → statement M
 items-of-spec =

@@ -51,7 +51,8 @@ loop-again c =
     let h : b .loop .k < b .before .args .n = c .before .before .before .before .loop-test .taken in (
       omega arith,
       c .before .put .kept .1 .0 ∙ b .loop .inv .1,
-      b .loop .inv .2 ∙ write-next (b .before .args .t1) (b .before .args .n) (b .loop .k) unset h (omega (arith, b .before .pre .0, b .before .pre .1 .eight)) (b .loop .out) _ (c .before .put .ensures),
+      b .loop .inv .2 ∙ write-next (b .before .args .t1) (b .before .args .n) (b .loop .k) unset h (omega (arith, b .before .pre .0, b .before .pre .1 .eight))
+          (b .loop .out) _ (c .before .put .ensures),
     )
 
 same-length : tie.Need-same-length Inv-loop μ-loop
