@@ -159,9 +159,11 @@ fn minor(shelf: Shelf, place: usize, rows: u8, columns: u8, out: &mut [u8], at: 
 {
     let answer = shelf::minor(shelf, place, rows, columns);
     match answer {
-        Valued::Value(a) => {
-            let word = lines::put(out, at, b"number");
-            put_number(out, word, a)
+        Valued::Value { mantissa, exponent } => {
+            let number = lines::put(out, at, b"number ");
+            let space = lines::put_whole(out, number, mantissa);
+            let second = lines::put(out, space, b" ");
+            items::put_number(out, second, exponent)
         }
         Valued::Refused(why) => answers::put_refusal(out, at, why),
     }

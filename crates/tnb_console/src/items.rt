@@ -97,7 +97,7 @@ pub fn read(line: &[u8], at: usize, list: &mut [i64]) -> Items {
     Items::Count(count)
 }
 
-fn put_number(out: &mut [u8], at: usize, x: i64) -> usize {
+pub fn put_number(out: &mut [u8], at: usize, x: i64) -> usize {
     lines::put_signed(out, at, whole::is_negative(x), whole::magnitude(x))
 }
 
