@@ -2,9 +2,10 @@
 ghost use Rattle.places.specs.Shelf.{Good};
 use libc::STDIN_FILENO;
 use libc::STDOUT_FILENO;
-use places::Shelf;
+use shelf::Shelf;
 
-mod answer; // answer.rt: the call of each request, and its answer
+mod answer; // answer.rt: the answer to a line
+mod calls; // calls.rt: the calls, with their answers
 mod items; // items.rt: list items, read and put
 mod request; // request.rt: what a line asks
 
@@ -50,6 +51,13 @@ fn room(output: &[u8], waiting: usize) -> usize {
     0
 }
 
+fn is_long(line: &[u8], long: bool) -> bool {
+    if long {
+        return true;
+    }
+    LONGEST < line.len()
+}
+
 // Answers a line, which is given without its end; the one behind it starts at `next`.
 fn respond(was: State, line: &[u8], next: usize, output: &mut [u8]) -> State
     requires { ⌜ Good (was .shelf) ⌝ }
@@ -57,10 +65,7 @@ fn respond(was: State, line: &[u8], next: usize, output: &mut [u8]) -> State
 {
     let shelf = was.shelf;
     let at = room(output, was.waiting);
-    if was.long {
-        return keep(shelf, next, answer::bad(output, at), false);
-    }
-    if LONGEST < line.len() {
+    if is_long(line, was.long) {
         return keep(shelf, next, answer::bad(output, at), false);
     }
     let answered = answer::to_line(shelf, line, output, at);
@@ -176,7 +181,7 @@ fn finish(was: State, input: &[u8], held: usize, output: &mut [u8])
 
 // Nothing says that the input ends, so turns are counted down from a number that no run uses up.
 fn serve(input: &mut [u8], output: &mut [u8]) {
-    let mut now = keep(places::new(), 0, 0, false);
+    let mut now = keep(shelf::new(), 0, 0, false);
     let mut held: usize = 0;
     let mut turns = u64::MAX;
     while turns > 0 {

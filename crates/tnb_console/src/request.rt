@@ -3,21 +3,19 @@ use crate::items;
 use lines::Bytes;
 use lines::Whole;
 
-const PLACE: u64 = 4294967295;
-
-const MASK: u64 = 255;
-
-const LENT: u64 = 512;
-
-pub enum Call {
-    Load,
-    Write,
-    Drop,
+pub enum Operation {
     Product,
     Inverse,
     Converse,
     Transpose,
     Submatrix,
+}
+
+pub enum Call {
+    Load,
+    Write,
+    Drop,
+    Operate(Operation),
     Minor,
     Carry,
     Reversals,
@@ -25,21 +23,6 @@ pub enum Call {
     Show,
     // None of these.
     Bad,
-}
-
-// What stands behind the numbers.
-enum Tail {
-    Nothing,
-    Bytes,
-    Items,
-}
-
-// What follows a word: so many numbers, the largest value of each, and the tail.
-struct Form {
-    call: Call,
-    count: usize,
-    most: [u64; 4],
-    tail: Tail,
 }
 
 // The numbers of a line that were read, and where the next word starts.
@@ -56,75 +39,79 @@ pub struct Request {
     pub count: usize,
 }
 
-fn follows(call: Call, count: usize, most: [u64; 4], tail: Tail) -> Form {
-    Form {
-        call,
-        count,
-        most,
-        tail,
+// The call of each word of the console, in the order of `of_line`.
+fn call_at(k: usize) -> Call {
+    match k {
+        0 => Call::Load,
+        1 => Call::Write,
+        2 => Call::Drop,
+        3 => Call::Operate(Operation::Product),
+        4 => Call::Operate(Operation::Inverse),
+        5 => Call::Operate(Operation::Converse),
+        6 => Call::Operate(Operation::Transpose),
+        7 => Call::Operate(Operation::Submatrix),
+        8 => Call::Minor,
+        9 => Call::Carry,
+        10 => Call::Reversals,
+        11 => Call::Rest,
+        12 => Call::Show,
+        _ => Call::Bad,
     }
 }
 
-fn places(call: Call, count: usize) -> Form {
-    follows(call, count, [PLACE, PLACE, PLACE, PLACE], Tail::Nothing)
+// The number of a word among 13, counted from 0; 13 where it is none of them.
+fn number_of(word: &[u8], words: &[u8]) -> usize {
+    let mut at: usize = 0;
+    for k in 0..13usize {
+        if check::same(word, lines::word(words, at)) {
+            return k;
+        }
+        at = lines::next_word(words, at);
+    }
+    13
 }
 
-// The form that follows a word of two or more places.
-fn operation_form(word: &[u8]) -> Form {
-    if check::same(word, b"product") {
-        return places(Call::Product, 3);
+// Where a word of that number starts.
+fn start_of(words: &[u8], number: usize) -> usize {
+    let mut at: usize = 0;
+    for k in 0..13usize {
+        if k < number {
+            at = lines::next_word(words, at);
+        }
     }
-    if check::same(word, b"inverse") {
-        return places(Call::Inverse, 2);
-    }
-    if check::same(word, b"converse") {
-        return places(Call::Converse, 2);
-    }
-    if check::same(word, b"transpose") {
-        return places(Call::Transpose, 2);
-    }
-    if check::same(word, b"submatrix") {
-        return follows(
-            Call::Submatrix,
-            4,
-            [PLACE, MASK, MASK, PLACE],
-            Tail::Nothing,
-        );
-    }
-    places(Call::Bad, 0)
+    at
 }
 
-// The form that follows a word about bytes or items, or an operation.
-fn data_form(word: &[u8]) -> Form {
-    if check::same(word, b"load") {
-        return follows(Call::Load, 1, [PLACE, 0, 0, 0], Tail::Bytes);
+// The largest number that a letter of a form stands for: a place, a mask, a length to lend.
+fn most(letter: u8) -> u64 {
+    match letter {
+        b'P' => 4294967295,
+        b'M' => 255,
+        _ => 512,
     }
-    if check::same(word, b"rest") {
-        return follows(Call::Rest, 0, [0, 0, 0, 0], Tail::Bytes);
-    }
-    if check::same(word, b"carry") {
-        return follows(Call::Carry, 2, [PLACE, LENT, 0, 0], Tail::Items);
-    }
-    if check::same(word, b"reversals") {
-        return follows(Call::Reversals, 0, [0, 0, 0, 0], Tail::Items);
-    }
-    operation_form(word)
 }
 
-fn form_of(word: &[u8]) -> Form {
-    if check::same(word, b"show") {
-        return places(Call::Show, 1);
+fn is_number(letter: u8) -> bool {
+    match letter {
+        b'P' | b'M' | b'C' => true,
+        _ => false,
     }
-    if check::same(word, b"drop") {
-        return places(Call::Drop, 1);
+}
+
+// The k-th letter of a form, or the letter of nothing.
+fn letter_at(form: &[u8], k: usize) -> u8 {
+    if k < form.len() {
+        return form[k];
     }
-    if check::same(word, b"write") {
-        return follows(Call::Write, 2, [PLACE, LENT, 0, 0], Tail::Nothing);
+    b'-'
+}
+
+// The letter behind the numbers of a form: bytes, items or nothing.
+fn tail_of(form: &[u8]) -> u8 {
+    if form.len() == 0 {
+        return b'-';
     }
-    if check::same(word, b"minor") {
-        return follows(Call::Minor, 3, [PLACE, MASK, MASK, 0], Tail::Nothing);
-    }
-    data_form(word)
+    form[form.len() - 1]
 }
 
 // One number more: the k-th, at most `most`.
@@ -147,17 +134,16 @@ fn with_number(line: &[u8], read: Numbers, k: usize, most: u64) -> Numbers {
 }
 
 // The numbers that a form asks for, from an index on.
-fn read_numbers(line: &[u8], form: Form, at: usize) -> Numbers {
+fn read_numbers(line: &[u8], form: &[u8], at: usize) -> Numbers {
     let mut read = Numbers {
         well: true,
         values: [0u64; 4],
         next: at,
     };
-    let most = form.most;
-    let count = form.count;
     for k in 0..4usize {
-        if k < count {
-            read = with_number(line, read, k, most[k]);
+        let letter = letter_at(form, k);
+        if is_number(letter) {
+            read = with_number(line, read, k, most(letter));
         }
     }
     read
@@ -173,6 +159,14 @@ fn asked(call: Call, values: [u64; 4], count: usize) -> Request {
 
 fn bad() -> Request {
     asked(Call::Bad, [0u64; 4], 0)
+}
+
+// No word is left.
+fn with_nothing(line: &[u8], call: Call, values: [u64; 4], at: usize) -> Request {
+    if at <= line.len() {
+        return bad();
+    }
+    asked(call, values, 0)
 }
 
 // The last word as bytes.
@@ -196,25 +190,34 @@ fn with_items(line: &[u8], call: Call, values: [u64; 4], at: usize, list: &mut [
     }
 }
 
-// What a line asks. Its bytes or items go to the start of the buffers.
-pub fn of_line(line: &[u8], bytes: &mut [u8; 2048], list: &mut [i64; 48]) -> Request {
-    let form = form_of(lines::word(line, 0));
+// What a line with a call of this form asks.
+fn of_form(
+    line: &[u8],
+    call: Call,
+    form: &[u8],
+    bytes: &mut [u8; 2048],
+    list: &mut [i64; 48],
+) -> Request {
     let read = read_numbers(line, form, lines::next_word(line, 0));
-    let call = form.call;
-    let tail = form.tail;
-    let values = read.values;
-    let next = read.next;
     if !read.well {
         return bad();
     }
-    match tail {
-        Tail::Nothing => {
-            if next <= line.len() {
-                return bad();
-            }
-            asked(call, values, 0)
-        }
-        Tail::Bytes => with_bytes(line, call, values, next, bytes),
-        Tail::Items => with_items(line, call, values, next, list),
+    let values = read.values;
+    let next = read.next;
+    match tail_of(form) {
+        b'B' => with_bytes(line, call, values, next, bytes),
+        b'I' => with_items(line, call, values, next, list),
+        _ => with_nothing(line, call, values, next),
     }
+}
+
+// What a line asks. Its bytes or items go to the start of the buffers. What follows a word of the console is the word of its number
+// below: P a place, M a mask, C a length to lend, B bytes, I items.
+pub fn of_line(line: &[u8], bytes: &mut [u8; 2048], list: &mut [i64; 48]) -> Request {
+    let words =
+        b"load write drop product inverse converse transpose submatrix minor carry reversals rest show";
+    let forms = b"PB PC P PPP PP PP PP PMMP PMM PCI I B P";
+    let k = number_of(lines::word(line, 0), words);
+    let form = lines::word(forms, start_of(forms, k));
+    of_form(line, call_at(k), form, bytes, list)
 }

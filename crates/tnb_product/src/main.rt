@@ -3,11 +3,11 @@
 ghost use Rattle.places.specs.Shelf.{Good};
 use libc::STDOUT_FILENO;
 use number::Number;
-use places::Refusal;
-use places::Shelf;
-use places::Verdict;
 use shelf::Bounded;
 use shelf::Changed;
+use shelf::Refusal;
+use shelf::Shelf;
+use shelf::Verdict;
 
 // What a read gave.
 enum Got {
@@ -158,7 +158,7 @@ fn load_right(shelf: Shelf, out: &mut [u8]) -> usize
 }
 
 fn load_left(out: &mut [u8]) -> usize {
-    let left = load_file(places::new(), 0, b"left.tnb");
+    let left = load_file(shelf::new(), 0, b"left.tnb");
     let loaded = left.shelf;
     let verdict = left.verdict;
     match verdict {

@@ -5,19 +5,22 @@ use Rattle.tnb_console.proofs.request.read_numbers.Statement.{statement
 use Rattle.tnb_console.proofs.request.read_numbers.Tie as tie
 
 abbrev Inv-loop : tie.InvT-loop
-Inv-loop line at read₀ most count k₀ read k = Unit {0}
+Inv-loop line form at read₀ k₀ read k = Unit {0}
 
 abbrev μ-loop : tie.MeasureT-loop
-μ-loop line at read₀ most count k₀ read k = 4 - k
+μ-loop line form at read₀ k₀ read k = 4 - k
 
 loop-holds : tie.Need-loop-holds Inv-loop μ-loop
 loop-holds c = search needs
 
-mul-with-number : tie.Need-mul-with-number Inv-loop μ-loop
-mul-with-number c = search needs
+letter-at-requires : tie.Need-letter-at-requires Inv-loop μ-loop
+letter-at-requires c κs = search needs
 
-array-read-with-number : tie.Need-array-read-with-number Inv-loop μ-loop
-array-read-with-number c = search needs
+is-number-requires : tie.Need-is-number-requires Inv-loop μ-loop
+is-number-requires c κs = search needs
+
+most-requires : tie.Need-most-requires Inv-loop μ-loop
+most-requires c κs = search needs
 
 with-number-requires : tie.Need-with-number-requires Inv-loop μ-loop
 with-number-requires c κs = search needs
@@ -41,8 +44,9 @@ read-numbers-spec =
     Inv-loop
     μ-loop
     loop-holds
-    mul-with-number
-    array-read-with-number
+    letter-at-requires
+    is-number-requires
+    most-requires
     with-number-requires
     add-k
     loop-less

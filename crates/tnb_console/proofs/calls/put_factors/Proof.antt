@@ -1,10 +1,10 @@
--- `tnb_console::answer::put_factors` is safe and ends: 64 turns.
+-- `tnb_console::calls::put_factors` is safe and ends: 64 turns.
 use Prim.Native.Nat.{_-_}
 use mathlib.Core.Path.{_≡_}
 use lib.ListN.{length}
 use borrow.Author.Needs.{needs}
-use Rattle.tnb_console.proofs.answer.put_factors.Statement.{statement}
-use Rattle.tnb_console.proofs.answer.put_factors.Tie as tie
+use Rattle.tnb_console.proofs.calls.put_factors.Statement.{statement}
+use Rattle.tnb_console.proofs.calls.put_factors.Tie as tie
 
 abbrev Inv-loop : tie.InvT-loop
 Inv-loop out₀ at factors n to₀ k₀ out to k = length out ≡ length out₀
