@@ -33,7 +33,7 @@ fn mask(n: u64) -> u8 {
 }
 
 pub fn bad(out: &mut [u8], at: usize) -> usize {
-    lines::put(out, at, b"bad request\n")
+    lines::put(out, at, b"bad request")
 }
 
 fn changed(now: Changed, done: &[u8], out: &mut [u8], at: usize) -> Answered
@@ -45,13 +45,18 @@ fn changed(now: Changed, done: &[u8], out: &mut [u8], at: usize) -> Answered
     after(shelf, calls::put_verdict(out, at, verdict, done))
 }
 
-fn operated(now: Operated, out: &mut [u8], at: usize) -> Answered
-    requires { ⌜ Good (now .shelf) ⌝ }
+fn load(shelf: Shelf, place: usize, bytes: &[u8], out: &mut [u8], at: usize) -> Answered
+    requires { ⌜ Good shelf ⌝ }
     ensures { λ r. ⌜ Good (r .shelf) ⌝ }
 {
-    let shelf = now.shelf;
-    let answer = now.answer;
-    after(shelf, calls::put_bounded(out, at, answer))
+    changed(shelf::load(shelf, place, bytes), b"loaded", out, at)
+}
+
+fn drop(shelf: Shelf, place: usize, out: &mut [u8], at: usize) -> Answered
+    requires { ⌜ Good shelf ⌝ }
+    ensures { λ r. ⌜ Good (r .shelf) ⌝ }
+{
+    changed(shelf::drop_place(shelf, place), b"dropped", out, at)
 }
 
 fn operate(shelf: Shelf, operation: Operation, v: [u64; 4]) -> Operated
@@ -69,6 +74,16 @@ fn operate(shelf: Shelf, operation: Operation, v: [u64; 4]) -> Operated
         Operation::Transpose => shelf::transpose(shelf, a, b),
         Operation::Submatrix => shelf::submatrix(shelf, a, mask(v[1]), mask(v[2]), d),
     }
+}
+
+fn operated(shelf: Shelf, operation: Operation, v: [u64; 4], out: &mut [u8], at: usize) -> Answered
+    requires { ⌜ Good shelf ⌝ }
+    ensures { λ r. ⌜ Good (r .shelf) ⌝ }
+{
+    let now = operate(shelf, operation, v);
+    let kept = now.shelf;
+    let answer = now.answer;
+    after(kept, calls::put_bounded(out, at, answer))
 }
 
 // The first bytes of a buffer, and the first items of a list.
@@ -99,19 +114,21 @@ fn to_question(
 {
     let v = r.values;
     let place = index(v[0]);
+    let rows = v[1];
+    let columns = v[2];
     let call = r.call;
     match call {
-        Call::Write => calls::write(shelf, place, index(v[1]), out, at),
-        Call::Minor => calls::minor(shelf, place, mask(v[1]), mask(v[2]), out, at),
-        Call::Carry => calls::carry(shelf, place, index(v[1]), list, out, at),
+        Call::Write => calls::write(shelf, place, index(rows), out, at),
+        Call::Minor => calls::minor(shelf, place, mask(rows), mask(columns), out, at),
+        Call::Carry => calls::carry(shelf, place, index(rows), list, out, at),
         Call::Reversals => calls::reversals(list, out, at),
         Call::Rest => calls::rest(bytes, out, at),
         Call::Show => calls::show(shelf, place, out, at),
-        _ => lines::put(out, at, b"bad request"),
+        _ => bad(out, at),
     }
 }
 
-// The answer to a request, without the line's end.
+// The answer to a request.
 fn to_request(
     shelf: Shelf,
     r: Request,
@@ -127,9 +144,9 @@ fn to_request(
     let place = index(v[0]);
     let call = r.call;
     match call {
-        Call::Load => changed(shelf::load(shelf, place, bytes), b"loaded", out, at),
-        Call::Drop => changed(shelf::drop_place(shelf, place), b"dropped", out, at),
-        Call::Operate(operation) => operated(operate(shelf, operation, v), out, at),
+        Call::Load => load(shelf, place, bytes, out, at),
+        Call::Drop => drop(shelf, place, out, at),
+        Call::Operate(operation) => operated(shelf, operation, v, out, at),
         _ => after(shelf, to_question(shelf, r, bytes, list, out, at)),
     }
 }
@@ -150,7 +167,7 @@ fn to_buffers(
     to_request(shelf, r, some_bytes(bytes, n), some_items(list, n), out, at)
 }
 
-// The answer to a line.
+// The answer to a line, without its end.
 pub fn to_line(shelf: Shelf, line: &[u8], out: &mut [u8], at: usize) -> Answered
     requires { ⌜ Good shelf ⌝ }
     ensures { λ r. ⌜ Good (r .shelf) ⌝ }
@@ -158,7 +175,5 @@ pub fn to_line(shelf: Shelf, line: &[u8], out: &mut [u8], at: usize) -> Answered
     let mut bytes = [0u8; 2048];
     let mut list = [0i64; 48];
     let r = request::of_line(line, &mut bytes, &mut list);
-    let answered = to_buffers(shelf, r, &bytes, &list, out, at);
-    let now = answered.shelf;
-    after(now, lines::put(out, answered.at, b"\n"))
+    to_buffers(shelf, r, &bytes, &list, out, at)
 }

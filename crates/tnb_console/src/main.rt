@@ -58,6 +58,14 @@ fn is_long(line: &[u8], long: bool) -> bool {
     LONGEST < line.len()
 }
 
+// The end of a line behind its answer.
+fn ended(shelf: Shelf, next: usize, output: &mut [u8], at: usize) -> State
+    requires { ⌜ Good shelf ⌝ }
+    ensures { λ r. ⌜ Good (r .shelf) ⌝ }
+{
+    keep(shelf, next, lines::put(output, at, b"\n"), false)
+}
+
 // Answers a line, which is given without its end; the one behind it starts at `next`.
 fn respond(was: State, line: &[u8], next: usize, output: &mut [u8]) -> State
     requires { ⌜ Good (was .shelf) ⌝ }
@@ -66,11 +74,12 @@ fn respond(was: State, line: &[u8], next: usize, output: &mut [u8]) -> State
     let shelf = was.shelf;
     let at = room(output, was.waiting);
     if is_long(line, was.long) {
-        return keep(shelf, next, answer::bad(output, at), false);
+        let end = answer::bad(output, at);
+        return ended(shelf, next, output, end);
     }
     let answered = answer::to_line(shelf, line, output, at);
     let after = answered.shelf;
-    keep(after, next, answered.at, false)
+    ended(after, next, output, answered.at)
 }
 
 // Where the line that starts at an index ends; the text's length where that is not read yet.
