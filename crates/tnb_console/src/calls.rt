@@ -3,8 +3,8 @@ ghost use Rattle.places.specs.Shelf.{Good};
 use crate::items;
 use number::Number;
 use shelf::Bounded;
-use shelf::Counted;
 use shelf::Refusal;
+use shelf::Reversals;
 use shelf::Shelf;
 use shelf::Valued;
 use shelf::Verdict;
@@ -119,13 +119,13 @@ pub fn minor(shelf: Shelf, place: usize, rows: u8, columns: u8, out: &mut [u8], 
 }
 
 pub fn reversals(list: &[i64], out: &mut [u8], at: usize) -> usize {
-    let answer = shelf::reversals(list);
+    let answer = shelf::count_reversals(list);
     match answer {
-        Counted::Count(n) => {
+        Reversals::Count(n) => {
             let number = lines::put(out, at, b"reversals ");
-            lines::put_whole(out, number, n as u64)
+            lines::put_whole(out, number, n)
         }
-        Counted::Refused(why) => answers::put_refusal(out, at, why),
+        Reversals::Refused(why) => answers::put_refusal(out, at, why),
     }
 }
 
