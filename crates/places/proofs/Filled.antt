@@ -4,13 +4,8 @@ use native.Mathlib.Decide.{ℕ-discrete}
 use native.Mathlib.Omega.{arith}
 use mathlib.Core.Path.{_≡_, refl, sym, ap, _∙_}
 use mathlib.Core.List.{List, [], _∷_}
-use Rattle.number.specs.declared.Number.{Number}
 use lib.ListN.{length, getD, take, set, length-set}
 use lib.Seq.{ext-getD, getD-set-same, getD-set-other, getD-take, length-take-le}
-
--- what a read past the end of an array would give
-abbrev pub unread : Number
-unread = record { m = 0; x = 0 }
 
 module _ {A : Type 0} where
   -- within a list it does not matter what a read past its end would give

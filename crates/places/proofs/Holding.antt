@@ -15,10 +15,10 @@ use Rattle.words.specs.Word.{Factors}
 use Rattle.minors.specs.Matrix.{In}
 use Rattle.factors.specs.Demand.{Each}
 use Rattle.places.specs.declared.Shelf.{Shelf}
-use Rattle.places.specs.Table.{factorsOf, tableOf}
+use Rattle.walk.specs.Table.{absent, factorsOf, tableOf}
 use Rattle.places.specs.Shelf.{rowsAt, tableAt, factorsAt, withTable, holding, without, emptyShelf, Good}
 use Rattle.writer.proofs.Parts.{sets-append}
-use Rattle.places.proofs.Filled.{unread, Filled, filled-all}
+use Rattle.places.proofs.Filled.{Filled, filled-all}
 use Rattle.places.proofs.Table.{table-length, factors-table, table-list, table-same, table-refactored, within-none}
 
 pub shelf-fields : (s t : Shelf) → s .numbers ≡ t .numbers → s .sizes ≡ t .sizes → s ≡ t
@@ -84,21 +84,21 @@ unfolding tableAt
 number-at s p k h = getD-take 64 (drop (p * 64) (s .numbers)) k zeroNumber h ∙ getD-drop (p * 64) (s .numbers) k zeroNumber
 
 -- a place's numbers read one after the other
-pub table-read : (s : Shelf) (p : ℕ) → p < 8 → length (s .numbers) ≡ 512 → {k : ℕ} {t : List Number} → Filled unread (λ i. getD (s .numbers) (p * 64 + i) unread) 64 k t → 64 ≤ k
+pub table-read : (s : Shelf) (p : ℕ) → p < 8 → length (s .numbers) ≡ 512 → {k : ℕ} {t : List Number} → Filled absent (λ i. getD (s .numbers) (p * 64 + i) absent) 64 k t → 64 ≤ k
     → t ≡ tableAt s p
 unfolding tableAt
 table-read s p small all w h =
-    filled-all unread (λ i. getD (s .numbers) (p * 64 + i) unread) 64 w h (take 64 (drop (p * 64) (s .numbers)))
+    filled-all absent (λ i. getD (s .numbers) (p * 64 + i) absent) 64 w h (take 64 (drop (p * 64) (s .numbers)))
     (length-take-le 64 (drop (p * 64) (s .numbers)) (omega (arith, length-drop (p * 64) (s .numbers))))
-    (λ i l. getD-take 64 (drop (p * 64) (s .numbers)) i unread l ∙ getD-drop (p * 64) (s .numbers) i unread)
+    (λ i l. getD-take 64 (drop (p * 64) (s .numbers)) i absent l ∙ getD-drop (p * 64) (s .numbers) i absent)
 
 -- and put one after the other
-pub put-more : (l t : List Number) (a k : ℕ) → k < length t → set (sets l a (take k t)) (a + k) (getD t k unread) ≡ sets l a (take (k + 1) t)
+pub put-more : (l t : List Number) (a k : ℕ) → k < length t → set (sets l a (take k t)) (a + k) (getD t k absent) ≡ sets l a (take (k + 1) t)
 put-more l t a k h =
     let e : length (take k t) ≡ k = length-take-le k t (omega arith) in
-    let more : take (k + 1) t ≡ take k t ++ (getD t k unread ∷ []) = rw add-one (take-suc t k unread h) in
-    ap (λ (i : ℕ). set (sets l a (take k t)) (a + i) (getD t k unread)) (sym e)
-    ∙ sets-append l (take k t) (getD t k unread ∷ []) a
+    let more : take (k + 1) t ≡ take k t ++ (getD t k absent ∷ []) = rw add-one (take-suc t k absent h) in
+    ap (λ (i : ℕ). set (sets l a (take k t)) (a + i) (getD t k absent)) (sym e)
+    ∙ sets-append l (take k t) (getD t k absent ∷ []) a
     ∙ ap (sets l a) (sym more)
 
 -- shelves with the same sizes and tables are the same

@@ -15,8 +15,9 @@ use Rattle.words.specs.Word.{Factors, exchanged}
 use Rattle.words.specs.Operation.{rowByRow}
 use Rattle.minors.specs.Matrix.{In}
 use Rattle.factors.proofs.Demanded.{rowByRow-length}
-use Rattle.places.specs.Table.{factorsOf, within, tableOf, squareOf, outside}
-use Rattle.places.proofs.Filled.{unread, read-any, Filled, filled-all, filled-part}
+use Rattle.walk.specs.Table.{absent, factorsOf, within, tableOf}
+use Rattle.places.specs.Table.{squareOf, outside}
+use Rattle.places.proofs.Filled.{read-any, Filled, filled-all, filled-part}
 use Rattle.places.proofs.RowByRow.{row-by-row-at, row-by-row-get, row-by-row-list, row-below}
 
 -- 1 .. n, counted from 0
@@ -106,14 +107,14 @@ module _ (n : ℕ) (b : Factors Number) where
       ∙ and-swapped (leb (suc j) n) (leb (suc i) n) (b (suc j) (suc i)))
 
 -- a cell of the exchange
-pub exchanged-cell : (t : List Number) (k : ℕ) → length t ≡ 64 → k < 64 → getD t (k % 8 * 8 + k / 8) unread ≡ cellAt 8 (exchanged (factorsOf t)) k
+pub exchanged-cell : (t : List Number) (k : ℕ) → length t ≡ 64 → k < 64 → getD t (k % 8 * 8 + k / 8) absent ≡ cellAt 8 (exchanged (factorsOf t)) k
 unfolding factorsOf
 exchanged-cell t k long h =
     let i : k / 8 < 8 = row-below zeroNumber 8 (omega arith) k h in
     let j : k % 8 < 8 = mod-lt k (omega arith) in
     let r : suc (k % 8) - 1 ≡ k % 8 = omega arith in
     let c : suc (k / 8) - 1 ≡ k / 8 = omega arith in
-    read-any t (k % 8 * 8 + k / 8) unread zeroNumber (omega arith)
+    read-any t (k % 8 * 8 + k / 8) absent zeroNumber (omega arith)
     ∙ rw (within-in 8 (exchanged (factorsOf t)) (suc (k / 8)) (suc (k % 8)) (omega arith) (omega arith), r, c)
 
 -- FACTORS ONE BEHIND THE OTHER: out of a table
@@ -128,12 +129,12 @@ module _ (n : ℕ) (t : List Number) (few : n ≤ 8) where
         let m : k % n < n = mod-lt k some in
         (omega (arith, mul-le-mul few few), omega (arith, row-below zeroNumber n some k h), omega arith)
 
-    pub packed-cell : length t ≡ 64 → getD t (k / n * 8 + k % n) unread ≡ packedAt n t k
+    pub packed-cell : length t ≡ 64 → getD t (k / n * 8 + k % n) absent ≡ packedAt n t k
     unfolding factorsOf
     packed-cell long =
         let r : suc (k / n) - 1 ≡ k / n = omega arith in
         let c : suc (k % n) - 1 ≡ k % n = omega arith in
-        read-any t (k / n * 8 + k % n) unread zeroNumber (omega (arith, packed-below .1, packed-below .2)) ∙ rw (r, c)
+        read-any t (k / n * 8 + k % n) absent zeroNumber (omega (arith, packed-below .1, packed-below .2)) ∙ rw (r, c)
 
   pub packed-filled : {k : ℕ} {r : List Number} → Filled zeroNumber (packedAt n t) 64 k r → k ≤ n * n → n * n ≤ k → take (n * n) r ≡ rowByRow n (factorsOf t)
   packed-filled {k} {r} w h g =
@@ -156,12 +157,12 @@ module _ (n : ℕ) (L : List Number) (k : ℕ) where
     pub square-cell-below : k / 8 * n + k % 8 < 64
     square-cell-below = omega (arith, square-below n (k / 8) (k % 8) h g, mul-le-mul few few)
 
-    pub square-cell : length L ≡ 64 → getD L (k / 8 * n + k % 8) unread ≡ cellAt n (squareOf n L) k
+    pub square-cell : length L ≡ 64 → getD L (k / 8 * n + k % 8) absent ≡ cellAt n (squareOf n L) k
     unfolding squareOf
     square-cell long =
         let r : suc (k / 8) - 1 ≡ k / 8 = omega arith in
         let c : suc (k % 8) - 1 ≡ k % 8 = omega arith in
-        read-any L (k / 8 * n + k % 8) unread zeroNumber (omega (arith, square-cell-below))
+        read-any L (k / 8 * n + k % 8) absent zeroNumber (omega (arith, square-cell-below))
         ∙ rw (le-leb (suc (k / 8)) n (omega arith), le-leb (suc (k % 8)) n (omega arith), r, c)
 
 pub square-list : (n : ℕ) (L : List Number) → length L ≡ n * n → rowByRow n (squareOf n L) ≡ L
@@ -228,7 +229,7 @@ module _ (n : ℕ) (b : Factors Number) (few : n ≤ 8) where
       ap inRange (sym (factors-table n b few i j h g))
       ∙ outside-none zeroNumber (tableOf n b) e ((i - 1) * 8 + (j - 1)) (omega (arith, table-length n b))
 
-  rows-ranged : outside (rowByRow n b) ≡ false → (i j : ℕ) → In n i → In n j → inRange (b i j) ≡ true
+  pub rows-ranged : outside (rowByRow n b) ≡ false → (i j : ℕ) → In n i → In n j → inRange (b i j) ≡ true
   unfolding squareOf
   rows-ranged e i j h g =
       ap inRange (sym (square-factors n b i j h g))

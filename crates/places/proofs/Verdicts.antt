@@ -1,16 +1,19 @@
--- Laws of verdicts: one list of tests behind another (`first-append`, `first-last`), and what the tests of an accepted call have shown (`source-accepted`, `target-accepted`, `one-accepted`, `two-accepted`).
-use Prim.Native.Nat.{ℕ, _<_, _≤_}
+-- Laws of verdicts: one list of tests behind another (`first-append`, `first-last`), and what the tests of an accepted call have shown (`source-accepted`, `target-accepted`, `one-accepted`,
+-- `two-accepted`, `sets-accepted`).
+use Prim.Native.Nat.{ℕ, _^_, _<_, _≤_}
 use native.Mathlib.Omega.{arith}
 use mathlib.Core.Path.{_≡_, refl, sym, ap, _∙_}
-use mathlib.Core.Bool.{Bool, true, false, not}
+use mathlib.Core.Bool.{Bool, true, false, not, _||_}
 use mathlib.Core.List.{List, [], _∷_, _++_}
 use lib.Dec.{ltb, eqb}
 use borrow.Author.Tests.{ltb-false, eqb-true, eqb-false, not-false}
+use Rattle.rowset.specs.Mask.{maskCount, maskBeyond}
+use Rattle.rowset.proofs.Sets.{mask-within}
 use Rattle.places.specs.declared.Shelf.{Shelf}
 use Rattle.places.specs.declared.Verdict.{Verdict}
 use Rattle.places.specs.declared.Verdict.the-variants.{Accepted, Refused}
-use Rattle.places.specs.Shelf.{rowsAt}
-use Rattle.places.specs.Refusal.{firstOf, orElse, when, above, empty, full, differ, sourceTests, targetTests, oneSource, twoSources}
+use Rattle.places.specs.Shelf.{rowsAt, Good}
+use Rattle.places.specs.Refusal.{firstOf, orElse, after, when, above, empty, full, differ, unfit, sourceTests, targetTests, oneSource, twoSources}
 
 or-else-assoc : (u v w : Verdict) → orElse u (orElse v w) ≡ orElse (orElse u v) w
 or-else-assoc Accepted v w = refl
@@ -28,6 +31,18 @@ first-append (v ∷ L) M = ap (orElse v) (first-append L M) ∙ or-else-assoc v 
 pub first-last : (L : List Verdict) (v : Verdict) → firstOf (L ++ (v ∷ [])) ≡ orElse (firstOf L) v
 unfolding firstOf
 first-last L v = first-append L (v ∷ []) ∙ ap (orElse (firstOf L)) (or-else-accepted v)
+
+-- where nothing turned a call down, neither this nor that did
+pub or-else-both : (u v : Verdict) → orElse u v ≡ Accepted → (u ≡ Accepted) × (v ≡ Accepted)
+or-else-both Accepted v e = (refl, e)
+or-else-both (Refused w) v e = absurd (let z : _≡_ {A = ℕ} 0 1 = cc in omega arith)
+
+pub when-passed : (t : Bool) (k : ℕ) → when t k ≡ Accepted → t ≡ false
+when-passed false k e = refl
+when-passed true k e = absurd (let z : _≡_ {A = ℕ} 0 1 = cc in omega arith)
+
+pub first-passed : (L : List Verdict) (v : Verdict) → firstOf (L ++ (v ∷ [])) ≡ Accepted → (firstOf L ≡ Accepted) × (v ≡ Accepted)
+first-passed L v e = or-else-both (firstOf L) v (sym (first-last L v) ∙ e)
 
 -- the first test passed, and the others
 when-accepted : (c : Bool) (k : ℕ) (L : List Verdict) → firstOf (when c k ∷ L) ≡ Accepted → (c ≡ false) × (firstOf L ≡ Accepted)
@@ -97,3 +112,33 @@ module _ (s : Shelf) where
       let g = full-accepted t _ (f .1) in
       let h = differ-accepted l r _ (g .1) in
       (record { small = a .0; some = d .0 }, record { small = b .0; some = f .0 }, record { small = c .0; none = g .0 }, h .0)
+
+-- a shelf that is changed only where the call was accepted stays good
+pub after-good : (old new : Shelf) → Good old → (v : Verdict) → (v ≡ Accepted → Good new) → Good (after v old new)
+after-good old new g Accepted h = h refl
+after-good old new g (Refused w) h = g
+
+-- SETS that were accepted: equally many rows and columns of n, at least one
+pub record Fit (n I J : ℕ) : Type 0 where
+  pub counts : maskCount I ≡ maskCount J
+  pub some : 0 < I
+  pub rows : I < 2 ^ n
+  pub columns : J < 2 ^ n
+
+or-false : (t u : Bool) → t || u ≡ false → (t ≡ false) × (u ≡ false)
+or-false false u e = (refl, e)
+or-false true u e = absurd (let z : _≡_ {A = ℕ} 0 1 = cc in omega arith)
+
+pub sets-accepted : (n I J : ℕ) → when (unfit n I J) 8 ≡ Accepted → Fit n I J
+sets-accepted n I J e =
+    let a = or-false (not (eqb (maskCount I) (maskCount J))) _ (when-passed (unfit n I J) 8 e) in
+    let b = or-false (eqb I 0) _ (a .1) in
+    let c = or-false (eqb J 0) _ (b .1) in
+    let d = or-false (maskBeyond n I) (maskBeyond n J) (c .1) in
+    let z : I ≡ 0 → ⊥ = eqb-false I 0 (b .0) in
+    record {
+      counts = eqb-true (maskCount I) (maskCount J) (not-false (eqb (maskCount I) (maskCount J)) (a .0));
+      some = omega arith;
+      rows = mask-within n I (d .0);
+      columns = mask-within n J (d .1);
+    }

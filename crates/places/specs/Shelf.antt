@@ -10,7 +10,7 @@ use Rattle.number.specs.Number.{zeroNumber, Stored}
 use Rattle.words.specs.Word.{Factors}
 use Rattle.factors.specs.Demand.{Each}
 use Rattle.places.specs.declared.Shelf.{Shelf}
-use Rattle.places.specs.Table.{factorsOf, tableOf}
+use Rattle.walk.specs.Table.{factorsOf, tableOf}
 
 unfoldable pub rowsAt : Shelf → ℕ → ℕ
 rowsAt s p = getD (s .sizes) p 0

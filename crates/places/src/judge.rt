@@ -1,6 +1,7 @@
 // The tests of the calls, in document 01's order: the first condition that holds turns a call down.
 ghost use mathlib.Core.Path.{_≡_};
-ghost use Rattle.places.specs.Refusal.{firstOf, refused, sourceTests, targetTests, oneSource, twoSources};
+ghost use Prim.Native.Nat.{_≤_, _<_};
+ghost use Rattle.places.specs.Refusal.{firstOf, refused, when, unfit, sourceTests, targetTests, oneSource, twoSources};
 use crate::Refusal;
 use crate::Shelf;
 use crate::Verdict;
@@ -83,6 +84,29 @@ pub fn two_sources(shelf: Shelf, left: usize, right: usize, target: usize) -> Ve
     }
     if rows != rows_at(shelf, right) {
         return refused(13);
+    }
+    Verdict::Accepted
+}
+
+// Row and column sets of n rows.
+pub fn sets(n: usize, rows: usize, columns: usize) -> Verdict
+    requires { ⌜ (n ≤ 8) × (rows < 256) × (columns < 256) ⌝ }
+    ensures { λ r. ⌜ r ≡ when (unfit n rows columns) 8 ⌝ }
+{
+    if rowset::count(rows) != rowset::count(columns) {
+        return refused(8);
+    }
+    if rows == 0 {
+        return refused(8);
+    }
+    if columns == 0 {
+        return refused(8);
+    }
+    if rowset::beyond(rows, n) {
+        return refused(8);
+    }
+    if rowset::beyond(columns, n) {
+        return refused(8);
     }
     Verdict::Accepted
 }

@@ -5,7 +5,8 @@ ghost use lib.ListN.{take, replicate};
 ghost use Rattle.number.specs.Number.{zeroNumber};
 ghost use Rattle.words.specs.Word.{exchanged};
 ghost use Rattle.words.specs.Operation.{rowByRow};
-ghost use Rattle.places.specs.Table.{factorsOf, within, tableOf, squareOf, outside};
+ghost use Rattle.walk.specs.Table.{factorsOf, within, tableOf};
+ghost use Rattle.places.specs.Table.{squareOf, outside};
 use number::Number;
 
 // No factor.

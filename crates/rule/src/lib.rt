@@ -1,8 +1,22 @@
-// New factors (document 01, "The rounded rule"): each from minors of a joined word, worked afresh, by the formulas; the operations with their bounds.
+// New factors (document 01, "The rounded rule"): each from minors of a joined word, worked afresh, by the formulas; and the operations, each with its bound.
+ghost use mathlib.Core.Path.{_≡_};
+ghost use mathlib.Core.List.{[], _∷_};
+ghost use Prim.Native.Nat.{_+_, _^_, _≤_, _<_};
+ghost use Rattle.number.specs.Number.{rounded};
+ghost use Rattle.rowset.specs.Mask.{maskCount};
+ghost use Rattle.words.specs.RowSet.{ofMask, rows};
+ghost use Rattle.words.specs.Formula.{runBefore, onDiagonal, belowDiagonal, newFactor};
+ghost use Rattle.words.specs.Operation.{step, product, inverse, converse, submatrix, refactored};
+ghost use Rattle.walk.specs.Steps.{wayOf, stepsOf};
+ghost use Rattle.walk.specs.Table.{factorsOf, tableOf};
+ghost use Rattle.rule.specs.Chosen.{sizeOf, chosenRows, chosenColumns, chosenMinor, turnedBy, cellAt, Proper, Usable};
+ghost use Rattle.rule.specs.Result.{OneStep, TwoSteps, Workable, OperationWorkable, refactoredOf, resultOf};
 use number::Number;
 use walk::Joined;
 use walk::Step;
 use walk::Way;
+
+mod bounds; // bounds.rt: the bounds by size
 
 // A joined word with the chosen rows and columns of its matrix.
 pub struct Chosen {
@@ -11,9 +25,20 @@ pub struct Chosen {
     pub columns: usize,
 }
 
+// The new factors, in rows of eight, how many rows they have, and their bound.
+pub struct Refactored {
+    pub factors: [Number; 64],
+    pub rows: usize,
+    pub bound: u32,
+}
+
 impl Chosen {
     // The minor with row set i and column set j, sets that count among the chosen ones; turned, the row set is j and the column set i.
-    fn minor(self, i: usize, j: usize, turned: bool) -> Number {
+    fn minor(self, i: usize, j: usize, turned: bool) -> Number
+        requires { ⌜ Proper self × (i < 2 ^ sizeOf self) × (j < 2 ^ sizeOf self) × (maskCount i ≡ maskCount j) ⌝ }
+        ensures { λ r. ⌜ r ≡ turnedBy turned (chosenMinor self) (ofMask (sizeOf self) i) (ofMask (sizeOf self) j) ⌝ }
+        ensures { λ r. ⌜ Usable r ⌝ }
+    {
         let word = self.word;
         if turned {
             word.minor(rowset::among(self.rows, j), rowset::among(self.columns, i))
@@ -22,22 +47,40 @@ impl Chosen {
         }
     }
 
-    fn on_diagonal(self, i: usize) -> Number {
-        let top = self.minor(rowset::run(1, i), rowset::run(1, i), false);
-        let low = self.minor(rowset::run(1, i - 1), rowset::run(1, i - 1), false);
-        top.div(low)
+    // M(a..b | 1..m), for m rows a..b; turned, M(1..m | a..b).
+    fn run_minor(self, a: usize, b: usize, m: usize, turned: bool) -> Number
+        requires { ⌜ Proper self × (1 ≤ a) × (b ≤ sizeOf self) × (b + 1 ≡ a + m) ⌝ }
+        ensures { λ r. ⌜ r ≡ turnedBy turned (chosenMinor self) (rows (sizeOf self) a b) (rows (sizeOf self) 1 m) ⌝ }
+        ensures { λ r. ⌜ Usable r ⌝ }
+    {
+        self.minor(rowset::run(a, b), rowset::run(1, m), turned)
     }
 
-    // Below the diagonal, j < i; turned, the factor above it.
-    fn off_diagonal(self, i: usize, j: usize, turned: bool) -> Number {
-        let corner = self.minor(rowset::run(i - j + 1, i), rowset::run(1, j), turned);
-        let before = self.minor(rowset::run(i - j, i - 2), rowset::run(1, j - 1), turned);
-        let run = self.minor(rowset::run(i - j + 1, i - 1), rowset::run(1, j - 1), turned);
-        let under = self.minor(rowset::run(i - j, i - 1), rowset::run(1, j), turned);
-        corner.mul(before).div(run.mul(under))
+    fn on_diagonal(self, i: usize) -> Number
+        requires { ⌜ Proper self × (1 ≤ i) × (i ≤ sizeOf self) ⌝ }
+        ensures { λ r. ⌜ r ≡ onDiagonal rounded (sizeOf self) (chosenMinor self) i ⌝ }
+    {
+        let upper = self.run_minor(1, i, i, false);
+        let lower = self.run_minor(1, i - 1, i - 1, false);
+        upper.div(lower)
     }
 
-    fn factor(self, i: usize, j: usize) -> Number {
+    // Below the diagonal, j < i; turned, the factor of row j and column i above it.
+    fn off_diagonal(self, i: usize, j: usize, turned: bool) -> Number
+        requires { ⌜ Proper self × (1 ≤ j) × (j < i) × (i ≤ sizeOf self) ⌝ }
+        ensures { λ r. ⌜ r ≡ belowDiagonal rounded (sizeOf self) (runBefore (sizeOf self)) (turnedBy turned (chosenMinor self)) i j ⌝ }
+    {
+        let corner = self.run_minor(i - j + 1, i, j, turned);
+        let before = self.run_minor(i - j, i - 2, j - 1, turned);
+        let run = self.run_minor(i - j + 1, i - 1, j - 1, turned);
+        let above = self.run_minor(i - j, i - 1, j, turned);
+        corner.mul(before).div(run.mul(above))
+    }
+
+    fn factor(self, i: usize, j: usize) -> Number
+        requires { ⌜ Proper self × (1 ≤ i) × (i ≤ sizeOf self) × (1 ≤ j) × (j ≤ sizeOf self) ⌝ }
+        ensures { λ r. ⌜ r ≡ newFactor rounded (sizeOf self) (chosenMinor self) i j ⌝ }
+    {
         if i == j {
             return self.on_diagonal(i);
         }
@@ -47,22 +90,51 @@ impl Chosen {
         self.off_diagonal(j, i, true)
     }
 
-    pub fn factors(self) -> [Number; 64] {
+    // The number at t of the new factors in rows of eight: zero past their k rows and columns.
+    fn cell(self, k: usize, t: usize) -> Number
+        requires { ⌜ Proper self × (k ≡ sizeOf self) × (t < 64) ⌝ }
+        ensures { λ r. ⌜ r ≡ cellAt k (newFactor rounded k (chosenMinor self)) t ⌝ }
+    {
+        let i = t / 8 + 1;
+        let j = t % 8 + 1;
+        if k < i {
+            return Number::zero();
+        }
+        if k < j {
+            return Number::zero();
+        }
+        self.factor(i, j)
+    }
+
+    // The new factors, zero past their rows and columns.
+    pub fn factors(self) -> [Number; 64]
+        requires { ⌜ Proper self ⌝ }
+        ensures { λ r. ⌜ r ≡ tableOf (sizeOf self) (refactored rounded (self .word .n) (stepsOf (self .word)) (chosenRows self) (chosenColumns self)) ⌝ }
+    {
         let k = rowset::count(self.rows);
         let zero = Number::zero();
         let mut b = [zero; 64];
         for t in 0..64usize {
-            if t / 8 < k {
-                if t % 8 < k {
-                    b[t] = self.factor(t / 8 + 1, t % 8 + 1);
-                }
-            }
+            b[t] = self.cell(k, t);
         }
         b
     }
 }
 
-pub fn product(b: [Number; 64], c: [Number; 64], n: usize) -> [Number; 64] {
+fn one_step(way: Way, b: [Number; 64], n: usize) -> Joined
+    ensures { λ r. ⌜ OneStep way b n r ⌝ }
+{
+    let s = Step { way, factors: b };
+    Joined {
+        steps: [s; 6],
+        count: 1,
+        n,
+    }
+}
+
+fn two_steps(b: [Number; 64], c: [Number; 64], n: usize) -> Joined
+    ensures { λ r. ⌜ TwoSteps b c n r ⌝ }
+{
     let s = Step {
         way: Way::Plain,
         factors: b,
@@ -72,10 +144,65 @@ pub fn product(b: [Number; 64], c: [Number; 64], n: usize) -> [Number; 64] {
         way: Way::Plain,
         factors: c,
     };
-    let r = Chosen {
-        word: Joined { steps, count: 2, n },
-        rows: rowset::run(1, n),
-        columns: rowset::run(1, n),
+    Joined { steps, count: 2, n }
+}
+
+// The new factors of the rows p and the columns q of one source.
+fn of_one(way: Way, b: [Number; 64], n: usize, p: usize, q: usize) -> Refactored
+    requires { ⌜ (p < 2 ^ n) × (q < 2 ^ n) ⌝ }
+    requires { ⌜ Workable n (step (wayOf way) (factorsOf b) ∷ []) (ofMask n p) (ofMask n q) ⌝ }
+    ensures { λ r. ⌜ r ≡ refactoredOf n (step (wayOf way) (factorsOf b) ∷ []) (ofMask n p) (ofMask n q) ⌝ }
+{
+    let c = Chosen {
+        word: one_step(way, b, n),
+        rows: p,
+        columns: q,
     };
-    r.factors()
+    Refactored {
+        factors: c.factors(),
+        rows: rowset::count(p),
+        bound: bounds::one_source(n),
+    }
+}
+
+pub fn product(b: [Number; 64], c: [Number; 64], n: usize) -> Refactored
+    requires { ⌜ OperationWorkable n (product (factorsOf b) (factorsOf c)) ⌝ }
+    ensures { λ r. ⌜ r ≡ resultOf n (product (factorsOf b) (factorsOf c)) ⌝ }
+{
+    let all = rowset::run(1, n);
+    let c = Chosen {
+        word: two_steps(b, c, n),
+        rows: all,
+        columns: all,
+    };
+    Refactored {
+        factors: c.factors(),
+        rows: n,
+        bound: bounds::product(n),
+    }
+}
+
+pub fn inverse(b: [Number; 64], n: usize) -> Refactored
+    requires { ⌜ OperationWorkable n (inverse (factorsOf b)) ⌝ }
+    ensures { λ r. ⌜ r ≡ resultOf n (inverse (factorsOf b)) ⌝ }
+{
+    let all = rowset::run(1, n);
+    of_one(Way::Inverted, b, n, all, all)
+}
+
+pub fn converse(b: [Number; 64], n: usize) -> Refactored
+    requires { ⌜ OperationWorkable n (converse (factorsOf b)) ⌝ }
+    ensures { λ r. ⌜ r ≡ resultOf n (converse (factorsOf b)) ⌝ }
+{
+    let all = rowset::run(1, n);
+    of_one(Way::Conversed, b, n, all, all)
+}
+
+// The rows p and the columns q, both masks.
+pub fn submatrix(b: [Number; 64], n: usize, p: usize, q: usize) -> Refactored
+    requires { ⌜ (p < 2 ^ n) × (q < 2 ^ n) ⌝ }
+    requires { ⌜ OperationWorkable n (submatrix (factorsOf b) (ofMask n p) (ofMask n q)) ⌝ }
+    ensures { λ r. ⌜ r ≡ resultOf n (submatrix (factorsOf b) (ofMask n p) (ofMask n q)) ⌝ }
+{
+    of_one(Way::Plain, b, n, p, q)
 }

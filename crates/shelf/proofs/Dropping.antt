@@ -12,12 +12,12 @@ use Rattle.places.specs.declared.Refusal.{Refusal}
 use Rattle.shelf.specs.declared.Changed.{Changed}
 use Rattle.places.specs.declared.Verdict.{Verdict}
 use Rattle.places.specs.declared.Verdict.the-variants.{Accepted, Refused}
-use Rattle.places.specs.Table.{tableOf}
+use Rattle.walk.specs.Table.{tableOf}
 use Rattle.places.specs.Shelf.{without, Good}
 use Rattle.places.specs.Refusal.{firstOf, after, sourceTests}
 use Rattle.shelf.specs.Calls.{changed, dropCall}
 use Rattle.places.proofs.Holding.{good-without}
-use Rattle.places.proofs.Verdicts.{source-accepted}
+use Rattle.places.proofs.Verdicts.{source-accepted, after-good}
 
 -- no rows: no factor
 pub table-blank : (b : Factors Number) → tableOf 0 b ≡ replicate 64 zeroNumber
@@ -34,13 +34,9 @@ module _ (s : Shelf) (p : ℕ) where
   drop-done e = ap (λ (v : Verdict). changed v s (without s p)) (sym e)
 
   module _ (good : Good s) where
-    dropped-good : (v : Verdict) → (v ≡ Accepted → Good (without s p)) → Good (after v s (without s p))
-    dropped-good Accepted h = h refl
-    dropped-good (Refused w) h = good
-
     pub drop-good : Good (dropCall s p .shelf)
     unfolding dropCall
-    drop-good = dropped-good (firstOf (sourceTests s p)) (λ e. good-without s good p (source-accepted s p e .small))
+    drop-good = after-good s (without s p) good (firstOf (sourceTests s p)) (λ e. good-without s good p (source-accepted s p e .small))
 
     pub drop-answered : (x : Changed) → x ≡ dropCall s p → (x ≡ dropCall s p) × Good (x .shelf)
     drop-answered x e = (e, rw e drop-good)

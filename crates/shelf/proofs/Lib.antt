@@ -2,4 +2,4 @@
 pub mod Loading
 pub mod Dropping
 pub mod Writing
-pub mod Proposals
+pub mod Lists

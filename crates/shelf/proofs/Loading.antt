@@ -27,14 +27,15 @@ use Rattle.places.specs.declared.Refusal.{Refusal}
 use Rattle.places.specs.declared.Verdict.{Verdict}
 use Rattle.places.specs.declared.Verdict.the-variants.{Accepted, Refused}
 use Rattle.shelf.specs.declared.Changed.{Changed}
-use Rattle.places.specs.Table.{tableOf, squareOf}
+use Rattle.walk.specs.Table.{tableOf}
+use Rattle.places.specs.Table.{squareOf}
 use Rattle.places.specs.Shelf.{holding, Good}
 use Rattle.places.specs.Refusal.{firstOf, orElse, after, refused, targetTests}
 use Rattle.shelf.specs.Calls.{changed, ofReading, loadTests, readTo, loadCall}
 use Rattle.places.proofs.RowByRow.{row-by-row-get, row-below}
 use Rattle.places.proofs.Table.{square-below, some-rows, table-same}
 use Rattle.places.proofs.Holding.{good-holding}
-use Rattle.places.proofs.Verdicts.{first-last, target-accepted}
+use Rattle.places.proofs.Verdicts.{first-last, first-passed, target-accepted, after-good}
 
 -- STORED: of a list, of factors
 all-stored-at : (L : List Number) → AllStored L → (k : ℕ) → k < length L → Stored (getD L k zeroNumber)
@@ -126,20 +127,12 @@ module _ (s : Shelf) (p : ℕ) (bytes : List ℕ) where
         good-holding s good p n (squareOf n L) small (st .few) (stored-square n L st)
     read-good small (fault k o) e = good
 
-    changed-good : (v : Verdict) → (v ≡ Accepted → Good (readTo s p (matrixOf bytes))) → Good (after v s (readTo s p (matrixOf bytes)))
-    changed-good Accepted h = h refl
-    changed-good (Refused w) h = good
-
-    accepted-left : (u v : Verdict) → orElse u v ≡ Accepted → u ≡ Accepted
-    accepted-left Accepted v e = refl
-    accepted-left (Refused w) v e = e
-
     pub load-good : Good (loadCall s p bytes .shelf)
     unfolding loadCall
     load-good =
-        changed-good (firstOf (loadTests s p bytes))
+        after-good s (readTo s p (matrixOf bytes)) good (firstOf (loadTests s p bytes))
         (λ e.
-        let t = target-accepted s p (accepted-left (firstOf (targetTests s p)) (ofReading bytes (matrixOf bytes)) (sym load-verdict ∙ e)) in
+        let t = target-accepted s p (first-passed (targetTests s p) (ofReading bytes (matrixOf bytes)) e .0) in
         read-good (t .small) (matrixOf bytes) refl)
 
     pub load-answered : (x : Changed) → x ≡ loadCall s p bytes → (x ≡ loadCall s p bytes) × Good (x .shelf)

@@ -18,7 +18,7 @@ use Rattle.places.specs.declared.Verdict.{Verdict}
 use Rattle.places.specs.declared.Verdict.the-variants.{Accepted, Refused}
 use Rattle.shelf.specs.declared.Written.{Written}
 use Rattle.shelf.specs.declared.Written.the-variants as write
-use Rattle.places.specs.Table.{factorsOf}
+use Rattle.walk.specs.Table.{factorsOf}
 use Rattle.places.specs.Shelf.{rowsAt, tableAt}
 use Rattle.places.specs.Refusal.{firstOf, orElse, after, when, refused, sourceTests}
 use Rattle.shelf.specs.Calls.{bytesAt, writeTests, written, writeCall, bytesAfter}

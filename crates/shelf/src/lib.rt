@@ -1,16 +1,24 @@
 // The shelf of eight matrices, and its calls. A shelf goes in by value and comes back; a refused call hands it back as it was.
 ghost use mathlib.Core.Path.{_≡_};
-ghost use Prim.Native.Nat.{_≤_, _<_};
-ghost use Rattle.places.specs.Shelf.{emptyShelf, Good};
-ghost use Rattle.shelf.specs.Calls.{changed, loadCall, dropCall, writeCall, bytesAfter, transposeCall};
-use number::Number;
+ghost use Rattle.places.specs.Shelf.{Good};
+ghost use Rattle.shelf.specs.Calls.{changed, loadCall, dropCall, writeCall, bytesAfter};
+ghost use Rattle.shelf.specs.ListCalls.{carryCall, itemsAfter, reversalsCall};
+pub use operations::Bounded;
+pub use operations::Operated;
+pub use operations::Valued;
+pub use operations::converse;
+pub use operations::inverse;
+pub use operations::minor;
+pub use operations::product;
+pub use operations::submatrix;
+pub use operations::transpose;
 pub use places::Refusal;
 pub use places::Shelf;
 pub use places::Verdict;
 use places::judge;
+pub use places::new;
 use places::tables;
-
-mod operations; // operations.rt: their results, and how these are kept
+pub use reader::behind;
 
 // The shelf after a call that only changes it.
 pub struct Changed {
@@ -24,23 +32,9 @@ pub enum Written {
     Refused(Refusal),
 }
 
-pub enum Bounded {
-    // The result's factors are within so many unit roundings.
-    Bound(u32),
+pub enum Reversals {
+    Count(u64),
     Refused(Refusal),
-}
-
-// The result of an operation before it is kept.
-pub struct Proposed {
-    answer: Bounded,
-    rows: usize,
-    factors: [Number; 64],
-}
-
-// The shelf after an operation.
-pub struct Operated {
-    pub shelf: Shelf,
-    pub answer: Bounded,
 }
 
 // A call that was turned down hands the shelf back as it was.
@@ -124,11 +118,34 @@ pub fn write(shelf: Shelf, place: usize, out: &mut [u8]) -> Written
     }
 }
 
-// The transpose of a place, to an empty place.
-pub fn transpose(shelf: Shelf, source: usize, target: usize) -> Operated
+// Carries a list of items through the word of a place, to a second list, past whose first n items nothing is changed. An item is lent as three numbers: sign, mantissa, exponent.
+pub fn carry(shelf: Shelf, place: usize, items: &[i64], out: &mut [i64]) -> Verdict
     requires { ⌜ Good shelf ⌝ }
-    ensures { λ r. ⌜ r ≡ transposeCall shelf source target ⌝ }
-    ensures { λ r. ⌜ Good (r .shelf) ⌝ }
+    ensures { λ r. ⌜ r ≡ carryCall shelf place (now (items .entry)) (now (out .entry)) ⌝ }
+    ensures { λ _. ⌜ now (out .exit) ≡ itemsAfter shelf place (now (items .entry)) (now (out .entry)) ⌝ }
 {
-    operations::keep(shelf, target, operations::transposed(shelf, source, target))
+    let first = judge::source(shelf, place);
+    if let Verdict::Refused(why) = first {
+        return Verdict::Refused(why);
+    }
+    let n = places::rows_at(shelf, place);
+    let answer = lists::carry(places::table_at(shelf, place), n, items, out);
+    match answer {
+        lists::Answer::Done => Verdict::Accepted,
+        lists::Answer::Refused(number) => judge::refused(number as u8),
+    }
+}
+
+// Counts the reversals in a list of 1 to 8 items.
+pub fn count_reversals(items: &[i64]) -> Reversals
+    ensures { λ r. ⌜ r ≡ reversalsCall (now (items .entry)) ⌝ }
+{
+    let answer = lists::reversals(items);
+    match answer {
+        lists::Counted::Reversals(count) => Reversals::Count(count),
+        lists::Counted::Refused(number) => Reversals::Refused(Refusal {
+            number: number as u8,
+            offset: 0,
+        }),
+    }
 }

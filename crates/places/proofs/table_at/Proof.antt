@@ -1,8 +1,9 @@
+use Rattle.walk.specs.Table.{absent}
 use Rattle.writer.proofs.Parts.{length-mapped}
 use Prim.Native.Nat.{ℕ, _+_, _*_, _-_}
 use mathlib.Core.Path.{refl}
 use lib.ListN.{getD}
-use Rattle.places.proofs.Filled.{unread, Filled, filled-none, filled-more}
+use Rattle.places.proofs.Filled.{Filled, filled-none, filled-more}
 use Rattle.places.proofs.Holding.{table-read}
 use borrow.Author.Needs.{needs}
 use Rattle.places.proofs.table_at.Statement.{statement}
@@ -12,7 +13,7 @@ use Rattle.places.proofs.table_at.Lts as lts
 use Rattle.number.proofs.Number.zero.Reads as zero-reads
 
 abbrev Inv-loop : tie.InvT-loop
-Inv-loop place shelf t₀ k₀ t k = Filled unread (λ i. getD (shelf .numbers) (place * 64 + i) unread) 64 k t
+Inv-loop place shelf t₀ k₀ t k = Filled absent (λ i. getD (shelf .numbers) (place * 64 + i) absent) 64 k t
 
 abbrev μ-loop : tie.MeasureT-loop
 μ-loop place shelf t₀ k₀ t k = 64 - k
@@ -23,7 +24,7 @@ zero-requires c κs = search needs
 
 -- src/places.rt:23:5
 loop-holds : tie.Need-loop-holds Inv-loop μ-loop
-loop-holds c = filled-none unread _ 64 _ refl
+loop-holds c = filled-none absent _ 64 _ refl
 
 -- src/places.rt:24:18
 mul-at : tie.Need-mul-at Inv-loop μ-loop
@@ -59,7 +60,7 @@ loop-less c = search needs
 
 -- src/places.rt:23:5
 loop-again : tie.Need-loop-again Inv-loop μ-loop
-loop-again c = filled-more unread _ 64 (c .before .before .loop .inv) (c .before .loop-test .taken) _ refl
+loop-again c = filled-more absent _ 64 (c .before .before .loop .inv) (c .before .loop-test .taken) _ refl
 
 -- src/places.rt:17:1
 returns : tie.Need-returns Inv-loop μ-loop

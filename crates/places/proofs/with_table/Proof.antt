@@ -1,3 +1,4 @@
+use Rattle.walk.specs.Table.{absent}
 use lib.ListN.{getD}
 use Prim.Native.Nat.{_+_}
 use lib.ListN.{set}
@@ -12,7 +13,6 @@ use Prim.Native.Nat.{ℕ, _*_, _-_, _≤_}
 use mathlib.Core.Path.{_≡_, refl}
 use lib.ListN.{length, take}
 use lib.Seq.{sets}
-use Rattle.places.proofs.Filled.{unread}
 use Rattle.places.proofs.Holding.{put-more}
 use Rattle.places.specs.Shelf.{withTable}
 use native.Mathlib.Omega.{arith}
@@ -71,7 +71,7 @@ loop-again c =
     let l = c .before .before .loop in
     let k = l .k in (
       omega arith,
-      ap (λ (x : List Number). set x (a .place * 64 + k) (getD (a .t4) k unread)) (l .inv .1) ∙ put-more (a .shelf .numbers) (a .t4) (a .place * 64) k (search needs),
+      ap (λ (x : List Number). set x (a .place * 64 + k) (getD (a .t4) k absent)) (l .inv .1) ∙ put-more (a .shelf .numbers) (a .t4) (a .place * 64) k (search needs),
       l .inv .2,
       l .inv .3,
     )

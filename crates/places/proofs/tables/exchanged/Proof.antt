@@ -2,7 +2,7 @@ use Prim.Native.Nat.{_-_}
 use mathlib.Core.Path.{refl, _∙_}
 use Rattle.number.specs.Number.{zeroNumber}
 use Rattle.words.specs.Word.{exchanged}
-use Rattle.places.specs.Table.{factorsOf}
+use Rattle.walk.specs.Table.{factorsOf}
 use Rattle.places.proofs.Filled.{Filled, filled-none, filled-more}
 use Rattle.places.proofs.Table.{cellAt, table-filled, exchanged-cell}
 use borrow.Author.Needs.{needs}

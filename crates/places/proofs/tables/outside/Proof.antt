@@ -1,3 +1,4 @@
+use Rattle.walk.specs.Table.{absent}
 use borrow.Author.Tests.{not-true, not-false}
 use mathlib.Core.Path.{sym, _∙_}
 use mathlib.Core.Bool.{false}
@@ -7,7 +8,6 @@ use mathlib.Core.Path.{_≡_}
 use mathlib.Core.Bool.{true}
 use lib.ListN.{getD}
 use Rattle.number.specs.Number.{inRange}
-use Rattle.places.proofs.Filled.{unread}
 use Rattle.places.proofs.Table.{outside-all, outside-some}
 use native.Mathlib.Omega.{arith}
 use borrow.Author.Needs.{needs}
@@ -18,7 +18,7 @@ use Rattle.places.proofs.tables.outside.Lts as lts
 use Rattle.number.proofs.Number.in_range.Reads as in-range-reads
 
 abbrev Inv-loop : tie.InvT-loop
-Inv-loop t k₀ k = (k ≤ 64) × ((i : ℕ) → i < k → inRange (getD t i unread) ≡ true)
+Inv-loop t k₀ k = (k ≤ 64) × ((i : ℕ) → i < k → inRange (getD t i absent) ≡ true)
 
 abbrev μ-loop : tie.MeasureT-loop
 μ-loop t k₀ k = 64 - k
@@ -41,7 +41,7 @@ in-range-requires c κs = search needs
 
 -- src/tables.rt:70:13
 returns : tie.Need-returns Inv-loop μ-loop
-returns c = sym (outside-some unread (c .before .before .before .before .before .args .t1) _ (search needs) (sym (c .before .in-range .ensures) ∙ not-true _ (c .if1 .taken)))
+returns c = sym (outside-some absent (c .before .before .before .before .before .args .t1) _ (search needs) (sym (c .before .in-range .ensures) ∙ not-true _ (c .if1 .taken)))
 
 -- src/tables.rt:67:9
 add-k : tie.Need-add-k Inv-loop μ-loop
@@ -65,7 +65,7 @@ loop-again c =
 
 -- src/tables.rt:64:1
 returns-2 : tie.Need-returns-2 Inv-loop μ-loop
-returns-2 c = sym (outside-all unread (c .before .before .args .t1) (λ i h. c .before .loop .inv .1 i (omega (arith, c .loop-test .left))))
+returns-2 c = sym (outside-all absent (c .before .before .args .t1) (λ i h. c .before .loop .inv .1 i (omega (arith, c .loop-test .left))))
 
 pub outside-spec : {M : Type 1} → statement M
 outside-spec =

@@ -4,7 +4,7 @@ use native.Mathlib.Nat.{mul-le-mul}
 use Prim.Native.Nat.{_-_, _*_, _≤_}
 use mathlib.Core.Path.{_≡_, refl, _∙_}
 use Rattle.number.specs.Number.{zeroNumber}
-use Rattle.places.specs.Table.{factorsOf}
+use Rattle.walk.specs.Table.{factorsOf}
 use Rattle.places.proofs.Filled.{Filled, filled-none, filled-more}
 use Rattle.places.proofs.Table.{some-rows, packedAt, packed-below, packed-cell, packed-filled}
 use borrow.Author.Needs.{needs}

@@ -1,0 +1,4 @@
+-- Laws that belong to no one function.
+pub mod Proposals
+pub mod Results
+pub mod MinorCalls

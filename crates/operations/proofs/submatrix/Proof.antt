@@ -1,0 +1,37 @@
+use Rattle.operations.proofs.Results.{submatrix-ready, operation-done}
+use borrow.Author.Needs.{needs}
+use Rattle.operations.proofs.submatrix.Statement.{statement}
+use Rattle.operations.proofs.submatrix.Tie as tie
+use Rattle.operations.proofs.submatrix.Reads as reads
+use Rattle.operations.proofs.submatrix.Lts as lts
+use Rattle.operations.proofs.work.keep.Reads as keep-reads
+use Rattle.operations.proofs.work.submatrix.Reads as submatrix-reads
+use Rattle.rowset.proofs.wide.Reads as wide-reads
+
+-- src/lib.rt:84:9
+wide-requires : tie.Need-wide-requires
+wide-requires c κs = search needs
+
+-- src/lib.rt:85:9
+wide-requires-2 : tie.Need-wide-requires-2
+wide-requires-2 c κs = search needs
+
+-- src/lib.rt:86:31
+submatrix-requires : tie.Need-submatrix-requires
+submatrix-requires c κs = (c .before .before .pre, c .before .wide .ensures .1, c .wide2 .ensures .1)
+
+-- src/lib.rt:86:5
+keep-requires : tie.Need-keep-requires
+keep-requires c κs = c .submatrix .ensures .1
+
+-- src/lib.rt:78:1
+returns : tie.Need-returns
+returns c =
+    let begin = c .before .before .before .before in
+    let a = begin .args in
+    operation-done _ (a .target) _ _ (submatrix-ready (a .shelf) (begin .pre) (a .source) (a .rows) (a .columns) (a .target)) (a .shelf) (begin .pre) _ _
+    (rw (c .before .before .before .wide .ensures .0, c .before .before .wide2 .ensures .0) at (c .before .submatrix .ensures .0)) (c .keep .ensures)
+
+pub submatrix-spec : {M : Type 1} → statement M
+submatrix-spec =
+    tie.close (tie.spec wide-requires wide-requires-2 submatrix-requires keep-requires returns)

@@ -1,0 +1,44 @@
+use Prim.Native.Nat.{ℕ, _<_, _^_}
+use native.Mathlib.Omega.{arith}
+use mathlib.Core.Path.{_≡_, refl, ap, _∙_}
+use mathlib.Core.Bool.{Bool, true, false}
+use lib.Dec.{ltb}
+use lib.IntN.{ℤ, pos, subℕ, _-ℤ_}
+use mir.Syntax.{w64}
+use mir.Val.{SFits, toZ}
+use mir.Facts.{toZ-ofZ, toZ-pos}
+use Rattle.number.specs.Number.{bias}
+use borrow.Author.Needs.{needs}
+use Rattle.operations.proofs.value.exponent.Statement.{statement}
+use Rattle.operations.proofs.value.exponent.Tie as tie
+use Rattle.operations.proofs.value.exponent.Reads as reads
+use Rattle.operations.proofs.value.exponent.Lts as lts
+
+-- a difference of two numbers, by which is larger
+less-fits : (x : ℕ) → x < 2 ^ 32 → SFits w64 (pos x -ℤ pos bias)
+less-fits x h = by (ltb x bias) refl
+  where
+    by : (t : Bool) → ltb x bias ≡ t → SFits w64 (subℕ x bias)
+    by true e = rw e (record { sfits = omega arith })
+    by false e = rw e (record { sfits = omega arith })
+
+plain : (c : tie.Start) → toZ w64 (c .args .x) ≡ pos (c .args .x)
+plain c = toZ-pos w64 (omega (arith, c .pre))
+
+fits : (c : tie.Start) → SFits w64 (toZ w64 (c .args .x) -ℤ pos bias)
+fits c = rw (plain c) (less-fits _ (c .pre))
+
+-- src/value.rt:23:5
+cast-result : tie.Need-cast-result
+cast-result c = search needs
+
+-- src/value.rt:23:5
+sub-result : tie.Need-sub-result
+sub-result c = fits c
+
+-- src/value.rt:19:1
+returns : tie.Need-returns
+returns c = toZ-ofZ (fits c) ∙ ap (λ (z : ℤ). z -ℤ pos bias) (plain c)
+
+pub exponent-spec : {M : Type 1} → statement M
+exponent-spec = tie.close (tie.spec cast-result sub-result returns)

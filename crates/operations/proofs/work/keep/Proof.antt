@@ -1,0 +1,43 @@
+use Rattle.operations.specs.declared.Operated.{Operated}
+use Rattle.places.specs.declared.Shelf.{Shelf}
+use Rattle.operations.specs.declared.Bounded.the-variants.{Bound}
+use Rattle.operations.proofs.Proposals.{kept-by, keepable-bound}
+use mathlib.Core.Path.{_≡_, refl, ap}
+use Rattle.operations.specs.Operations.{kept}
+use borrow.Author.Needs.{needs}
+use Rattle.operations.proofs.work.keep.Statement.{statement}
+use Rattle.operations.proofs.work.keep.Tie as tie
+use Rattle.operations.proofs.work.keep.Reads as reads
+use Rattle.operations.proofs.work.keep.Lts as lts
+use Rattle.places.proofs.with_table.Reads as with-table-reads
+
+-- src/operations.rt:34:24
+enum-known-answer : tie.Need-enum-known-answer
+enum-known-answer c = search needs
+
+-- src/operations.rt:37:24
+with-table-requires : tie.Need-with-table-requires
+with-table-requires c κs = keepable-bound (c .before .before .before .before .args .shelf) _ (c .before .before .before .before .args .result) _ (c .before .before .answer .given .1) (c .before .before .before .before .pre)
+
+-- src/operations.rt:41:26
+enum-known-answer-2 : tie.Need-enum-known-answer-2
+enum-known-answer-2 c = search needs
+
+-- src/operations.rt:28:1
+returns : tie.Need-returns
+returns c =
+    let known = c .before .before .before in
+    let a = known .before .before .args in
+    kept-by (a .shelf) (a .target) (a .result) _ (known .answer .given .1) _
+    (ap (λ (s : Shelf). let r : Operated = record { shelf = s; answer = Bound (known .answer .given .0 .0) } in r) (c .with-table .ensures))
+
+-- src/operations.rt:28:1
+returns-2 : tie.Need-returns-2
+returns-2 c =
+    let a = c .before .before .before .args in
+    kept-by (a .shelf) (a .target) (a .result) _ (c .before .answer2 .given .1) _ refl
+
+pub keep-spec : {M : Type 1} → statement M
+keep-spec =
+    tie.close
+    (tie.spec enum-known-answer with-table-requires enum-known-answer-2 returns returns-2)

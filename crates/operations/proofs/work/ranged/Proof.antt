@@ -1,0 +1,31 @@
+use mathlib.Core.Path.{sym, ap, _∙_}
+use mathlib.Core.Bool.{Bool, cond}
+use Rattle.operations.specs.Operations.{rangedOf}
+use borrow.Author.Needs.{needs}
+use Rattle.operations.proofs.work.ranged.Statement.{statement}
+use Rattle.operations.proofs.work.ranged.Tie as tie
+use Rattle.operations.proofs.work.ranged.Reads as reads
+use Rattle.operations.proofs.work.ranged.Lts as lts
+use Rattle.operations.proofs.work.refusal.Reads as refusal-reads
+use Rattle.places.proofs.tables.outside.Reads as outside-reads
+
+-- src/work.rt:71:8
+outside-requires : tie.Need-outside-requires
+outside-requires c κs = search needs
+
+-- src/work.rt:72:9
+refusal-requires : tie.Need-refusal-requires
+refusal-requires c κs = search needs
+
+-- src/work.rt:72:9
+returns : tie.Need-returns
+unfolding rangedOf
+returns c = c .refusal .ensures ∙ simp (sym (c .before .before .outside .ensures) ∙ c .before .if1 .taken)
+
+-- src/work.rt:67:1
+returns-2 : tie.Need-returns-2
+unfolding rangedOf
+returns-2 c = simp (sym (c .before .outside .ensures) ∙ c .if1 .left)
+
+pub ranged-spec : {M : Type 1} → statement M
+ranged-spec = tie.close (tie.spec outside-requires refusal-requires returns returns-2)

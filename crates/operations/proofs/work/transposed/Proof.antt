@@ -1,0 +1,80 @@
+use Prim.Native.Nat.{_<_}
+use mathlib.Core.Path.{_≡_, sym, ap, _∙_, subst}
+use Rattle.places.specs.declared.Verdict.the-variants.{Accepted}
+use Rattle.operations.specs.declared.Proposed.{Proposed}
+use Rattle.places.specs.Refusal.{firstOf, oneSource}
+use Rattle.operations.specs.Operations.{Keepable}
+use Rattle.places.proofs.Verdicts.{one-accepted}
+use Rattle.operations.proofs.Proposals.{transpose-turned, transpose-done, transpose-answered}
+use borrow.Author.Needs.{needs}
+use Rattle.operations.proofs.work.transposed.Statement.{statement}
+use Rattle.operations.proofs.work.transposed.Tie as tie
+use Rattle.operations.proofs.work.transposed.Reads as reads
+use Rattle.operations.proofs.work.transposed.Lts as lts
+use Rattle.places.proofs.judge.one_source.Reads as one-source-reads
+use Rattle.operations.proofs.work.refusal.Reads as refusal-reads
+use Rattle.places.proofs.rows_at.Reads as rows-at-reads
+use Rattle.places.proofs.table_at.Reads as table-at-reads
+use Rattle.places.proofs.tables.exchanged.Reads as exchanged-reads
+
+accepted : (c : tie.After-enum-told) → firstOf (oneSource (c .before .before .before .args .shelf) (c .before .before .before .args .source) (c .before .before .before .args .target)) ≡ Accepted
+accepted c = sym (c .before .before .one-source .ensures) ∙ c .enum-told .given .1
+
+source-small : (c : tie.After-enum-told) → c .before .before .before .args .source < 8
+source-small c = one-accepted (c .before .before .before .args .shelf) _ (c .before .before .before .args .target) (accepted c) .0 .small
+
+-- src/operations.rt:54:9
+one-source-requires : tie.Need-one-source-requires
+one-source-requires c κs = search needs
+
+-- src/operations.rt:55:29
+enum-known-first : tie.Need-enum-known-first
+enum-known-first c = search needs
+
+-- src/operations.rt:56:9
+refusal-requires : tie.Need-refusal-requires
+refusal-requires c κs = search needs
+
+-- src/operations.rt:56:9
+returns : tie.Need-returns
+returns c =
+    let first = c .before .before in
+    let entry = first .before .before .before in
+    transpose-answered _ _ _ (entry .pre) _ (c .refusal .ensures ∙ transpose-turned _ _ _ _ (sym (first .before .before .one-source .ensures) ∙ first .first .given .1))
+
+enum-told : tie.Need-enum-told
+enum-told c = search needs
+
+-- src/operations.rt:58:9
+rows-at-requires : tie.Need-rows-at-requires
+rows-at-requires c κs = source-small c
+
+-- src/operations.rt:59:37
+table-at-requires : tie.Need-table-at-requires
+table-at-requires c κs = source-small (c .before)
+
+-- src/operations.rt:59:9
+exchanged-requires : tie.Need-exchanged-requires
+exchanged-requires c κs = search needs
+
+-- src/operations.rt:49:1
+returns-2 : tie.Need-returns-2
+returns-2 c =
+    let told = c .before .before .before in
+    let entry = told .before .before .before in
+    transpose-answered _ _ _ (entry .pre) _
+    (transpose-done _ _ _ (entry .pre) _ _ _ (accepted told) (c .before .before .rows-at .ensures) (c .before .table-at .ensures) (c .exchanged .ensures))
+
+pub transposed-spec : {M : Type 1} → statement M
+transposed-spec =
+    tie.close
+    (tie.spec
+    one-source-requires
+    enum-known-first
+    refusal-requires
+    returns
+    enum-told
+    rows-at-requires
+    table-at-requires
+    exchanged-requires
+    returns-2)

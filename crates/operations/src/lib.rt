@@ -1,0 +1,119 @@
+// The operations on places: transpose, product, re-signed inverse, converse, submatrix; and minors. A result is worked first and kept by a step of its own.
+ghost use mathlib.Core.Path.{_≡_};
+ghost use Rattle.places.specs.Shelf.{rowsAt, Good};
+ghost use Rattle.operations.specs.Operations.{productOf, inverseOf, converseOf, submatrixOf};
+ghost use Rattle.operations.specs.Operations.{transposeCall, productCall, inverseCall, converseCall, submatrixCall, minorCall};
+ghost use Rattle.operations.specs.Promise.{Promised};
+use number::Number;
+use places::Refusal;
+use places::Shelf;
+use places::Verdict;
+use places::judge;
+
+mod value; // value.rt: a minor, and exponents as they are answered
+mod work; // work.rt: results, and how they are kept
+
+pub enum Bounded {
+    // The result's factors are within so many unit roundings.
+    Bound(u32),
+    Refused(Refusal),
+}
+
+// The result of an operation before it is kept.
+pub struct Proposed {
+    answer: Bounded,
+    rows: usize,
+    factors: [Number; 64],
+}
+
+pub enum Valued {
+    // A mantissa times 2 to the power of an exponent.
+    Value { mantissa: u64, exponent: i64 },
+    Refused(Refusal),
+}
+
+// The shelf after an operation.
+pub struct Operated {
+    pub shelf: Shelf,
+    pub answer: Bounded,
+}
+
+// The transpose of a place, to an empty place.
+pub fn transpose(shelf: Shelf, source: usize, target: usize) -> Operated
+    requires { ⌜ Good shelf ⌝ }
+    ensures { λ r. ⌜ r ≡ transposeCall shelf source target ⌝ }
+    ensures { λ r. ⌜ Good (r .shelf) ⌝ }
+{
+    work::keep(shelf, target, work::transposed(shelf, source, target))
+}
+
+// The product of two places, left times right, to an empty place.
+pub fn product(shelf: Shelf, left: usize, right: usize, target: usize) -> Operated
+    requires { ⌜ Good shelf ⌝ }
+    ensures { λ r. ⌜ r ≡ productCall shelf left right target ⌝ }
+    ensures { λ r. ⌜ Good (r .shelf) ⌝ }
+    ensures { λ r. ⌜ Promised (r .shelf) target (rowsAt shelf left) (productOf shelf left right) (r .answer) ⌝ }
+{
+    work::keep(shelf, target, work::product(shelf, left, right, target))
+}
+
+// The re-signed inverse of a place, to an empty place.
+pub fn inverse(shelf: Shelf, source: usize, target: usize) -> Operated
+    requires { ⌜ Good shelf ⌝ }
+    ensures { λ r. ⌜ r ≡ inverseCall shelf source target ⌝ }
+    ensures { λ r. ⌜ Good (r .shelf) ⌝ }
+    ensures { λ r. ⌜ Promised (r .shelf) target (rowsAt shelf source) (inverseOf shelf source) (r .answer) ⌝ }
+{
+    work::keep(shelf, target, work::inverse(shelf, source, target))
+}
+
+// The converse of a place, to an empty place.
+pub fn converse(shelf: Shelf, source: usize, target: usize) -> Operated
+    requires { ⌜ Good shelf ⌝ }
+    ensures { λ r. ⌜ r ≡ converseCall shelf source target ⌝ }
+    ensures { λ r. ⌜ Good (r .shelf) ⌝ }
+    ensures { λ r. ⌜ Promised (r .shelf) target (rowsAt shelf source) (converseOf shelf source) (r .answer) ⌝ }
+{
+    work::keep(shelf, target, work::converse(shelf, source, target))
+}
+
+// The chosen rows and columns of a place, given as masks, to an empty place.
+pub fn submatrix(shelf: Shelf, source: usize, rows: u8, columns: u8, target: usize) -> Operated
+    requires { ⌜ Good shelf ⌝ }
+    ensures { λ r. ⌜ r ≡ submatrixCall shelf source rows columns target ⌝ }
+    ensures { λ r. ⌜ Good (r .shelf) ⌝ }
+    ensures { λ r. ⌜ Promised (r .shelf) target (rowsAt shelf source) (submatrixOf shelf source rows columns) (r .answer) ⌝ }
+{
+    let i = rowset::wide(rows);
+    let j = rowset::wide(columns);
+    work::keep(shelf, target, work::submatrix(shelf, source, i, j, target))
+}
+
+// Any minor of a place, its row and column sets given as masks.
+pub fn minor(shelf: Shelf, place: usize, rows: u8, columns: u8) -> Valued
+    requires { ⌜ Good shelf ⌝ }
+    ensures { λ r. ⌜ r ≡ minorCall shelf place rows columns ⌝ }
+{
+    let first = judge::source(shelf, place);
+    if let Verdict::Refused(why) = first {
+        return Valued::Refused(why);
+    }
+    let n = places::rows_at(shelf, place);
+    let i = rowset::wide(rows);
+    let j = rowset::wide(columns);
+    let second = judge::sets(n, i, j);
+    if let Verdict::Refused(why) = second {
+        return Valued::Refused(why);
+    }
+    let a = value::minor(places::table_at(shelf, place), n, i, j);
+    if !a.in_range() {
+        return Valued::Refused(Refusal {
+            number: 14,
+            offset: 0,
+        });
+    }
+    Valued::Value {
+        mantissa: a.m,
+        exponent: value::exponent(a.x),
+    }
+}

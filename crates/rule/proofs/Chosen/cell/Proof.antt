@@ -1,0 +1,66 @@
+-- `Chosen::cell` meets its contract: a row or a column past the k chosen ones, or a factor.
+use mathlib.Core.Path.{sym, ap, ap₂, _∙_}
+use mathlib.Core.Bool.{Bool, cond, _&&_}
+use Prim.Native.Nat.{ℕ, _+_, _/_, _%_}
+use borrow.Author.Tests.{le-leb, lt-leb}
+use lib.Dec.{leb}
+use Rattle.number.specs.Number.{rounded, zeroNumber}
+use Rattle.words.specs.Formula.{newFactor}
+use Rattle.rule.specs.Chosen.{chosenMinor}
+use borrow.Author.Needs.{needs}
+use Rattle.rule.proofs.Chosen.cell.Statement.{statement}
+use Rattle.rule.proofs.Chosen.cell.Tie as tie
+
+add-i : tie.Need-add-i
+add-i c = search needs
+
+add-j : tie.Need-add-j
+add-j c = search needs
+
+zero-requires : tie.Need-zero-requires
+zero-requires c κs = search needs
+
+returns : tie.Need-returns
+returns c =
+    let a = c .before .before .args in
+    let i : ℕ = a .t / 8 + 1 in
+    let j : ℕ = a .t % 8 + 1 in
+    let b = newFactor rounded (a .k) (chosenMinor (a .self)) in
+    c .zero .ensures ∙ ap (λ (x : Bool). cond (x && leb j (a .k)) (b i j) zeroNumber) (sym (lt-leb i (a .k) (c .before .if1 .taken)))
+
+zero-requires-2 : tie.Need-zero-requires-2
+zero-requires-2 c κs = search needs
+
+returns-2 : tie.Need-returns-2
+returns-2 c =
+    let a = c .before .before .before .args in
+    let i : ℕ = a .t / 8 + 1 in
+    let j : ℕ = a .t % 8 + 1 in
+    let b = newFactor rounded (a .k) (chosenMinor (a .self)) in
+    c .zero2 .ensures ∙ ap₂ (λ (x y : Bool). cond (x && y) (b i j) zeroNumber) (sym (le-leb i (a .k) (c .before .before .if1 .left))) (sym (lt-leb j (a .k) (c .before .if2 .taken)))
+
+factor-requires : tie.Need-factor-requires
+factor-requires c κs = search needs
+
+returns-3 : tie.Need-returns-3
+returns-3 c =
+    let b = c .before .before .before in
+    let a = b .args in
+    let i : ℕ = a .t / 8 + 1 in
+    let j : ℕ = a .t % 8 + 1 in
+    c .factor .ensures ∙ ap (λ (k : ℕ). newFactor rounded k (chosenMinor (a .self)) i j) (sym (b .pre .1))
+    ∙ ap₂ (λ (x y : Bool). cond (x && y) (newFactor rounded (a .k) (chosenMinor (a .self)) i j) zeroNumber)
+    (sym (le-leb i (a .k) (c .before .before .if1 .left))) (sym (le-leb j (a .k) (c .before .if2 .left)))
+
+pub cell-spec : {M : Type 1} → statement M
+cell-spec =
+    tie.close
+    (tie.spec
+    add-i
+    add-j
+    zero-requires
+    returns
+    zero-requires-2
+    returns-2
+    factor-requires
+    returns-3)

@@ -1,0 +1,68 @@
+-- `Chosen::factors` meets its contract. The invariant: the first t numbers of the table.
+use borrow.Author.Needs.{needs}
+use mathlib.Core.Path.{refl, _∙_}
+use Prim.Native.Nat.{_-_, _≤_}
+use native.Mathlib.Omega.{arith}
+use Rattle.number.specs.Number.{rounded}
+use Rattle.words.specs.Formula.{newFactor}
+use Rattle.walk.proofs.Sweep.{below-256}
+use Rattle.rule.specs.Chosen.{chosenMinor}
+use Rattle.rule.proofs.Asked.{refactored-is}
+use Rattle.rule.proofs.Tables.{Tabled, tabled-none, tabled-next, tabled-all}
+use Rattle.rule.proofs.Chosen.factors.Statement.{statement}
+use Rattle.rule.proofs.Chosen.factors.Tie as tie
+
+abbrev Inv-loop : tie.InvT-loop
+Inv-loop self k b₀ t₀ b t = (t ≤ 64) × Tabled k (newFactor rounded k (chosenMinor self)) b t
+
+abbrev μ-loop : tie.MeasureT-loop
+μ-loop self k b₀ t₀ b t = 64 - t
+
+count-requires : tie.Need-count-requires Inv-loop μ-loop
+count-requires c κs = below-256 (c .args .self .word .n) (c .args .self .rows) (c .pre .few) (c .pre .rows)
+
+zero-requires : tie.Need-zero-requires Inv-loop μ-loop
+zero-requires c κs = search needs
+
+loop-holds : tie.Need-loop-holds Inv-loop μ-loop
+loop-holds c = (search needs, tabled-none refl)
+
+cell-requires : tie.Need-cell-requires Inv-loop μ-loop
+cell-requires c κs = (c .before .before .before .before .pre, c .before .before .before .count .ensures .0, search needs)
+
+mul-b : tie.Need-mul-b Inv-loop μ-loop
+mul-b c = search needs
+
+array-set-from-b : tie.Need-array-set-from-b Inv-loop μ-loop
+array-set-from-b c = search needs
+
+add-t : tie.Need-add-t Inv-loop μ-loop
+add-t c = search needs
+
+loop-less : tie.Need-loop-less Inv-loop μ-loop
+loop-less c = search needs
+
+loop-again : tie.Need-loop-again Inv-loop μ-loop
+loop-again c = (omega arith, tabled-next (c .before .before .loop .inv .1) (search needs) _ _ (c .cell .ensures) refl)
+
+returns : tie.Need-returns Inv-loop μ-loop
+returns c =
+    let b = c .before .before .before .before in
+    tabled-all (c .before .loop .inv .1) (omega arith) ∙ refactored-is (b .args .self) (b .pre) (c .before .before .before .count .result) (c .before .before .before .count .ensures .0)
+
+pub factors-spec : {M : Type 1} → statement M
+factors-spec =
+    tie.close
+    (tie.spec
+    Inv-loop
+    μ-loop
+    count-requires
+    zero-requires
+    loop-holds
+    cell-requires
+    mul-b
+    array-set-from-b
+    add-t
+    loop-less
+    loop-again
+    returns)

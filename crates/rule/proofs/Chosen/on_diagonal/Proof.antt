@@ -1,0 +1,38 @@
+-- `Chosen::on_diagonal` meets its contract.
+use mathlib.Core.Path.{ap₂, _∙_}
+use Rattle.number.specs.Number.{quotientOf}
+use Rattle.words.specs.Formula.{onDiagonal}
+use Rattle.rule.proofs.Quotients.{usable-reach}
+use borrow.Author.Needs.{needs}
+use Rattle.rule.proofs.Chosen.on_diagonal.Statement.{statement}
+use Rattle.rule.proofs.Chosen.on_diagonal.Tie as tie
+
+run-minor-requires : tie.Need-run-minor-requires
+run-minor-requires c κs = search needs
+
+sub-run-minor : tie.Need-sub-run-minor
+sub-run-minor c = search needs
+
+sub-run-minor-2 : tie.Need-sub-run-minor-2
+sub-run-minor-2 c = search needs
+
+run-minor-requires-2 : tie.Need-run-minor-requires-2
+run-minor-requires-2 c κs = search needs
+
+div-requires : tie.Need-div-requires
+div-requires c κs = let v = c .run-minor2 .ensures .1 in (usable-reach (c .before .run-minor .ensures .1), usable-reach v, v .nonzero)
+
+returns : tie.Need-returns
+unfolding onDiagonal
+returns c = c .div .ensures ∙ ap₂ quotientOf (c .before .before .run-minor .ensures .0) (c .before .run-minor2 .ensures .0)
+
+pub on-diagonal-spec : {M : Type 1} → statement M
+on-diagonal-spec =
+    tie.close
+    (tie.spec
+    run-minor-requires
+    sub-run-minor
+    sub-run-minor-2
+    run-minor-requires-2
+    div-requires
+    returns)

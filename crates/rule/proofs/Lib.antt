@@ -1,0 +1,4 @@
+pub mod Asked
+pub mod Quotients
+pub mod Tables
+pub mod Operations

@@ -1,0 +1,71 @@
+-- From steps and chosen rows to a run of the rule: it can be run (run-proper), and what comes of it (run-result); all rows as a mask (all-mask).
+use mathlib.Core.Path.{_≡_, refl, sym, ap, ap₂, _∙_, subst}
+use mathlib.Core.List.{List}
+use Prim.Native.Nat.{ℕ, _^_, _≤_, _<_}
+use native.Mathlib.Omega.{arith}
+use lib.ListN.{length}
+use Rattle.number.specs.Number.{rounded}
+use Rattle.number.specs.declared.Number.{Number}
+use Rattle.rowset.specs.Mask.{maskCount, maskRun}
+use Rattle.rowset.proofs.Counts.{mask-count, mask-run, run-below}
+use Rattle.words.specs.RowSet.{RowSet, count, rows, ofMask}
+use Rattle.words.specs.Operation.{Step, boundOf, refactored}
+use Rattle.words.proofs.Chosen.{count-all}
+use Rattle.walk.specs.declared.Joined.{Joined}
+use Rattle.walk.specs.Steps.{stepsOf}
+use Rattle.walk.specs.Table.{tableOf}
+use Rattle.rule.specs.declared.Chosen.{Chosen}
+use Rattle.rule.specs.declared.Refactored.{Refactored}
+use Rattle.rule.specs.Chosen.{chosenMinor, Regular, Proper}
+use Rattle.rule.specs.Result.{Workable, refactoredOf}
+
+abbrev chosen : Joined → ℕ → ℕ → Chosen
+chosen w p q = record { word = w; rows = p; columns = q }
+
+proper-own : (w : Joined) (p q : ℕ) → w .count ≤ 6 → p < 2 ^ w .n → q < 2 ^ w .n → Workable (w .n) (stepsOf w) (ofMask (w .n) p) (ofMask (w .n) q) → Proper (chosen w p q)
+unfolding chosenMinor
+proper-own w p q six bp bq W =
+    let ep = mask-count (w .n) p (W .few) bp in
+    record {
+      some = W .some;
+      few = W .few;
+      six = six;
+      rows = bp;
+      columns = bq;
+      equal = sym ep ∙ W .equal ∙ mask-count (w .n) q (W .few) bq;
+      stored = W .stored;
+      regular = subst (λ (k : ℕ). Regular k (chosenMinor (chosen w p q))) ep (W .regular);
+    }
+
+module _ (n : ℕ) (L : List (Step Number)) (w : Joined) (p q : ℕ) (en : w .n ≡ n) (el : stepsOf w ≡ L) (bp : p < 2 ^ n) (bq : q < 2 ^ n) (W : Workable n L (ofMask n p) (ofMask n q)) where
+  pub run-proper : w .count ≤ 6 → Proper (chosen w p q)
+  run-proper six =
+      proper-own w p q six (subst (λ (m : ℕ). p < 2 ^ m) (sym en) bp) (subst (λ (m : ℕ). q < 2 ^ m) (sym en) bq)
+      (subst (λ (M : List (Step Number)). Workable (w .n) M (ofMask (w .n) p) (ofMask (w .n) q)) (sym el) (subst (λ (m : ℕ). Workable m L (ofMask m p) (ofMask m q)) (sym en) W))
+
+  pub run-result : (f : List Number) (k e : ℕ) → f ≡ tableOf (maskCount p) (refactored rounded (w .n) (stepsOf w) (ofMask (w .n) p) (ofMask (w .n) q)) → k ≡ maskCount p → e ≡ boundOf (length L) n
+      → _≡_ {A = Refactored} (record { factors = f; rows = k; bound = e }) (refactoredOf n L (ofMask n p) (ofMask n q))
+  run-result f k e ef ek ee =
+      let c : maskCount p ≡ count (ofMask n p) = sym (mask-count n p (W .few) bp) in
+      let g : f ≡ tableOf (count (ofMask n p)) (refactored rounded n L (ofMask n p) (ofMask n q)) =
+      ef ∙ ap₂ (λ (m : ℕ) (M : List (Step Number)). tableOf (maskCount p) (refactored rounded m M (ofMask m p) (ofMask m q))) en el
+      ∙ ap (λ (m : ℕ). tableOf m (refactored rounded n L (ofMask n p) (ofMask n q))) c in
+      ap₂ (λ (x : List Number) (y : ℕ). record { factors = x; rows = y; bound = e }) g (ek ∙ c)
+      ∙ ap (λ (y : ℕ). record { factors = tableOf (count (ofMask n p)) (refactored rounded n L (ofMask n p) (ofMask n q)); rows = count (ofMask n p); bound = y }) ee
+
+-- ALL ROWS
+module _ (n p : ℕ) (ln : n ≤ 8) (e : p ≡ maskRun 1 n) where
+  pub all-mask : ofMask n p ≡ rows n 1 n
+  all-mask = ap (ofMask n) e ∙ mask-run n 1 n ln (omega arith) ln
+
+  pub all-below : p < 2 ^ n
+  all-below = subst (λ (s : ℕ). s < 2 ^ n) (sym e) (run-below n 1 n (omega arith))
+
+  pub all-workable : (L : List (Step Number)) → Workable n L (rows n 1 n) (rows n 1 n) → Workable n L (ofMask n p) (ofMask n p)
+  all-workable L W = subst (λ (P : RowSet). Workable n L P P) (sym all-mask) W
+
+  pub all-result : (L : List (Step Number)) → refactoredOf n L (ofMask n p) (ofMask n p) ≡ refactoredOf n L (rows n 1 n) (rows n 1 n)
+  all-result L = ap (λ (P : RowSet). refactoredOf n L P P) all-mask
+
+  pub all-count : n ≡ maskCount p
+  all-count = sym (sym (mask-count n p ln all-below) ∙ ap count all-mask ∙ count-all n)

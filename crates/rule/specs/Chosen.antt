@@ -1,0 +1,58 @@
+-- A joined word with chosen rows and columns as the code holds it: the minors that the formulas ask for (chosenMinor), and when the rule can be run (Proper): none of these is zero (Regular).
+use mathlib.Core.Path.{_≡_}
+use mathlib.Core.Bool.{Bool, true, false}
+use Prim.Native.Nat.{ℕ, _+_, _/_, _%_, _^_, _≤_, _<_}
+use lib.ListN.{length}
+use Rattle.number.specs.Number.{rounded, Ranged}
+use Rattle.number.specs.declared.Number.{Number}
+use Rattle.rowset.specs.Mask.{maskCount}
+use Rattle.words.specs.RowSet.{RowSet, count, among, ofMask}
+use Rattle.words.specs.Word.{Factors}
+use Rattle.words.specs.Walk.{minor}
+use Rattle.words.specs.Operation.{joinedWord}
+use Rattle.words.proofs.Exponents.{StoredSteps, runReach}
+use Rattle.walk.specs.Steps.{stepsOf}
+use Rattle.walk.specs.Table.{within}
+use Rattle.rule.specs.declared.Chosen.{Chosen}
+
+-- how many rows are chosen
+abbrev pub sizeOf : Chosen → ℕ
+sizeOf c = maskCount (c .rows)
+
+abbrev pub chosenRows : Chosen → RowSet
+chosenRows c = ofMask (c .word .n) (c .rows)
+
+abbrev pub chosenColumns : Chosen → RowSet
+chosenColumns c = ofMask (c .word .n) (c .columns)
+
+-- the minor at sets that count among the chosen rows and columns
+unfoldable pub chosenMinor : Chosen → RowSet → RowSet → Number
+chosenMinor c I J = minor rounded (joinedWord (c .word .n) (stepsOf (c .word))) (among (chosenRows c) I) (among (chosenColumns c) J)
+
+-- with row sets and column sets exchanged
+abbrev pub turnedBy : {A : Type 0} → Bool → (RowSet → RowSet → A) → RowSet → RowSet → A
+turnedBy true M I J = M J I
+turnedBy false M I J = M I J
+
+-- the number at t of the factors of k rows in rows of eight
+abbrev pub cellAt : ℕ → Factors Number → ℕ → Number
+cellAt k b t = within k b (t / 8 + 1) (t % 8 + 1)
+
+-- no minor of k rows at sets with equally many members is zero
+pub record Regular (k : ℕ) (M : RowSet → RowSet → Number) : Type 0 where
+  pub nonzero : (I J : RowSet) → length I ≡ k → length J ≡ k → count I ≡ count J → 0 < M I J .m
+
+pub record Proper (c : Chosen) : Type 0 where
+  pub some : 1 ≤ c .word .n
+  pub few : c .word .n ≤ 8
+  pub six : c .word .count ≤ 6
+  pub rows : c .rows < 2 ^ c .word .n
+  pub columns : c .columns < 2 ^ c .word .n
+  pub equal : maskCount (c .rows) ≡ maskCount (c .columns)
+  pub stored : StoredSteps (c .word .n) (stepsOf (c .word))
+  pub regular : Regular (sizeOf c) (chosenMinor c)
+
+-- a minor that can be multiplied and divided by
+pub record Usable (a : Number) : Type 0 where
+  pub ranged : Ranged (runReach 6 8) a
+  pub nonzero : 0 < a .m

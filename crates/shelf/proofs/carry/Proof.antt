@@ -1,0 +1,131 @@
+use mathlib.Core.Path.{_≡_, sym, ap, _∙_}
+use denote.Ref.{now}
+use Prim.Native.Nat.{_<_}
+use native.Mathlib.Omega.{arith}
+use Rattle.places.specs.declared.Verdict.the-variants.{Accepted}
+use Rattle.places.specs.Refusal.{firstOf, sourceTests}
+use Rattle.places.proofs.Verdicts.{Source, source-accepted}
+use Rattle.shelf.proofs.Lists.{carry-turned, carry-done, carry-refused, carry-number}
+use borrow.Author.Needs.{needs}
+use Rattle.shelf.proofs.carry.Statement.{statement}
+use Rattle.shelf.proofs.carry.Tie as tie
+use Rattle.shelf.proofs.carry.Reads as reads
+use Rattle.shelf.proofs.carry.Lts as lts
+use Rattle.lists.proofs.carry.Reads as carry-reads
+use Rattle.places.proofs.judge.refused.Reads as refused-reads
+use Rattle.places.proofs.judge.source.Reads as source-reads
+use Rattle.places.proofs.rows_at.Reads as rows-at-reads
+use Rattle.places.proofs.table_at.Reads as table-at-reads
+
+-- the places on the way: entry, the source accepted, the list carried
+abbrev entry : tie.After-enum-told → tie.Start
+entry c = c .before .before .before
+
+abbrev told : tie.After-carry → tie.After-enum-told
+told c = c .before .before .before .before
+
+accepted : (c : tie.After-enum-told) → firstOf (sourceTests (entry c .args .shelf) (entry c .args .place)) ≡ Accepted
+accepted c = sym (c .before .before .source .ensures) ∙ c .enum-told .given .1
+
+source : (c : tie.After-enum-told) → Source (entry c .args .shelf) (entry c .args .place)
+source c = source-accepted _ _ (accepted c)
+
+-- src/lib.rt:127:9
+source-requires : tie.Need-source-requires
+source-requires c κs = search needs
+
+-- src/lib.rt:128:29
+enum-known-first : tie.Need-enum-known-first
+enum-known-first c = search needs
+
+-- src/lib.rt:129:9
+returns : tie.Need-returns
+returns c =
+    let first = c .before in
+    let a = first .before .before .before .args in
+    carry-turned (a .shelf) (a .place) (now (a .items)) (now (a .out)) _ (sym (first .before .before .source .ensures) ∙ first .first .given .1)
+
+enum-told : tie.Need-enum-told
+enum-told c = search needs
+
+-- src/lib.rt:131:9
+rows-at-requires : tie.Need-rows-at-requires
+rows-at-requires c κs = source c .small
+
+-- src/lib.rt:132:31
+table-at-requires : tie.Need-table-at-requires
+table-at-requires c κs = source (c .before) .small
+
+-- src/lib.rt:132:9
+carry-requires : tie.Need-carry-requires
+carry-requires c κs =
+    let told = c .before .before .before in
+    let o = source told in
+    rw (c .before .before .rows-at .ensures, c .before .table-at .ensures) (o .some, entry told .pre .few _ (o .small), entry told .pre .stored _ (o .small))
+
+-- src/lib.rt:134:32
+enum-told-2 : tie.Need-enum-told-2
+enum-told-2 c = search needs
+
+-- src/lib.rt:135:32
+enum-known-answer : tie.Need-enum-known-answer
+enum-known-answer c = search needs
+
+-- src/lib.rt:135:58
+cast-refused : tie.Need-cast-refused
+cast-refused c =
+    let m = c .before .before .before .before in
+    let a = entry (told m) .args in
+    record {
+      fits = carry-number (a .shelf) (a .place) (now (a .items)) (now (a .out)) (accepted (told m)) _ _ (m .before .before .before .rows-at .ensures) (m .before .before .table-at .ensures) _ _
+          (m .carry .ensures .0) (m .carry .ensures .1) _ (c .before .answer .given .1);
+    }
+
+-- src/lib.rt:135:43
+refused-requires : tie.Need-refused-requires
+refused-requires c κs = search needs
+
+-- src/lib.rt:122:1
+same-length : tie.Need-same-length
+same-length c = search needs
+
+-- src/lib.rt:122:1
+returns-2 : tie.Need-returns-2
+returns-2 c =
+    let m = c .before .before .before in
+    let a = entry (told m) .args in
+    carry-done (a .shelf) (a .place) (now (a .items)) (now (a .out)) (accepted (told m)) _ _ (m .before .before .before .rows-at .ensures) (m .before .before .table-at .ensures) _ _
+    (m .carry .ensures .0) (m .carry .ensures .1) (c .enum-told2 .given .1)
+
+-- src/lib.rt:122:1
+same-length-2 : tie.Need-same-length-2
+same-length-2 c = search needs
+
+-- src/lib.rt:122:1
+returns-3 : tie.Need-returns-3
+returns-3 c =
+    let m = c .before .before .before .before .before in
+    let a = entry (told m) .args in
+    let d = carry-refused (a .shelf) (a .place) (now (a .items)) (now (a .out)) (accepted (told m)) _ _ (m .before .before .before .rows-at .ensures) (m .before .before .table-at .ensures) _ _
+    (m .carry .ensures .0) (m .carry .ensures .1) _ (c .before .before .answer .given .1) in
+    (c .refused .ensures ∙ d .0, d .1)
+
+pub carry-spec : {M : Type 1} → statement M
+carry-spec =
+    tie.close
+    (tie.spec
+    source-requires
+    enum-known-first
+    returns
+    enum-told
+    rows-at-requires
+    table-at-requires
+    carry-requires
+    enum-told-2
+    enum-known-answer
+    cast-refused
+    refused-requires
+    same-length
+    returns-2
+    same-length-2
+    returns-3)
