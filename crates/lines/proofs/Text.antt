@@ -1,0 +1,116 @@
+-- Text put one piece behind the other (`puts-behind`), and a byte at a time (`Put`).
+use Prim.Native.Nat.{ℕ, suc, _+_, _-_, _≤_, _<_, min}
+use native.Mathlib.Numerals.{add-one}
+use native.Mathlib.Decide.{decLe}
+use native.Mathlib.Nat.{add-zero}
+use native.Mathlib.Omega.{arith}
+use mathlib.Core.Path.{_≡_, refl, sym, _∙_}
+use mathlib.Core.List.{List, [], _∷_, _++_}
+use lib.ListN.{length, getD, drop, set, length-append, length-set, drop-of-length-le}
+use lib.Seq.{drop-cons, sets, set-out, length-sets}
+use Rattle.lines.specs.Text.{indexAfter, Puts, pairText, pairsText, bytesText}
+
+pub sets-out : (vs l : List ℕ) (i : ℕ) → length l ≤ i → sets l i vs ≡ l
+sets-out [] l i h = refl
+sets-out (a ∷ vs) l i h = rw (set-out l i a h) (sets-out vs l (suc i) (omega arith))
+
+sets-append : (a b l : List ℕ) (i : ℕ) → sets (sets l i a) (i + length a) b ≡ sets l i (a ++ b)
+sets-append [] b l i = rw add-zero
+sets-append (x ∷ a) b l i =
+    let e : i + suc (length a) ≡ suc i + length a = omega arith in
+    rw e (sets-append a b (set l i x) (suc i))
+
+module _ (a b out : List ℕ) (at : ℕ) where
+  sets-behind : sets (sets out at a) (indexAfter out at a) b ≡ sets out at (a ++ b)
+  unfolding indexAfter
+  sets-behind = go (decLe (at + length a) (length out))
+    where
+      go : Dec (at + length a ≤ length out) → sets (sets out at a) (at + min (length a) (length out - at)) b ≡ sets out at (a ++ b)
+      go (yes h) =
+          let e : at + min (length a) (length out - at) ≡ at + length a = omega arith in
+          rw e (sets-append a b out at)
+      go (no n) =
+          let f = length-sets out at a in
+          sets-out b (sets out at a) _ (omega arith) ∙ sym (sets-out b (sets out at a) (at + length a) (omega arith)) ∙ sets-append a b out at
+
+  index-behind : indexAfter (sets out at a) (indexAfter out at a) b ≡ indexAfter out at (a ++ b)
+  unfolding indexAfter
+  index-behind = simp (length-sets, length-append) (omega arith)
+
+-- one piece put behind the other
+pub puts-behind : {a b out out′ out″ : List ℕ} {at to to′ : ℕ} → Puts out at a out′ to → Puts out′ to b out″ to′ → Puts out at (a ++ b) out″ to′
+puts-behind {a} {b} {out} {at = at} p q =
+    record { index = q .index ∙ rw (p .index, p .bytes) (index-behind a b out at); bytes = q .bytes ∙ rw (p .index, p .bytes) (sets-behind a b out at) }
+
+pub bytes-none : (s : List ℕ) → length s ≡ 0 → bytesText s ≡ 45 ∷ []
+bytes-none [] e = refl
+bytes-none (b ∷ s) e = absurd (omega arith)
+
+pub bytes-some : (s : List ℕ) → (length s ≡ 0 → ⊥) → bytesText s ≡ pairsText s
+bytes-some [] n = absurd (n refl)
+bytes-some (b ∷ s) n = refl
+
+pub record Put (out₀ : List ℕ) (at : ℕ) (text out : List ℕ) (to i : ℕ) : Type 0 where
+  pub within : i ≤ length text
+  pub reached : to ≡ at + i
+  pub room : i ≤ length out₀ - at
+  pub kept : length out ≡ length out₀
+  pub same : sets out₀ at text ≡ sets out to (drop i text)
+
+pub put-none : (out : List ℕ) (at : ℕ) (text : List ℕ) → Put out at text out at 0
+put-none out at text = record { within = omega arith; reached = omega arith; room = omega arith; kept = refl; same = refl }
+
+module _ {out₀ : List ℕ} {at : ℕ} {text out : List ℕ} {to i : ℕ} (p : Put out₀ at text out to i) where
+  pub put-end : length text ≤ i → Puts out₀ at text out to
+  unfolding indexAfter
+  put-end h = record { index = omega (arith, p); bytes = sym (p .same ∙ rw (drop-of-length-le text h)) }
+
+  module _ (h : i < length text) where
+    pub put-full : length out ≤ to → Puts out₀ at text out to
+    unfolding indexAfter
+    put-full f = record { index = omega (arith, p); bytes = sym (p .same ∙ sets-out (drop i text) out to f) }
+
+    pub put-more : to < length out → Put out₀ at text (set out to (getD text i 0)) (to + 1) (i + 1)
+    put-more r =
+        record {
+          within = omega arith;
+          reached = omega (arith, p);
+          room = omega (arith, p);
+          kept = length-set out to _ ∙ p .kept;
+          same = p .same ∙ rw (drop-cons text i 0 h, add-one to, add-one i);
+        }
+
+pairs-at : (s : List ℕ) (i : ℕ) → i < length s → pairsText (drop i s) ≡ pairText (getD s i 0) ++ pairsText (drop (i + 1) s)
+unfolding pairsText
+pairs-at s i h = rw (drop-cons s i 0 h, add-one)
+
+pairs-none : pairsText [] ≡ []
+unfolding pairsText
+pairs-none = refl
+
+pub record Spelt (out₀ : List ℕ) (at : ℕ) (s out : List ℕ) (to i : ℕ) : Type 0 where
+  pub within : i ≤ length s
+  pub kept : length out ≡ length out₀
+  pub index : indexAfter out₀ at (pairsText s) ≡ indexAfter out to (pairsText (drop i s))
+  pub same : sets out₀ at (pairsText s) ≡ sets out to (pairsText (drop i s))
+
+pub spelt-none : (out : List ℕ) (at : ℕ) (s : List ℕ) → Spelt out at s out at 0
+spelt-none out at s = record { within = omega arith; kept = refl; index = refl; same = refl }
+
+index-none : (out : List ℕ) (at : ℕ) → indexAfter out at [] ≡ at
+unfolding indexAfter
+index-none out at = omega arith
+
+module _ {out₀ : List ℕ} {at : ℕ} {s out : List ℕ} {to i : ℕ} (p : Spelt out₀ at s out to i) where
+  pub spelt-end : length s ≤ i → Puts out₀ at (pairsText s) out to
+  spelt-end h =
+      record { index = sym (p .index ∙ rw (drop-of-length-le s h, pairs-none, index-none)); bytes = sym (p .same ∙ rw (drop-of-length-le s h, pairs-none)) }
+
+  pub spelt-more : (h : i < length s) (out′ : List ℕ) (to′ : ℕ) → Puts out to (pairText (getD s i 0)) out′ to′ → Spelt out₀ at s out′ to′ (i + 1)
+  spelt-more h out′ to′ q =
+      record {
+        within = omega arith;
+        kept = rw (q .bytes, length-sets) (p .kept);
+        index = p .index ∙ rw (pairs-at s i h, q .index, q .bytes) (sym (index-behind (pairText (getD s i 0)) (pairsText (drop (i + 1) s)) out to));
+        same = p .same ∙ rw (pairs-at s i h, q .index, q .bytes) (sym (sets-behind (pairText (getD s i 0)) (pairsText (drop (i + 1) s)) out to));
+      }

@@ -1,0 +1,18 @@
+-- Words of a line: `wordAt`, from an index to the next space; `nextWord`, where the word behind it starts.
+use Prim.Native.Nat.{ℕ, _+_}
+use mathlib.Core.Bool.{cond}
+use mathlib.Core.List.{List, [], _∷_}
+use lib.Dec.{ltb, eqb}
+use lib.ListN.{length, drop}
+
+-- the bytes before the first that is `stop`; all, where none is
+unfoldable pub before : ℕ → List ℕ → List ℕ
+before stop [] = []
+before stop (b ∷ s) = cond (eqb b stop) [] (b ∷ before stop s)
+
+abbrev pub wordAt : List ℕ → ℕ → List ℕ
+wordAt s at = before 32 (drop at s)
+
+-- where the word behind the one at an index starts, past a space; past the end no word starts
+abbrev pub nextWord : List ℕ → ℕ → ℕ
+nextWord s at = cond (ltb (length s) at) at (at + length (wordAt s at) + 1)

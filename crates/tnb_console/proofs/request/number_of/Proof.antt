@@ -1,0 +1,54 @@
+-- `tnb_console::request::number_of` is safe and ends: thirteen turns.
+use Prim.Native.Nat.{_-_}
+use borrow.Author.Needs.{needs}
+use Rattle.tnb_console.proofs.request.number_of.Statement.{statement}
+use Rattle.tnb_console.proofs.request.number_of.Tie as tie
+
+abbrev Inv-loop : tie.InvT-loop
+Inv-loop word words at₀ k₀ at k = Unit {0}
+
+abbrev μ-loop : tie.MeasureT-loop
+μ-loop word words at₀ k₀ at k = 13 - k
+
+loop-holds : tie.Need-loop-holds Inv-loop μ-loop
+loop-holds c = search needs
+
+word-requires : tie.Need-word-requires Inv-loop μ-loop
+word-requires c κs = search needs
+
+same-requires : tie.Need-same-requires Inv-loop μ-loop
+same-requires c κs = search needs
+
+returns : tie.Need-returns Inv-loop μ-loop
+returns c = search needs
+
+next-word-requires : tie.Need-next-word-requires Inv-loop μ-loop
+next-word-requires c κs = search needs
+
+add-k : tie.Need-add-k Inv-loop μ-loop
+add-k c = search needs
+
+loop-less : tie.Need-loop-less Inv-loop μ-loop
+loop-less c = search needs
+
+loop-again : tie.Need-loop-again Inv-loop μ-loop
+loop-again c = search needs
+
+returns-2 : tie.Need-returns-2 Inv-loop μ-loop
+returns-2 c = search needs
+
+pub number-of-spec : {M : Type 1} → statement M
+number-of-spec =
+    tie.close
+    (tie.spec
+    Inv-loop
+    μ-loop
+    loop-holds
+    word-requires
+    same-requires
+    returns
+    next-word-requires
+    add-k
+    loop-less
+    loop-again
+    returns-2)

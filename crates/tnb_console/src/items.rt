@@ -1,0 +1,154 @@
+// List items, three numbers each: read from words of a line as `sign,mantissa,exponent`, and put as such.
+ghost use Prim.Native.Nat.{_-_, _≤_, _^_};
+use lines::Signed;
+use lines::Whole;
+use lists::whole;
+
+// A mantissa is passed on as a number of 64 bits with a sign.
+const LARGEST: u64 = 0x7fff_ffff_ffff_ffff;
+
+const MOST: usize = 16;
+
+pub enum Items {
+    Count(usize),
+    Malformed,
+}
+
+fn store(list: &mut [i64], at: usize, x: i64) -> bool {
+    if at < list.len() {
+        list[at] = x;
+        return true;
+    }
+    false
+}
+
+fn positive(size: u64) -> i64
+    requires { ⌜ size ≤ 2 ^ 63 - 1 ⌝ }
+{
+    whole::plus(size)
+}
+
+// The least number of 64 bits is alone in having no counterpart.
+fn negative(size: u64) -> i64
+    requires { ⌜ size ≤ 2 ^ 63 ⌝ }
+{
+    if size == 0x8000_0000_0000_0000 {
+        return -0x8000_0000_0000_0000;
+    }
+    whole::minus(size)
+}
+
+// Reads a number with a sign, and puts it at an index of the list.
+fn read_signed(s: &[u8], list: &mut [i64], at: usize) -> bool {
+    let read = lines::read_signed(s);
+    match read {
+        Signed::Plus(n) => store(list, at, positive(n)),
+        Signed::Minus(n) => store(list, at, negative(n)),
+        Signed::Malformed => false,
+    }
+}
+
+// The same of a number without one.
+fn read_whole(s: &[u8], list: &mut [i64], at: usize) -> bool {
+    let read = lines::read_whole(s, LARGEST);
+    match read {
+        Whole::Value(n) => store(list, at, positive(n)),
+        Whole::Malformed => false,
+    }
+}
+
+// Reads an item, and puts its three numbers from an index of the list on.
+fn read_item(word: &[u8], list: &mut [i64], at: usize) -> bool {
+    let a = lines::before(word, b',');
+    if word.len() <= a {
+        return false;
+    }
+    let rest = &word[a + 1..];
+    let b = lines::before(rest, b',');
+    if rest.len() <= b {
+        return false;
+    }
+    if list.len() <= at {
+        return false;
+    }
+    if !read_signed(&word[0..a], list, at) {
+        return false;
+    }
+    if !read_whole(&rest[0..b], list, at + 1) {
+        return false;
+    }
+    read_signed(&rest[b + 1..], list, at + 2)
+}
+
+// Reads each word from an index on as an item, and puts its numbers behind those before it.
+pub fn read(line: &[u8], at: usize, list: &mut [i64]) -> Items {
+    let mut next = at;
+    let mut count: usize = 0;
+    while next <= line.len() {
+        if MOST <= count {
+            return Items::Malformed;
+        }
+        if !read_item(lines::word(line, next), list, count * 3) {
+            return Items::Malformed;
+        }
+        next = lines::next_word(line, next);
+        count += 1;
+    }
+    Items::Count(count)
+}
+
+pub fn put_number(out: &mut [u8], at: usize, x: i64) -> usize {
+    lines::put_signed(out, at, whole::is_negative(x), whole::magnitude(x))
+}
+
+// Puts the item whose numbers stand from an index of the list on.
+fn put_item(out: &mut [u8], at: usize, list: &[i64], k: usize) -> usize {
+    if list.len() <= k {
+        return at;
+    }
+    if list.len() - k < 3 {
+        return at;
+    }
+    let sign = put_number(out, at, list[k]);
+    let comma = lines::put(out, sign, b",");
+    let mantissa = put_number(out, comma, list[k + 1]);
+    let second = lines::put(out, mantissa, b",");
+    put_number(out, second, list[k + 2])
+}
+
+// A space in front of an item that is not the first.
+fn put_space(out: &mut [u8], at: usize, k: usize) -> usize {
+    if k == 0 {
+        return at;
+    }
+    lines::put(out, at, b" ")
+}
+
+// Puts the items of a list, `-` for none.
+pub fn put(out: &mut [u8], at: usize, list: &[i64]) -> usize {
+    if list.len() == 0 {
+        return lines::put(out, at, b"-");
+    }
+    let mut to = at;
+    for item in 0..list.len() / 3 {
+        to = put_space(out, to, item);
+        to = put_item(out, to, list, item * 3);
+    }
+    to
+}
+
+// Sets the item whose numbers stand from an index of the list on to one, times 2^31.
+fn set_item(list: &mut [i64], k: usize) {
+    if k < list.len() {
+        store(list, k, 1);
+        store(list, k + 1, 2147483648);
+        store(list, k + 2, 0);
+    }
+}
+
+// Fills a list with that item, as it is lent.
+pub fn fill(list: &mut [i64]) {
+    for item in 0..list.len() / 3 {
+        set_item(list, item * 3);
+    }
+}

@@ -1,0 +1,95 @@
+#!/usr/bin/env python3
+"""Writes the pairs of matrices in the folders beside it, left.tnb and right.tnb in each.
+
+Each matrix is given by closed forms of its factors b(i,j), rounded to 32 binary digits. They come of the minors of the matrix: with M for
+minors, b(i,i) is M(1..i | 1..i) / M(1..i-1 | 1..i-1), and below the diagonal b(i,j) is
+(M(i-j+1..i | 1..j) M(i-j..i-2 | 1..j-1)) / (M(i-j+1..i-1 | 1..j-1) M(i-j..i-1 | 1..j)); these matrices are symmetric.
+
+- ones: all factors one, two rows: the matrix 1 1; 1 2.
+- pascal: all factors one, five rows: entry (i,j) is the binomial number of i+j-2 over i-1. The minors named above are all one.
+- hilbert: entry (i,j) is 1/(i+j-1), eight rows. Its minors are Cauchy's determinants, which leave b(i,j) = (i-1)^2 / ((i+j-2)(i+j-1)) below
+  the diagonal and b(i,i) = (i-1)!^4 / ((2i-2)! (2i-1)!).
+
+Before a pair is written, the exact factors are multiplied out as fractions and held to the entries.
+"""
+import os
+from fractions import Fraction
+from math import comb, factorial
+
+HERE = os.path.dirname(os.path.abspath(__file__))
+
+
+def one(i, j):
+    return Fraction(1)
+
+
+def hilbert(i, j):
+    if i == j:
+        return Fraction(factorial(i - 1) ** 4, factorial(2 * i - 2) * factorial(2 * i - 1))
+    row, column = max(i, j), min(i, j)
+    return Fraction((row - 1) ** 2, (row + column - 2) * (row + column - 1))
+
+
+def pascal_entry(i, j):
+    return comb(i + j - 2, i - 1)
+
+
+def hilbert_entry(i, j):
+    return Fraction(1, i + j - 1)
+
+
+# folder: rows, factors, entries
+PAIRS = {"ones": (2, one, pascal_entry), "pascal": (5, one, pascal_entry), "hilbert": (8, hilbert, hilbert_entry)}
+
+
+def word(n, factor):
+    """The letters, left to right: the row added to, the row read and the weight; for the diagonal (None, None, its entries)."""
+    for i in range(1, n):
+        for j in range(n - i + 1, n + 1):
+            yield j, j - 1, factor(j, i + j - n)
+    yield None, None, [factor(i, i) for i in range(1, n + 1)]
+    for i in range(n - 1, 0, -1):
+        for j in range(n, n - i, -1):
+            yield j - 1, j, factor(i + j - n, j)
+
+
+def multiplied_out(n, factor):
+    rows = [[Fraction(i == j) for j in range(n)] for i in range(n)]
+    for to, source, weight in reversed(list(word(n, factor))):
+        if to is None:
+            rows = [[weight[i] * x for x in rows[i]] for i in range(n)]
+        else:
+            rows[to - 1] = [x + weight * y for x, y in zip(rows[to - 1], rows[source - 1])]
+    return rows
+
+
+def rounded(x):
+    """Mantissa from 2^31 to 2^32 - 1 and exponent of the nearest number, at a tie the even one."""
+    exponent = x.numerator.bit_length() - x.denominator.bit_length() - 32
+    while x / Fraction(2) ** exponent >= 2 ** 32:
+        exponent += 1
+    mantissa = round(x / Fraction(2) ** exponent)
+    return (mantissa // 2, exponent + 1) if mantissa == 2 ** 32 else (mantissa, exponent)
+
+
+def group(value):
+    low, rest = value % 128, value // 128
+    return bytes([128 + low]) + group(rest) if rest else bytes([low])
+
+
+def encoding(n, factor):
+    numbers = (rounded(factor(i, j)) for i in range(1, n + 1) for j in range(1, n + 1))
+    return group(n) + b"".join(group(e + 1001) + group(m - 2 ** 31) for m, e in numbers)
+
+
+def main():
+    for folder, (n, factor, entry) in PAIRS.items():
+        assert multiplied_out(n, factor) == [[entry(i, j) for j in range(1, n + 1)] for i in range(1, n + 1)], folder
+        os.makedirs(os.path.join(HERE, folder), exist_ok=True)
+        for side in ("left", "right"):
+            with open(os.path.join(HERE, folder, side + ".tnb"), "wb") as file:
+                file.write(encoding(n, factor))
+
+
+if __name__ == "__main__":
+    main()
