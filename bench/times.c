@@ -1,5 +1,5 @@
 /* Times a product by the proved library and by plain.c on the same random factors, one after the other in one process, and compares every
- * factor of the results. times ROUNDS SEED: the least time of ROUNDS rounds for each n. Exit status 1 if a factor differs. */
+ * factor of the results. times ROUNDS SEED: the least processor time of a product in ROUNDS rounds for each n. Exit status 1 if a factor differs. */
 #define _POSIX_C_SOURCE 199309L
 #include "../include/beechcrib.h"
 #include "plain.h"
@@ -23,7 +23,7 @@ static uint64_t next(void)
 static double seconds(void)
 {
     struct timespec t;
-    clock_gettime(CLOCK_MONOTONIC, &t);
+    clock_gettime(CLOCK_PROCESS_CPUTIME_ID, &t);
     return (double)t.tv_sec + 1e-9 * (double)t.tv_nsec;
 }
 
@@ -76,22 +76,20 @@ static int differ(int n)
     return 0;
 }
 
-static double time_plain(int n, int turns)
+static double time_plain(int n, int k, int turns)
 {
     double start = seconds();
     for (int t = 0; t < turns; t++)
-        for (int k = 0; k < INPUTS; k++)
-            plain_product(n, sources[k][0], sources[k][1], results[k]);
-    return (seconds() - start) / turns / INPUTS;
+        plain_product(n, sources[k][0], sources[k][1], results[k]);
+    return (seconds() - start) / turns;
 }
 
-static double time_proved(int turns)
+static double time_proved(int k, int turns)
 {
     double start = seconds();
     for (int t = 0; t < turns; t++)
-        for (int k = 0; k < INPUTS; k++)
-            answers[k] = tnb_product(shelves[k], 0, 1, 2);
-    return (seconds() - start) / turns / INPUTS;
+        answers[k] = tnb_product(shelves[k], 0, 1, 2);
+    return (seconds() - start) / turns;
 }
 
 int main(int argc, char **argv)
@@ -104,13 +102,15 @@ int main(int argc, char **argv)
         double plain = 1e9, proved = 1e9;
         for (int r = 0; r < rounds; r++) {
             draw(n);
-            double a = time_plain(n, turns[n]), b = time_proved(turns[n]);
+            for (int k = 0; k < INPUTS; k++) {
+                double a = time_plain(n, k, turns[n]), b = time_proved(k, turns[n]);
+                plain = a < plain ? a : plain;
+                proved = b < proved ? b : proved;
+            }
             if (differ(n)) {
                 printf("%d  results differ\n", n);
                 return 1;
             }
-            plain = a < plain ? a : plain;
-            proved = b < proved ? b : proved;
         }
         printf("%d  %8.2f  %9.2f  %5.2f\n", n, 1e6 * plain, 1e6 * proved, proved / plain);
     }
