@@ -11,7 +11,7 @@ use number::signed::Signed;
 
 mod carrying; // carrying.rt: items through a word
 mod items; // items.rt: items as three whole numbers
-mod whole; // whole.rt: whole numbers with a sign
+pub mod whole; // whole.rt: whole numbers with a sign
 
 // A carry was done, or was refused with document 01's number.
 pub enum Answer {

@@ -18,12 +18,13 @@ use Rattle.places.specs.declared.Shelf.{Shelf}
 use Rattle.places.specs.declared.Refusal.{Refusal}
 use Rattle.places.specs.declared.Verdict.{Verdict}
 use Rattle.places.specs.declared.Verdict.the-variants.{Accepted, Refused}
+use Rattle.places.specs.Table.{exponentOf}
 use Rattle.places.specs.Shelf.{rowsAt, tableAt, Good}
 use Rattle.places.specs.Refusal.{firstOf, orElse, when, refused, unfit, sourceTests}
 use Rattle.places.proofs.Verdicts.{first-append, first-last, Source, Fit}
 use Rattle.operations.specs.declared.Valued.{Valued}
 use Rattle.operations.specs.declared.Valued.the-variants as value
-use Rattle.operations.specs.Operations.{minorAt, minorTests, exponentOf, valued, minorCall}
+use Rattle.operations.specs.Operations.{minorAt, minorTests, valued, minorCall}
 use Rattle.operations.proofs.Results.{both-true}
 
 module _ (s : Shelf) (p I J : ℕ) where

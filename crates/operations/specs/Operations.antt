@@ -2,10 +2,9 @@
 use Prim.Native.Nat.{ℕ, _≤_, _<_}
 use mathlib.Core.Bool.{not, cond}
 use mathlib.Core.List.{List, [], _∷_, _++_}
-use lib.IntN.{ℤ, subℕ}
 use lib.ListN.{replicate}
 use Rattle.number.specs.declared.Number.{Number}
-use Rattle.number.specs.Number.{bias, zeroNumber, rounded, inRange}
+use Rattle.number.specs.Number.{zeroNumber, rounded, inRange}
 use Rattle.words.specs.RowSet.{ofMask}
 use Rattle.words.specs.Word.{Factors, word, exchanged}
 use Rattle.words.specs.Walk.{minor}
@@ -16,7 +15,7 @@ use Rattle.places.specs.declared.Refusal.{Refusal}
 use Rattle.places.specs.declared.Verdict.{Verdict}
 use Rattle.places.specs.declared.Verdict.the-variants.{Accepted, Refused}
 use Rattle.walk.specs.Table.{tableOf}
-use Rattle.places.specs.Table.{outside}
+use Rattle.places.specs.Table.{outside, exponentOf}
 use Rattle.places.specs.Shelf.{rowsAt, factorsAt, withTable}
 use Rattle.places.specs.Refusal.{firstOf, when, unfit, sourceTests, oneSource, twoSources}
 use Rattle.operations.specs.declared.Bounded.{Bounded}
@@ -112,10 +111,6 @@ minorAt s p I J = minor rounded (word (rowsAt s p) (factorsAt s p)) (ofMask (row
 
 abbrev pub minorTests : Shelf → ℕ → ℕ → ℕ → List Verdict
 minorTests s p I J = sourceTests s p ++ (when (unfit (rowsAt s p) I J) 8 ∷ when (not (inRange (minorAt s p I J))) 14 ∷ [])
-
--- an exponent e that is kept as e + bias
-abbrev pub exponentOf : Number → ℤ
-exponentOf a = subℕ (a .x) bias
 
 abbrev pub valued : Number → Verdict → Valued
 valued a Accepted = value.Value (a .m) (exponentOf a)

@@ -10,7 +10,7 @@ use places::Shelf;
 use places::Verdict;
 use places::judge;
 
-mod value; // value.rt: a minor, and exponents as they are answered
+mod value; // value.rt: a minor
 mod work; // work.rt: results, and how they are kept
 
 pub enum Bounded {
@@ -114,6 +114,6 @@ pub fn minor(shelf: Shelf, place: usize, rows: u8, columns: u8) -> Valued
     }
     Valued::Value {
         mantissa: a.m,
-        exponent: value::exponent(a.x),
+        exponent: places::exponent(a.x),
     }
 }

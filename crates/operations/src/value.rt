@@ -1,8 +1,7 @@
-// Minors of a place, and exponents as they are answered.
+// Minors of one source.
 ghost use mathlib.Core.Path.{_≡_};
 ghost use Prim.Native.Nat.{_^_, _≤_, _<_};
-ghost use lib.IntN.{subℕ};
-ghost use Rattle.number.specs.Number.{bias, rounded, Stored};
+ghost use Rattle.number.specs.Number.{rounded, Stored};
 ghost use Rattle.rowset.specs.Mask.{maskCount};
 ghost use Rattle.words.specs.RowSet.{ofMask};
 ghost use Rattle.words.specs.Word.{word};
@@ -13,17 +12,6 @@ use number::Number;
 use walk::Joined;
 use walk::Step;
 use walk::Way;
-
-// The exponent 0, as it is kept.
-const BIAS: i64 = 4194304;
-
-// The exponent of a number that keeps it as x.
-pub fn exponent(x: u64) -> i64
-    requires { ⌜ x < 2 ^ 32 ⌝ }
-    ensures { λ r. ⌜ r ≡ subℕ x bias ⌝ }
-{
-    x as i64 - BIAS
-}
 
 // The minor of the rows i and the columns j of the matrix of n rows with these factors.
 pub fn minor(factors: [Number; 64], n: usize, i: usize, j: usize) -> Number

@@ -3,3 +3,4 @@ pub mod Loading
 pub mod Dropping
 pub mod Writing
 pub mod Lists
+pub mod FactorReads

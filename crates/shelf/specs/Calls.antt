@@ -1,10 +1,12 @@
--- Load, drop and write (document 01, "Shelf calls"): what each answers, and the shelf and the lent bytes after it, refused calls included.
+-- Load, drop and write (document 01, "Shelf calls"): what each answers, and the shelf and the lent bytes after it, refused calls included. A factor of a place (`factorCall`).
 use Prim.Native.Nat.{ℕ}
-use mathlib.Core.Bool.{cond}
+use mathlib.Core.Bool.{cond, _&&_}
 use mathlib.Core.List.{List, [], _∷_, _++_}
-use lib.Dec.{ltb}
+use lib.Dec.{ltb, leb}
 use lib.ListN.{length}
 use lib.Seq.{sets}
+use Rattle.number.specs.declared.Number.{Number}
+use Rattle.number.specs.Number.{zeroNumber}
 use Rattle.words.specs.Operation.{rowByRow}
 use Rattle.writer.specs.Encoding.{encoding}
 use Rattle.reader.specs.Matrix.{Reading, matrix, fault, matrixOf}
@@ -12,9 +14,10 @@ use Rattle.places.specs.declared.Shelf.{Shelf}
 use Rattle.places.specs.declared.Verdict.{Verdict}
 use Rattle.places.specs.declared.Verdict.the-variants.{Accepted, Refused}
 use Rattle.shelf.specs.declared.Changed.{Changed}
+use Rattle.shelf.specs.declared.Factor.{Factor}
 use Rattle.shelf.specs.declared.Written.{Written}
 use Rattle.shelf.specs.declared.Written.the-variants as write
-use Rattle.places.specs.Table.{squareOf}
+use Rattle.places.specs.Table.{squareOf, exponentOf}
 use Rattle.places.specs.Shelf.{rowsAt, factorsAt, holding, without}
 use Rattle.places.specs.Refusal.{firstOf, after, when, refused, sourceTests, targetTests}
 
@@ -57,3 +60,10 @@ writeCall s p out = written (length (bytesAt s p)) (firstOf (writeTests s p out)
 
 unfoldable pub bytesAfter : Shelf → ℕ → List ℕ → List ℕ
 bytesAfter s p out = after (firstOf (writeTests s p out)) out (sets out 0 (bytesAt s p))
+
+-- A FACTOR of a place; zero, with mantissa and exponent 0, where the place holds none
+abbrev pub factorOr0 : Shelf → ℕ → ℕ → ℕ → Number
+factorOr0 s p i j = cond ((leb 1 i && leb 1 j) && (leb i (rowsAt s p) && leb j (rowsAt s p))) (factorsAt s p i j) zeroNumber
+
+unfoldable pub factorCall : Shelf → ℕ → ℕ → ℕ → Factor
+factorCall s p i j = record { mantissa = factorOr0 s p i j .m; exponent = exponentOf (factorOr0 s p i j) }

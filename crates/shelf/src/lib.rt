@@ -1,7 +1,7 @@
 // The shelf of eight matrices, and its calls. A shelf goes in by value and comes back; a refused call hands it back as it was.
 ghost use mathlib.Core.Path.{_≡_};
 ghost use Rattle.places.specs.Shelf.{Good};
-ghost use Rattle.shelf.specs.Calls.{changed, loadCall, dropCall, writeCall, bytesAfter};
+ghost use Rattle.shelf.specs.Calls.{changed, loadCall, dropCall, writeCall, bytesAfter, factorCall};
 ghost use Rattle.shelf.specs.ListCalls.{carryCall, itemsAfter, reversalsCall};
 pub use operations::Bounded;
 pub use operations::Operated;
@@ -17,6 +17,7 @@ pub use places::Shelf;
 pub use places::Verdict;
 use places::judge;
 pub use places::new;
+pub use places::rows_at;
 use places::tables;
 pub use reader::behind;
 
@@ -35,6 +36,12 @@ pub enum Written {
 pub enum Reversals {
     Count(u64),
     Refused(Refusal),
+}
+
+// A mantissa times 2 to the power of an exponent.
+pub struct Factor {
+    pub mantissa: u64,
+    pub exponent: i64,
 }
 
 // A call that was turned down hands the shelf back as it was.
@@ -147,5 +154,35 @@ pub fn count_reversals(items: &[i64]) -> Reversals
             number: number as u8,
             offset: 0,
         }),
+    }
+}
+
+// The factor of row i and column j of a place, zero where the place holds none.
+pub fn factor_at(shelf: Shelf, place: usize, i: usize, j: usize) -> Factor
+    requires { ⌜ Good shelf ⌝ }
+    ensures { λ r. ⌜ r ≡ factorCall shelf place i j ⌝ }
+{
+    let zero = Factor {
+        mantissa: 0,
+        exponent: 0,
+    };
+    let n = rows_at(shelf, place);
+    if i < 1 {
+        return zero;
+    }
+    if j < 1 {
+        return zero;
+    }
+    if n < i {
+        return zero;
+    }
+    if n < j {
+        return zero;
+    }
+    let t = places::table_at(shelf, place);
+    let a = t[(i - 1) * 8 + (j - 1)];
+    Factor {
+        mantissa: a.m,
+        exponent: places::exponent(a.x),
     }
 }

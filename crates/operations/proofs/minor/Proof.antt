@@ -8,11 +8,12 @@ use lib.IntN.{ℤ}
 use Rattle.number.specs.declared.Number.{Number}
 use Rattle.number.specs.Number.{inRange}
 use Rattle.places.specs.declared.Verdict.the-variants.{Accepted}
+use Rattle.places.specs.Table.{exponentOf}
 use Rattle.places.specs.Shelf.{rowsAt, Good}
 use Rattle.places.specs.Refusal.{firstOf, when, unfit, sourceTests}
 use Rattle.places.proofs.Verdicts.{Source, Fit, source-accepted, sets-accepted}
 use Rattle.operations.specs.declared.Valued.the-variants.{Value}
-use Rattle.operations.specs.Operations.{minorAt, exponentOf}
+use Rattle.operations.specs.Operations.{minorAt}
 use Rattle.operations.proofs.MinorCalls.{minor-turned, minor-unfit, minor-outside, minor-done, minor-is, sets-same, minor-workable, in-range-small}
 use borrow.Author.Tests.{not-true, not-false}
 use borrow.Author.Needs.{needs}
@@ -26,7 +27,7 @@ use Rattle.places.proofs.judge.source.Reads as source-reads
 use Rattle.places.proofs.rows_at.Reads as rows-at-reads
 use Rattle.places.proofs.table_at.Reads as table-at-reads
 use Rattle.rowset.proofs.wide.Reads as wide-reads
-use Rattle.operations.proofs.value.exponent.Reads as exponent-reads
+use Rattle.places.proofs.exponent.Reads as exponent-reads
 use Rattle.operations.proofs.value.minor.Reads as minor-reads
 
 -- the places on the way: entry, the source accepted, the sets judged, the sets accepted
@@ -82,7 +83,7 @@ enum-told c = search needs
 
 -- src/lib.rt:151:9
 rows-at-requires : tie.Need-rows-at-requires
-rows-at-requires c κs = source c .small
+rows-at-requires c κs = search needs
 
 -- src/lib.rt:152:9
 wide-requires : tie.Need-wide-requires

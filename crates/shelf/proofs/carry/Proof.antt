@@ -50,7 +50,7 @@ enum-told c = search needs
 
 -- src/lib.rt:131:9
 rows-at-requires : tie.Need-rows-at-requires
-rows-at-requires c κs = source c .small
+rows-at-requires c κs = search needs
 
 -- src/lib.rt:132:31
 table-at-requires : tie.Need-table-at-requires

@@ -50,7 +50,7 @@ enum-told c = search needs
 
 -- src/lib.rt:141:9
 rows-at-requires : tie.Need-rows-at-requires
-rows-at-requires c κs = source-accepted _ _ (accepted c) .small
+rows-at-requires c κs = search needs
 
 -- src/lib.rt:142:34
 table-at-requires : tie.Need-table-at-requires

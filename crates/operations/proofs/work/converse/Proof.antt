@@ -51,7 +51,7 @@ enum-told c = search needs
 
 -- src/work.rt:122:9
 rows-at-requires : tie.Need-rows-at-requires
-rows-at-requires c κs = source-small c
+rows-at-requires c κs = search needs
 
 -- src/work.rt:123:9
 table-at-requires : tie.Need-table-at-requires

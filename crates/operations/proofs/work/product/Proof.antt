@@ -54,7 +54,7 @@ enum-told c = search needs
 
 -- src/work.rt:93:9
 rows-at-requires : tie.Need-rows-at-requires
-rows-at-requires c κs = left-small c
+rows-at-requires c κs = search needs
 
 -- src/work.rt:94:9
 table-at-requires : tie.Need-table-at-requires

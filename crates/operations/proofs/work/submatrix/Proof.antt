@@ -54,7 +54,7 @@ enum-told c = search needs
 
 -- src/work.rt:149:9
 rows-at-requires : tie.Need-rows-at-requires
-rows-at-requires c κs = fit c .0
+rows-at-requires c κs = search needs
 
 -- src/work.rt:150:9
 table-at-requires : tie.Need-table-at-requires

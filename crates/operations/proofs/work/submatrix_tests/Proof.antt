@@ -33,7 +33,7 @@ enum-told c = search needs
 
 -- src/work.rt:134:42
 rows-at-requires : tie.Need-rows-at-requires
-rows-at-requires c κs = source-small c
+rows-at-requires c κs = search needs
 
 -- src/work.rt:134:30
 sets-requires : tie.Need-sets-requires

@@ -47,7 +47,7 @@ enum-told c = search needs
 
 -- src/operations.rt:58:9
 rows-at-requires : tie.Need-rows-at-requires
-rows-at-requires c κs = source-small c
+rows-at-requires c κs = search needs
 
 -- src/operations.rt:59:37
 table-at-requires : tie.Need-table-at-requires

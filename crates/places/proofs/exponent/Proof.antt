@@ -9,10 +9,10 @@ use mir.Val.{SFits, toZ}
 use mir.Facts.{toZ-ofZ, toZ-pos}
 use Rattle.number.specs.Number.{bias}
 use borrow.Author.Needs.{needs}
-use Rattle.operations.proofs.value.exponent.Statement.{statement}
-use Rattle.operations.proofs.value.exponent.Tie as tie
-use Rattle.operations.proofs.value.exponent.Reads as reads
-use Rattle.operations.proofs.value.exponent.Lts as lts
+use Rattle.places.proofs.exponent.Statement.{statement}
+use Rattle.places.proofs.exponent.Tie as tie
+use Rattle.places.proofs.exponent.Reads as reads
+use Rattle.places.proofs.exponent.Lts as lts
 
 -- a difference of two numbers, by which is larger
 less-fits : (x : ℕ) → x < 2 ^ 32 → SFits w64 (pos x -ℤ pos bias)
