@@ -4,3 +4,5 @@ pub mod Dropping
 pub mod Writing
 pub mod Lists
 pub mod FactorReads
+pub mod Sequences
+pub mod RoundTrip
