@@ -1,20 +1,17 @@
--- How programs print a number (`numberText`) and a refusal (`refusalText`).
-use Prim.Native.Nat.{ℕ, _-_}
-use mathlib.Core.Bool.{true, false, cond}
+-- How programs print a whole number (`integerText`), a mantissa with its exponent (`numberText`) and a refusal (`refusalText`).
+use Prim.Native.Nat.{ℕ}
 use mathlib.Core.List.{List, [], _∷_, _++_}
-use lib.Dec.{ltb}
-use Rattle.number.specs.declared.Number.{Number}
-use Rattle.number.specs.Number.{bias}
+use lib.IntN.{ℤ, natAbs}
+use Rattle.lists.specs.Items.{isNegative}
 use Rattle.places.specs.declared.Refusal.{Refusal}
 use Rattle.lines.specs.Text.{decimal, signedText}
 
--- an exponent, from the way it is kept
-unfoldable pub exponentText : ℕ → List ℕ
-exponentText x = cond (ltb x bias) (signedText true (bias - x)) (signedText false (x - bias))
+unfoldable pub integerText : ℤ → List ℕ
+integerText x = signedText (isNegative x) (natAbs x)
 
--- mantissa and exponent, with a space between them
-unfoldable pub numberText : Number → List ℕ
-numberText a = decimal (a .m) ++ ((32 ∷ []) ++ exponentText (a .x))
+-- with a space between them
+unfoldable pub numberText : ℕ → ℤ → List ℕ
+numberText m e = decimal m ++ ((32 ∷ []) ++ integerText e)
 
 -- `refused ` and ` at `
 abbrev pub refusedWord : List ℕ

@@ -1,30 +1,23 @@
 // Numbers and refusals as programs print them.
-ghost use mathlib.Core.Path.{_≡_};
 ghost use Rattle.lines.specs.Text.{Puts};
-ghost use Rattle.answers.specs.Answers.{exponentText, numberText, refusalText};
-use number::Number;
+ghost use Rattle.answers.specs.Answers.{integerText, numberText, refusalText};
+use lists::whole;
 use places::Refusal;
 
-// The exponent 0, as it is kept.
-const BIAS: u64 = 4194304;
-
-// An exponent, from the way it is kept.
-fn put_exponent(out: &mut [u8], at: usize, x: u64) -> usize
-    ensures { λ r. ⌜ Puts (now (out .entry)) at (exponentText x) (now (out .exit)) r ⌝ }
+// A whole number with its sign.
+pub fn put_integer(out: &mut [u8], at: usize, x: i64) -> usize
+    ensures { λ r. ⌜ Puts (now (out .entry)) at (integerText x) (now (out .exit)) r ⌝ }
 {
-    if x < BIAS {
-        return lines::put_signed(out, at, true, BIAS - x);
-    }
-    lines::put_signed(out, at, false, x - BIAS)
+    lines::put_signed(out, at, whole::is_negative(x), whole::magnitude(x))
 }
 
 // Mantissa and exponent, with a space between them.
-pub fn put_number(out: &mut [u8], at: usize, a: Number) -> usize
-    ensures { λ r. ⌜ Puts (now (out .entry)) at (numberText a) (now (out .exit)) r ⌝ }
+pub fn put_number(out: &mut [u8], at: usize, mantissa: u64, exponent: i64) -> usize
+    ensures { λ r. ⌜ Puts (now (out .entry)) at (numberText mantissa exponent) (now (out .exit)) r ⌝ }
 {
-    let space = lines::put_whole(out, at, a.m);
-    let exponent = lines::put(out, space, b" ");
-    put_exponent(out, exponent, a.x)
+    let space = lines::put_whole(out, at, mantissa);
+    let second = lines::put(out, space, b" ");
+    put_integer(out, second, exponent)
 }
 
 // `refused N at O`.

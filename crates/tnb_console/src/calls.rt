@@ -1,8 +1,8 @@
 // Each call that a request asks for, with its answer put into the output.
 ghost use Rattle.places.specs.Shelf.{Good};
 use crate::items;
-use number::Number;
 use shelf::Bounded;
+use shelf::Factor;
 use shelf::Refusal;
 use shelf::Reversals;
 use shelf::Shelf;
@@ -101,11 +101,9 @@ pub fn carry(
     carry_to(shelf, place, list, &mut lent[0..count * 3], out, at)
 }
 
-fn put_valued(out: &mut [u8], at: usize, mantissa: u64, exponent: i64) -> usize {
+fn put_value(out: &mut [u8], at: usize, mantissa: u64, exponent: i64) -> usize {
     let number = lines::put(out, at, b"number ");
-    let space = lines::put_whole(out, number, mantissa);
-    let second = lines::put(out, space, b" ");
-    items::put_number(out, second, exponent)
+    answers::put_number(out, number, mantissa, exponent)
 }
 
 pub fn minor(shelf: Shelf, place: usize, rows: u8, columns: u8, out: &mut [u8], at: usize) -> usize
@@ -113,7 +111,7 @@ pub fn minor(shelf: Shelf, place: usize, rows: u8, columns: u8, out: &mut [u8], 
 {
     let answer = shelf::minor(shelf, place, rows, columns);
     match answer {
-        Valued::Value { mantissa, exponent } => put_valued(out, at, mantissa, exponent),
+        Valued::Value { mantissa, exponent } => put_value(out, at, mantissa, exponent),
         Valued::Refused(why) => answers::put_refusal(out, at, why),
     }
 }
@@ -134,40 +132,54 @@ pub fn rest(bytes: &[u8], out: &mut [u8], at: usize) -> usize {
     lines::put_bytes(out, part, shelf::behind(bytes))
 }
 
-// The factor at a cell of eight rows of eight, behind a space, if n rows have it.
-fn put_cell(out: &mut [u8], at: usize, factors: [Number; 64], n: usize, k: usize) -> usize {
-    if 63 < k {
-        return at;
-    }
-    if n <= k / 8 {
-        return at;
-    }
-    if n <= k % 8 {
-        return at;
-    }
+// A factor, behind a space.
+fn put_factor(out: &mut [u8], at: usize, factor: Factor) -> usize {
     let number = lines::put(out, at, b" ");
-    answers::put_number(out, number, factors[k])
+    answers::put_number(out, number, factor.mantissa, factor.exponent)
 }
 
-fn put_factors(out: &mut [u8], at: usize, factors: [Number; 64], n: usize) -> usize {
+// The factor at a cell of eight rows of eight, if n rows have it.
+fn put_cell(out: &mut [u8], at: usize, shelf: Shelf, place: usize, n: usize, k: usize) -> usize
+    requires { ⌜ Good shelf ⌝ }
+{
+    let i = k / 8;
+    let j = k % 8;
+    if n <= i {
+        return at;
+    }
+    if n <= j {
+        return at;
+    }
+    put_factor(out, at, shelf::factor_at(shelf, place, i + 1, j + 1))
+}
+
+// The factors of n rows, row by row.
+fn put_factors(out: &mut [u8], at: usize, shelf: Shelf, place: usize, n: usize) -> usize
+    requires { ⌜ Good shelf ⌝ }
+{
     let mut to = at;
     for k in 0..64usize {
-        to = put_cell(out, to, factors, n, k);
+        to = put_cell(out, to, shelf, place, n, k);
     }
     to
 }
 
-fn put_matrix(out: &mut [u8], at: usize, factors: [Number; 64], n: usize) -> usize {
+fn put_matrix(out: &mut [u8], at: usize, shelf: Shelf, place: usize) -> usize
+    requires { ⌜ Good shelf ⌝ }
+{
+    let n = shelf::rows_at(shelf, place);
     if n == 0 {
         return lines::put(out, at, b"empty");
     }
     let number = lines::put(out, at, b"matrix ");
     let first = put_index(out, number, n);
-    put_factors(out, first, factors, n)
+    put_factors(out, first, shelf, place, n)
 }
 
 // The console's own word: what a place holds.
-pub fn show(shelf: Shelf, place: usize, out: &mut [u8], at: usize) -> usize {
+pub fn show(shelf: Shelf, place: usize, out: &mut [u8], at: usize) -> usize
+    requires { ⌜ Good shelf ⌝ }
+{
     if 7 < place {
         let why = Refusal {
             number: 1,
@@ -175,10 +187,5 @@ pub fn show(shelf: Shelf, place: usize, out: &mut [u8], at: usize) -> usize {
         };
         return answers::put_refusal(out, at, why);
     }
-    put_matrix(
-        out,
-        at,
-        places::table_at(shelf, place),
-        places::rows_at(shelf, place),
-    )
+    put_matrix(out, at, shelf, place)
 }

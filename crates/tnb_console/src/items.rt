@@ -97,10 +97,6 @@ pub fn read(line: &[u8], at: usize, list: &mut [i64]) -> Items {
     Items::Count(count)
 }
 
-pub fn put_number(out: &mut [u8], at: usize, x: i64) -> usize {
-    lines::put_signed(out, at, whole::is_negative(x), whole::magnitude(x))
-}
-
 // Puts the item whose numbers stand from an index of the list on.
 fn put_item(out: &mut [u8], at: usize, list: &[i64], k: usize) -> usize {
     if list.len() <= k {
@@ -109,11 +105,11 @@ fn put_item(out: &mut [u8], at: usize, list: &[i64], k: usize) -> usize {
     if list.len() - k < 3 {
         return at;
     }
-    let sign = put_number(out, at, list[k]);
+    let sign = answers::put_integer(out, at, list[k]);
     let comma = lines::put(out, sign, b",");
-    let mantissa = put_number(out, comma, list[k + 1]);
+    let mantissa = answers::put_integer(out, comma, list[k + 1]);
     let second = lines::put(out, mantissa, b",");
-    put_number(out, second, list[k + 2])
+    answers::put_integer(out, second, list[k + 2])
 }
 
 // A space in front of an item that is not the first.

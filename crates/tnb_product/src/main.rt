@@ -2,9 +2,9 @@
 // each factor; at the first refusal only that.
 ghost use Rattle.places.specs.Shelf.{Good};
 use libc::STDOUT_FILENO;
-use number::Number;
 use shelf::Bounded;
 use shelf::Changed;
+use shelf::Factor;
 use shelf::Refusal;
 use shelf::Shelf;
 use shelf::Verdict;
@@ -88,42 +88,49 @@ fn put_index(out: &mut [u8], at: usize, n: usize) -> usize {
     lines::put_whole(out, at, n as u64)
 }
 
-// A line for the factor at a cell of eight rows of eight, if n rows have it.
-fn put_cell(out: &mut [u8], at: usize, factors: [Number; 64], n: usize, k: usize) -> usize {
-    if 63 < k {
-        return at;
-    }
-    let row = k / 8;
-    let column = k % 8;
-    if n <= row {
-        return at;
-    }
-    if n <= column {
-        return at;
-    }
-    let space = put_index(out, at, row + 1);
-    let second = lines::put(out, space, b" ");
-    let behind = put_index(out, second, column + 1);
-    let third = lines::put(out, behind, b" ");
-    let end = answers::put_number(out, third, factors[k]);
+// The line of a factor.
+fn put_factor(out: &mut [u8], at: usize, row: usize, column: usize, factor: Factor) -> usize {
+    let first = put_index(out, at, row);
+    let second = lines::put(out, first, b" ");
+    let third = put_index(out, second, column);
+    let fourth = lines::put(out, third, b" ");
+    let end = answers::put_number(out, fourth, factor.mantissa, factor.exponent);
     lines::put(out, end, b"\n")
 }
 
-fn put_factors(out: &mut [u8], at: usize, factors: [Number; 64], n: usize) -> usize {
+// The line of the factor at a cell of eight rows of eight, if n rows have it.
+fn put_cell(out: &mut [u8], at: usize, shelf: Shelf, n: usize, k: usize) -> usize
+    requires { ⌜ Good shelf ⌝ }
+{
+    let i = k / 8;
+    let j = k % 8;
+    if n <= i {
+        return at;
+    }
+    if n <= j {
+        return at;
+    }
+    put_factor(out, at, i + 1, j + 1, shelf::factor_at(shelf, 2, i + 1, j + 1))
+}
+
+fn put_factors(out: &mut [u8], at: usize, shelf: Shelf, n: usize) -> usize
+    requires { ⌜ Good shelf ⌝ }
+{
     let mut to = at;
     for k in 0..64usize {
-        to = put_cell(out, to, factors, n, k);
+        to = put_cell(out, to, shelf, n, k);
     }
     to
 }
 
 // n, and a line for each factor of place 2.
-fn put_result(out: &mut [u8], shelf: Shelf) -> usize {
-    let n = places::rows_at(shelf, 2);
-    let factors = places::table_at(shelf, 2);
+fn put_result(out: &mut [u8], shelf: Shelf) -> usize
+    requires { ⌜ Good shelf ⌝ }
+{
+    let n = shelf::rows_at(shelf, 2);
     let end = put_index(out, 0, n);
     let next = lines::put(out, end, b"\n");
-    put_factors(out, next, factors, n)
+    put_factors(out, next, shelf, n)
 }
 
 fn put_refused(out: &mut [u8], why: Refusal) -> usize {

@@ -1,7 +1,8 @@
 -- `answers::put_number` meets its contract.
+use mathlib.Core.List.{[], _∷_}
+use mir.Facts.{toZ-ofZ}
 use Rattle.lines.proofs.Text.{puts-behind}
 use Rattle.answers.specs.Answers.{numberText}
-use mathlib.Core.List.{[], _∷_}
 use borrow.Author.Needs.{needs}
 use Rattle.answers.proofs.put_number.Statement.{statement}
 use Rattle.answers.proofs.put_number.Tie as tie
@@ -15,15 +16,17 @@ slice-aggregate-put c = search needs
 put-requires : tie.Need-put-requires
 put-requires c κs = search needs
 
-put-exponent-requires : tie.Need-put-exponent-requires
-put-exponent-requires c κs = search needs
+put-integer-requires : tie.Need-put-integer-requires
+put-integer-requires c κs = search needs
 
 same-length : tie.Need-same-length
 same-length c = search needs
 
 returns : tie.Need-returns
 unfolding numberText
-returns c = puts-behind (c .before .before .before .before .before .before .before .before .before .before .before .put-whole .ensures) (puts-behind {a = 32 ∷ []} (c .before .before .before .before .before .before .put .ensures) (c .before .before .put-exponent .ensures))
+returns c =
+    let e = toZ-ofZ (c .before .before .before .before .before .before .before .before .before .before .before .before .before .before .fits .exponent) in
+    puts-behind (c .before .before .before .before .before .before .before .before .before .before .before .put-whole .ensures) (puts-behind {a = 32 ∷ []} (c .before .before .before .before .before .before .put .ensures) (rw e at (c .before .before .put-integer .ensures)))
 
 pub put-number-spec : {M : Type 1} → statement M
 put-number-spec =
@@ -32,6 +35,6 @@ put-number-spec =
     put-whole-requires
     slice-aggregate-put
     put-requires
-    put-exponent-requires
+    put-integer-requires
     same-length
     returns)
