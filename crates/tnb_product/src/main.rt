@@ -110,7 +110,13 @@ fn put_cell(out: &mut [u8], at: usize, shelf: Shelf, n: usize, k: usize) -> usiz
     if n <= j {
         return at;
     }
-    put_factor(out, at, i + 1, j + 1, shelf::factor_at(shelf, 2, i + 1, j + 1))
+    put_factor(
+        out,
+        at,
+        i + 1,
+        j + 1,
+        shelf::factor_at(shelf, 2, i + 1, j + 1),
+    )
 }
 
 fn put_factors(out: &mut [u8], at: usize, shelf: Shelf, n: usize) -> usize
