@@ -5,7 +5,7 @@ use native.Mathlib.Numerals.{add-one}
 use native.Mathlib.Omega.{arith}
 use mathlib.Core.Path.{_≡_, refl, sym, ap, _∙_}
 use mathlib.Core.Logic.{_⊎_, inl, inr}
-use mathlib.Core.Bool.{Bool, true, false, not, _&&_, cond}
+use mathlib.Core.Bool.{Bool, true, false, not, _&&_, cond, and-false}
 use mathlib.Core.List.{List}
 use lib.ListN.{length, getD, drop, drop-of-length-le}
 use lib.Seq.{drop-cons}
@@ -21,10 +21,6 @@ abbrev behind : ℕ → ℕ → ℕ → Group → Group
 behind a p i (Value v n) = cond (eqb v 0 && not (eqb i 0)) Faulty (Value (a + p * v) (i + n))
 behind a p i Ended = Ended
 behind a p i Faulty = Faulty
-
-and-false : (t : Bool) → t && false ≡ false
-and-false true = refl
-and-false false = refl
 
 behind-none : (r : Group) → behind 0 1 0 r ≡ r
 behind-none (Value v n) = rw and-false (ap (λ (m : ℕ). Value m (0 + n)) (omega arith) ∙ ap (Value v) (omega arith))

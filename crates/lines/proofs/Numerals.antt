@@ -5,7 +5,7 @@ use native.Mathlib.Nat.{pow-succ', pow-le-pow-right}
 use native.Mathlib.Decide.{decLe}
 use native.Mathlib.Omega.{arith}
 use mathlib.Core.Path.{_≡_, refl, sym, _∙_}
-use mathlib.Core.Bool.{Bool, true, false, not, _&&_}
+use mathlib.Core.Bool.{Bool, true, false, not, _&&_, and-false}
 use mathlib.Core.List.{List, [], _∷_}
 use lib.Dec.{leb, ltb}
 use lib.ListN.{length, getD, drop, drop-of-length-le}
@@ -17,10 +17,6 @@ use Rattle.lines.specs.declared.reading.Whole.the-variants.{Value, Malfo
 use Rattle.lines.specs.declared.reading.Signed.the-variants as Signed
 use Rattle.lines.specs.Decimal.{isNumeral, allNumerals, valueFrom, judged, wholeOf, plus, minus, signedOf, WholeUpTo, SignedFits}
 use Rattle.lines.specs.Text.{decimalIn, decimal}
-
-and-false : (t : Bool) → t && false ≡ false
-and-false true = refl
-and-false false = refl
 
 both : (s t : Bool) → not s && t ≡ true → (s ≡ false) × (t ≡ true)
 both false t e = (refl, e)

@@ -26,10 +26,6 @@ pub record Checked (s : List ℕ) (i : ℕ) : Type 0 where
 pub checked-none : (s : List ℕ) → Checked s 0
 checked-none s = record { within = omega arith; same = refl }
 
-pub or-true : (t : Bool) → t || true ≡ true
-or-true true = refl
-or-true false = refl
-
 module _ {s : List ℕ} {i : ℕ} (p : Checked s i) where
   pub checked-end : length s ≤ i → true ≡ allDigits s
   checked-end h = rw (p .same, drop-of-length-le s h, digits-none)

@@ -1,7 +1,7 @@
 -- Laws of list items: what three numbers are by the code's tests (`Storable`, `item-zero`, `item-value`, `item-malformed`), that it is in range
 -- (`item-ranged`), and three numbers written (`put-is`).
 use mathlib.Core.Path.{_≡_, refl}
-use mathlib.Core.Bool.{Bool, true, false, not, cond, _&&_, false≢true}
+use mathlib.Core.Bool.{Bool, true, false, not, cond, _&&_}
 use mathlib.Core.List.{List, [], _∷_}
 use Prim.Native.Nat.{ℕ, zero, suc, _+_, _^_, _≤_, _<_}
 use native.Mathlib.Omega.{arith}
@@ -11,19 +11,12 @@ use lib.IntN.{ℤ, natAbs}
 use lib.ListN.{set}
 use lib.Seq.{sets}
 use Rattle.number.specs.Signed.{zeroSigned, SignedRanged}
+use Rattle.number.proofs.Tests.{both, unless}
 use Rattle.number.proofs.SignedReach.{signed-ranged-zero}
 use Rattle.lists.specs.Items.{isNegative, biased, storable, itemOf}
 use Rattle.lists.specs.declared.items.Item.{Item}
 use Rattle.lists.specs.declared.items.Item.the-variants.{Value, Malformed}
 use Rattle.lists.proofs.Wholes.{biased-near}
-
-pub both : (s t : Bool) → (s && t) ≡ true → (s ≡ true) × (t ≡ true)
-both true t e = (refl, e)
-both false t e = absurd (false≢true e)
-
-unless : (t : Bool) → (t ≡ true → ⊥) → t ≡ false
-unless true h = absurd (h refl)
-unless false h = refl
 
 module _ (s m e : ℤ) where
   -- a sign of 1 or -1, a mantissa and an exponent in the stored ranges

@@ -22,7 +22,7 @@ use Rattle.lists.specs.Carrying.{Working}
 use Rattle.lists.specs.declared.Answer.the-variants.{Done, Refused}
 use Rattle.lists.specs.declared.Counted.the-variants as counted
 use Rattle.lists.specs.declared.items.Listed.{Listed}
-use Rattle.lists.proofs.ItemForms.{both}
+use Rattle.number.proofs.Tests.{both}
 use Rattle.lists.proofs.Reading.{RangedItems, list-ranged}
 
 -- a proper list, as a reader hands it on

@@ -1,3 +1,5 @@
+pub mod Tests
+pub mod Arrays
 pub mod Closest
 pub mod Rounding
 pub mod Exact

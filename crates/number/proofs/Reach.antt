@@ -9,6 +9,7 @@ use native.Mathlib.Omega.{arith}
 use borrow.Author.Tests.{leb-true, le-leb, ltb-true}
 use lib.Dec.{leb}
 use lib.Pow.{pow-pos, pow-add}
+use Rattle.number.proofs.Tests.{both}
 use Rattle.number.proofs.Rounding.{round-represents, round-start, round-stop, round-zero}
 use Rattle.number.proofs.Zero.{sum-is, sum-comm, sum-zero-left, sum-zero-right, product-zero-left, product-zero-right, quotient-zero-left, round-positive}
 use Rattle.number.proofs.Order.{not-below, difference-is, difference-zero-right}
@@ -36,10 +37,6 @@ ranged-stored {a} s = normal 1000 a (s .low) (s .high) (s .start) (s .stop)
 pub stored-in-range : {a : Number} → Stored a → inRange a ≡ true
 unfolding inRange
 stored-in-range {a} s = simp (le-leb bias (a .x + 1000) (s .start), le-leb (a .x) (bias + 1000) (s .stop))
-
-both : (s t : Bool) → (s && t) ≡ true → (s ≡ true) × (t ≡ true)
-both true t e = (refl, e)
-both false t e = absurd (false≢true e)
 
 pub in-range-stored : {r : ℕ} {a : Number} → Ranged r a → 0 < a .m → inRange a ≡ true → Stored a
 unfolding inRange

@@ -15,7 +15,7 @@ use Rattle.words.specs.Word.{Factors}
 use Rattle.words.specs.Operation.{Operation, product, inverse, converse, submatrix, steps, keptRows, keptColumns, size, bound, rowByRow, result}
 use Rattle.words.proofs.Exponents.{StoredSteps}
 use Rattle.words.proofs.Chosen.{count-all}
-use Rattle.rowset.proofs.Sets.{ofMask-length}
+use Rattle.rowset.proofs.Masks.{ofMask-length}
 use Rattle.rowset.proofs.Counts.{mask-count, count-to, countTo-le}
 use Rattle.factors.specs.Demand.{Each, Proper, Demand}
 use Rattle.factors.proofs.Demanded.{demand}

@@ -8,7 +8,7 @@ use mathlib.Core.List.{List, [], _∷_, _++_}
 use lib.Dec.{ltb, eqb}
 use borrow.Author.Tests.{ltb-false, eqb-true, eqb-false, not-false}
 use Rattle.rowset.specs.Mask.{maskCount, maskBeyond}
-use Rattle.rowset.proofs.Sets.{mask-within}
+use Rattle.rowset.proofs.Masks.{mask-within}
 use Rattle.places.specs.declared.Shelf.{Shelf}
 use Rattle.places.specs.declared.Verdict.{Verdict}
 use Rattle.places.specs.declared.Verdict.the-variants.{Accepted, Refused}

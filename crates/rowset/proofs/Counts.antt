@@ -9,10 +9,12 @@ use lib.Dec.{eqb, eqb→eq}
 use lib.ListN.{length}
 use lib.Pow.{pow-mono, pow-pos}
 use Rattle.words.specs.RowSet.{RowSet, count, equal, rows, ofMask, among}
+use Rattle.words.proofs.RowSets.{equal-true}
+use Rattle.words.proofs.Chosen.{count-among}
 use Rattle.rowset.specs.Mask.{digit, maskHas, countTo, maskCount, maskRun, amongTo, maskAmong}
 use Rattle.rowset.proofs.Finite.{T-true, all₂-at, all₃-at}
 use Rattle.rowset.proofs.Bit.{has-beyond}
-use Rattle.rowset.proofs.Sets.{ofMask-length, ofMask-suc, ofMask-above, above-below, equal-eq}
+use Rattle.rowset.proofs.Masks.{ofMask-length, ofMask-suc, ofMask-above, above-below}
 
 count-cons : (x : Bool) (S : RowSet) → count (x ∷ S) ≡ digit x + count S
 unfolding count
@@ -48,7 +50,7 @@ run-right n a b = equal (ofMask n (maskRun a b)) (rows n a b)
 
 pub mask-run : (n a b : ℕ) → n ≤ 8 → a ≤ 9 → b ≤ 8 → ofMask n (maskRun a b) ≡ rows n a b
 unfolding run-right maskRun equal ofMask rows
-mask-run n a b ln la lb = equal-eq _ _ (T-true _ (all₃-at 9 10 9 run-right tt n a b (omega arith) (omega arith) (omega arith)))
+mask-run n a b ln la lb = equal-true _ _ (T-true _ (all₃-at 9 10 9 run-right tt n a b (omega arith) (omega arith) (omega arith)))
 
 run-count-right : ℕ → ℕ → Bool
 run-count-right a b = eqb (maskCount (maskRun (suc a) b)) (b - a)
@@ -97,15 +99,6 @@ unfolding maskAmong
 among-below n p s l b = rw (amongTo-beyond n p s 8 b l) (amongTo-below n p s)
 
 -- as many rows
-count-among : (P S : RowSet) → length S ≡ count P → count (among P S) ≡ count S
-unfolding count among
-count-among [] [] e = refl
-count-among [] (x ∷ S) e = absurd (omega arith)
-count-among (false ∷ P) S e = count-among P S e
-count-among (true ∷ P) [] e = absurd (omega arith)
-count-among (true ∷ P) (true ∷ S) e = ap suc (count-among P S (omega arith))
-count-among (true ∷ P) (false ∷ S) e = count-among P S (omega arith)
-
 pub among-count : (p s : ℕ) → p < 256 → s < 2 ^ maskCount p → maskCount (maskAmong p s) ≡ maskCount s
 unfolding maskCount
 among-count p s b h =

@@ -1,7 +1,10 @@
 pub mod Finite
 pub mod Bit
-pub mod Sets
+pub mod Masks
 pub mod Counts
 pub mod Moved
+pub mod Tabulated
 pub mod Positions
+pub mod Order
+pub mod Changed
 pub mod Shifts

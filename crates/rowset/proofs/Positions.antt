@@ -1,34 +1,18 @@
--- Positions of masks among the masks with equally many rows: the list of all of them (positions, position-is), below 70 (position-below), no two alike (position-injective).
-use mathlib.Core.Path.{_≡_, refl, sym, ap, _∙_}
+-- Positions of masks among the masks with equally many rows: no two alike (position-injective), all below 70 (position-below).
+use mathlib.Core.Path.{_≡_, refl, sym}
 use mathlib.Core.Bool.{Bool}
-use mathlib.Core.List.{List, [], _∷_}
-use Prim.Native.Nat.{ℕ, zero, suc, _+_, _≤_, _<_}
+use Prim.Native.Nat.{ℕ, suc, _≤_, _<_}
 use native.Mathlib.Decide.{decLt, le-ind}
-use native.Mathlib.Nat.{le-refl, le-of-suc-le-suc, not-suc-le-zero, add-zero, zero-add, add-suc, suc-add}
+use native.Mathlib.Nat.{le-refl}
 use native.Mathlib.Omega.{arith}
 use borrow.Author.Tests.{eq-eqb}
 use lib.Dec.{T, leb, leb→le}
-use lib.ListN.{getD}
 use Rattle.rowset.specs.Mask.{maskHas, countTo, maskCount, countBelow, positionOf}
 use Rattle.rowset.proofs.Finite.{all, all-at}
 use Rattle.rowset.proofs.Counts.{countTo-le}
 
--- the positions of the masks i, i + 1, .. : c of them
-abbrev pub positions : ℕ → ℕ → List ℕ
-positions i zero = []
-positions i (suc c) = positionOf i ∷ positions (suc i) c
-
-positions-at : (i c k : ℕ) → k < c → getD (positions i c) k 0 ≡ positionOf (i + k)
-positions-at i zero k h = absurd (not-suc-le-zero h)
-positions-at i (suc c) zero h = ap positionOf (sym (add-zero i))
-positions-at i (suc c) (suc k) h = positions-at (suc i) c k (le-of-suc-le-suc h) ∙ ap positionOf (suc-add i k ∙ sym (add-suc i k))
-
--- the rule at each entry
-pub position-is : (n s : ℕ) → s < n → getD (positions 0 n) s 0 ≡ positionOf s
-position-is n s h = positions-at 0 n s h ∙ ap positionOf (zero-add s)
-
 -- NO TWO ALIKE
-below-mono : (k s t : ℕ) → s ≤ t → countBelow k s ≤ countBelow k t
+pub below-mono : (k s t : ℕ) → s ≤ t → countBelow k s ≤ countBelow k t
 unfolding countBelow
 below-mono k s t h = le-ind (λ m. countBelow k s ≤ countBelow k m) (le-refl _) (λ m l i. omega arith) t h
 

@@ -16,7 +16,7 @@ use Rattle.rowset.specs.Mask.{digit, maskHas, maskBeyond, maskPut, maskR
 use Rattle.rowset.proofs.Finite.{and-left, and-right, all-at, all₂, all₂-at}
 use Rattle.rowset.proofs.Bit.{has-suc, digit-suc}
 use Rattle.rowset.proofs.Counts.{amongTo-below}
-use Rattle.rowset.proofs.Sets.{put-below}
+use Rattle.rowset.proofs.Masks.{put-below}
 
 -- MEMBERSHIP
 pub shift-has : (s i : ℕ) → eqb (bitAnd (s / 2 ^ (i - 1)) 1) 1 ≡ maskHas i s

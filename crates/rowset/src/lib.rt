@@ -1,10 +1,11 @@
 // Row sets as masks of eight bits, bit 0 for row 1, by shifts and masks.
-mod table;
+pub mod sets; // sets.rt: the sets of k rows, one after the other
+mod table; // table.rt: positions and sets
 
 use table::POSITION;
 ghost use mathlib.Core.Path.{_≡_};
 ghost use Prim.Native.Nat.{_<_, _≤_};
-ghost use Rattle.rowset.specs.Mask.{maskHas, maskBeyond, maskReplaced, maskMoves, maskCount, positionOf, maskRun, maskAmong};
+ghost use Rattle.rowset.specs.Mask.{maskHas, maskBeyond, maskReplaced, maskCount, positionOf, maskRun, maskAmong};
 
 // A byte as a number: a caller's mask, an entry of the table.
 pub fn wide(x: u8) -> usize
@@ -38,14 +39,6 @@ pub fn replaced(s: usize, a: usize, o: usize) -> usize
 {
     let out = 1 << (a - 1);
     ((s | out) ^ out) | (1 << (o - 1))
-}
-
-// s has row a and not row o.
-pub fn moves(s: usize, a: usize, o: usize) -> bool
-    requires { ⌜ (1 ≤ a) × (a ≤ 8) × (1 ≤ o) × (o ≤ 8) ⌝ }
-    ensures { λ r. ⌜ r ≡ maskMoves a o s ⌝ }
-{
-    has(s, a) && !has(s, o)
 }
 
 // How many rows s has.

@@ -11,7 +11,7 @@ use Rattle.number.specs.Number.{rounded, bias, Ranged}
 use Rattle.number.specs.declared.Number.{Number}
 use Rattle.number.proofs.Reach.{ranged-more}
 use Rattle.rowset.specs.Mask.{maskCount, maskAmong, maskRun}
-use Rattle.rowset.proofs.Sets.{ofMask-length}
+use Rattle.rowset.proofs.Masks.{ofMask-length}
 use Rattle.rowset.proofs.Counts.{mask-count, mask-among, among-below, among-count, mask-run, run-count, run-below}
 use Rattle.words.specs.RowSet.{RowSet, count, among, rows, ofMask}
 use Rattle.words.specs.Walk.{minor, walk, oneAt}

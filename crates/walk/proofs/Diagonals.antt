@@ -1,12 +1,12 @@
 -- The entries of D as they are collected (Filled): the first i of them, forwards or backwards; all of them are Entries, and stored where the factors are (entries-stored).
 use mathlib.Core.Path.{_≡_, refl, sym, ap, _∙_, subst}
 use mathlib.Core.Bool.{Bool, true, false, cond}
-use mathlib.Core.List.{List, [], _∷_, map}
+use mathlib.Core.List.{List, [], _∷_}
 use Prim.Native.Nat.{ℕ, zero, suc, _+_, _-_, _*_, _≤_, _<_}
 use native.Mathlib.Nat.{not-suc-le-zero}
 use native.Mathlib.Decide.{ℕ-discrete}
 use native.Mathlib.Omega.{arith}
-use lib.ListN.{getD, set, length, length-set, length-map}
+use lib.ListN.{getD, set, length, length-set}
 use lib.Seq.{getD-set-same, getD-set-other}
 use Rattle.number.specs.Number.{zeroNumber, Stored}
 use Rattle.number.specs.declared.Number.{Number}
@@ -14,10 +14,6 @@ use Rattle.walk.specs.declared.Way.{Way}
 use Rattle.words.specs.RowSet.{In}
 use Rattle.walk.specs.Table.{cellOf, factorsOf, absent}
 use Rattle.walk.specs.Steps.{entriesOf, backwards, entryPlace, StoredEntries, Entries}
-
--- the length of a field that is an array of structs, of which the list of their values is told
-pub length-mapped : (X Y : Type 0) (g : X → Y) (l : List X) (n : ℕ) → length (map g l) ≡ n → length l ≡ n
-length-mapped X Y g l n e = sym (length-map l g) ∙ e
 
 -- which default a read within a list is given does not matter
 pub read-default : (b : List Number) (p : ℕ) → p < length b → getD b p absent ≡ getD b p zeroNumber

@@ -9,7 +9,7 @@ use lib.Pow.{pow-mono}
 use Rattle.number.specs.Number.{rounded, sumOf, productOf, quotientOf, Ranged}
 use Rattle.number.specs.declared.Number.{Number}
 use Rattle.rowset.specs.Mask.{maskOf, maskCount, maskMoves, maskReplaced}
-use Rattle.rowset.proofs.Sets.{maskOf-below, set-back, mask-back, ofMask-length, mask-moves, mask-replaced, replaced-below}
+use Rattle.rowset.proofs.Masks.{maskOf-below, set-back, mask-back, ofMask-length, mask-moves, mask-replaced, replaced-below}
 use Rattle.rowset.proofs.Moved.{replaced-count}
 use Rattle.rowset.proofs.Counts.{mask-count}
 use Rattle.words.specs.RowSet.{RowSet, has, put, replaced, count, ofMask}

@@ -1,5 +1,3 @@
-pub mod Order
-pub mod Changed
 pub mod Held
 pub mod Sweep
 pub mod Moves

@@ -19,7 +19,7 @@ use Rattle.fraction.specs.Arithmetic.{Arithmetic}
 use Rattle.rowset.specs.Mask.{maskHas, countTo, maskCount, positionOf}
 use Rattle.rowset.proofs.Finite.{implies, implies-at, all, all-at}
 use Rattle.rowset.proofs.Counts.{count-to, countTo-le, mask-count}
-use Rattle.rowset.proofs.Sets.{mask-equal, ofMask-length}
+use Rattle.rowset.proofs.Masks.{mask-equal, ofMask-length}
 use Rattle.rowset.proofs.Positions.{position-below}
 use Rattle.words.specs.RowSet.{RowSet, has, replaced, count, equal, ofMask}
 use Rattle.words.specs.Word.{Letter, E, Et, D, Dinv, Word}

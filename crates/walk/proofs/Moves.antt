@@ -12,16 +12,16 @@ use Rattle.number.specs.Number.{rounded, sumOf, productOf, Ranged, Stored, reac
 use Rattle.number.specs.declared.Number.{Number}
 use Rattle.number.proofs.Reach.{ranged-more, ranged-stored, ranged-product}
 use Rattle.rowset.specs.Mask.{maskMoves, maskReplaced, maskCount, countBelow, positionOf}
-use Rattle.rowset.proofs.Sets.{mask-moves, mask-replaced, replaced-below}
+use Rattle.rowset.proofs.Masks.{mask-moves, mask-replaced, replaced-below}
 use Rattle.rowset.proofs.Moved.{replaced-count, replaced-stays}
 use Rattle.rowset.proofs.Positions.{position-injective}
 use Rattle.words.specs.RowSet.{RowSet, has, replaced, ofMask}
 use Rattle.words.specs.Walk.{State, moved, movedIf}
-use Rattle.walk.specs.Sets.{adjacent, Neighbours, closedOf, ChangedAt}
+use Rattle.rowset.specs.Sets.{adjacent, Neighbours, closedOf, ChangedAt}
 use Rattle.walk.specs.Table.{absent}
 use Rattle.walk.specs.Held.{heldAt, stateOf, Agree, Working, letterReach}
-use Rattle.walk.proofs.Order.{position-lt, position-within}
-use Rattle.walk.proofs.Changed.{changedOf, changed-below, closed-below, closed-count, closed-changed}
+use Rattle.rowset.proofs.Order.{position-lt, position-within}
+use Rattle.rowset.proofs.Changed.{changedOf, changed-below, closed-below, closed-count, closed-changed}
 use Rattle.walk.proofs.Held.{held-back, held-working, agree-masks}
 use Rattle.walk.proofs.Sweep.{Swept, below-256, swept-next, swept-all}
 

@@ -10,15 +10,15 @@ use Rattle.number.specs.Number.{rounded, productOf, quotientOf, Ranged, Stored,
 use Rattle.number.specs.declared.Number.{Number}
 use Rattle.number.proofs.Reach.{ranged-more, ranged-stored, ranged-product, ranged-quotient}
 use Rattle.rowset.specs.Mask.{maskHas, maskCount, countBelow, positionOf}
-use Rattle.rowset.proofs.Sets.{ofMask-suc, ofMask-length}
+use Rattle.rowset.proofs.Masks.{ofMask-suc, ofMask-length}
 use Rattle.rowset.proofs.Positions.{position-injective}
 use Rattle.words.specs.RowSet.{RowSet, ofMask}
 use Rattle.words.specs.Walk.{State, scaled}
-use Rattle.walk.specs.Sets.{SetAt}
+use Rattle.rowset.specs.Sets.{SetAt}
 use Rattle.walk.specs.Table.{absent}
 use Rattle.walk.specs.Steps.{scaling, entriesOf}
 use Rattle.walk.specs.Held.{heldAt, stateOf, Agree, Working, letterReach}
-use Rattle.walk.proofs.Order.{position-lt, position-within}
+use Rattle.rowset.proofs.Order.{position-lt, position-within}
 use Rattle.walk.proofs.Held.{held-back, held-working, agree-masks}
 use Rattle.walk.proofs.Sweep.{Swept, below-256, swept-next, swept-all}
 

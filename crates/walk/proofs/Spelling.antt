@@ -16,7 +16,7 @@ use Rattle.walk.specs.declared.Way.{Way}
 use Rattle.walk.specs.declared.Way.the-variants.{Plain, Inverted, Conversed, Transposed}
 use Rattle.walk.specs.declared.letters.Move.{Move}
 use Rattle.walk.specs.declared.letters.Cell.{Cell}
-use Rattle.walk.specs.Sets.{adjacent, Neighbours}
+use Rattle.rowset.specs.Sets.{adjacent, Neighbours}
 use Rattle.walk.specs.Table.{cellOf}
 use Rattle.walk.specs.Steps.{divides, backwards, entryPlace}
 use Rattle.walk.specs.Letters.{middle, placeWord, moveOf, moveAt, MoveWithin, CellAt}

@@ -5,7 +5,7 @@ use Prim.Native.Nat.{ℕ, _+_, _-_, _*_, _/_, _≤_, _<_}
 use lib.ListN.{getD}
 use Rattle.words.specs.Word.{Letter, E, Et, D, Dinv, Word}
 use Rattle.words.specs.Operation.{step, stepWord}
-use Rattle.walk.specs.Sets.{Neighbours}
+use Rattle.rowset.specs.Sets.{Neighbours}
 use Rattle.walk.specs.Steps.{wayOf}
 use Rattle.walk.specs.Table.{cellOf}
 use Rattle.walk.specs.declared.Way.{Way}

@@ -1,4 +1,3 @@
-pub mod Sets
 pub mod Table
 pub mod Steps
 pub mod Letters

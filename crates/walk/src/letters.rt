@@ -5,7 +5,38 @@ ghost use mathlib.Core.Bool.{true};
 ghost use Prim.Native.Nat.{_+_, _-_, _*_, _/_, _≤_, _<_};
 ghost use Rattle.walk.specs.Letters.{middle, moveAt, MoveWithin, CellAt};
 use crate::Way;
-use crate::table::STAGE;
+
+// Which stage of the word the letters of its first half belong to: stage i has i letters.
+const STAGE: [u8; 28] = [
+    1,
+    2,
+    2,
+    3,
+    3,
+    3,
+    4,
+    4,
+    4,
+    4,
+    5,
+    5,
+    5,
+    5,
+    5,
+    6,
+    6,
+    6,
+    6,
+    6,
+    6,
+    7,
+    7,
+    7,
+    7,
+    7,
+    7,
+    7,
+];
 
 // A letter E or Et: the row that is added to, the row that is read, and where its factor stands.
 pub struct Move {

@@ -5,18 +5,17 @@ ghost use Prim.Native.Nat.{_+_, _-_, _*_, _^_, _≤_, _<_};
 ghost use lib.ListN.{getD, take};
 ghost use Rattle.number.specs.Number.{rounded, zeroNumber, Ranged, Stored};
 ghost use Rattle.rowset.specs.Mask.{maskCount};
+ghost use Rattle.rowset.specs.Sets.{Neighbours};
 ghost use Rattle.words.specs.RowSet.{ofMask};
 ghost use Rattle.words.specs.Walk.{oneAt, moved, scaled, act, walk, minor};
 ghost use Rattle.words.specs.Operation.{stepWord, joinedWord};
 ghost use Rattle.words.proofs.Exponents.{StoredStep, StoredSteps};
-ghost use Rattle.walk.specs.Sets.{Neighbours};
 ghost use Rattle.walk.specs.Letters.{middle};
 ghost use Rattle.walk.specs.Held.{stateOf, startOf, Agree, Working, letterReach, stepReach};
 ghost use Rattle.walk.specs.Steps.{scaling, entriesOf, StoredEntries, divides, backwards, Entries, stepOf, stepsOf, letterAt};
 use number::Number;
+use rowset::sets;
 
-mod table;
-pub mod sets; // sets.rt: the sets of k rows, one after the other
 pub mod letters; // letters.rt: the letters of a word by their numbers
 
 // The way that a source's word is taken.

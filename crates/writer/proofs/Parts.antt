@@ -3,8 +3,8 @@ use Prim.Native.Nat.{ℕ, suc, _+_, _-_, _≤_}
 use native.Mathlib.Nat.{zero-add, suc-add, add-zero, add-suc}
 use native.Mathlib.Omega.{arith}
 use mathlib.Core.Path.{_≡_, refl, sym, ap, _∙_}
-use mathlib.Core.List.{List, [], _∷_, _++_, append-nil, map}
-use lib.ListN.{length, take, drop, set, length-drop, take-append-drop, drop-of-length-le, length-map}
+use mathlib.Core.List.{List, [], _∷_, _++_, append-nil}
+use lib.ListN.{length, take, drop, set, length-drop, take-append-drop, drop-of-length-le}
 use lib.Seq.{sets, take-all, length-take-le}
 
 module _ {A : Type 0} where
@@ -33,7 +33,3 @@ module _ {A : Type 0} where
   pub sets-append : (xs vs ws : List A) (a : ℕ) → sets (sets xs a vs) (a + length vs) ws ≡ sets xs a (vs ++ ws)
   sets-append xs [] ws a = rw add-zero
   sets-append xs (v ∷ vs) ws a = rw (add-suc, ← suc-add) (sets-append (set xs a v) vs ws (suc a))
-
--- what owning an array of structs tells is said of the list of their fields' values
-pub length-mapped : (X Y : Type 0) (g : X → Y) (l : List X) (n : ℕ) → length (map g l) ≡ n → length l ≡ n
-length-mapped X Y g l n e = sym (length-map l g) ∙ e

@@ -1,5 +1,5 @@
 use Rattle.walk.specs.Table.{absent}
-use Rattle.writer.proofs.Parts.{length-mapped}
+use Rattle.number.proofs.Arrays.{length-mapped}
 use Prim.Native.Nat.{ℕ, _+_, _*_, _-_}
 use mathlib.Core.Path.{refl}
 use lib.ListN.{getD}

@@ -6,7 +6,7 @@ use lib.Seq.{take-all}
 use mathlib.Core.Path.{sym, ap, _∙_}
 use mathlib.Core.List.{List}
 use Rattle.number.specs.declared.Number.{Number}
-use Rattle.writer.proofs.Parts.{length-mapped}
+use Rattle.number.proofs.Arrays.{length-mapped}
 use Rattle.places.proofs.Holding.{shelf-fields}
 use native.Mathlib.Nat.{le-antisymm}
 use Prim.Native.Nat.{ℕ, _*_, _-_, _≤_}

@@ -1,6 +1,6 @@
 -- `replaced` meets its contract: row a is put in and turned out again, row o is put in.
 use borrow.Author.Needs.{needs}
-use Rattle.rowset.proofs.Sets.{replaced-below}
+use Rattle.rowset.proofs.Masks.{replaced-below}
 use Rattle.rowset.proofs.Shifts.{shift-replaced}
 use Rattle.rowset.proofs.replaced.Statement.{statement}
 use Rattle.rowset.proofs.replaced.Tie as tie

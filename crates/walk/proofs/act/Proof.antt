@@ -7,7 +7,8 @@ use Rattle.walk.specs.Table.{absent}
 use Rattle.walk.specs.Letters.{middle}
 use Rattle.walk.specs.Held.{stateOf, Agree}
 use Rattle.walk.proofs.Held.{agree-trans}
-use Rattle.walk.proofs.Diagonals.{read-default, length-mapped, entries-stored}
+use Rattle.walk.proofs.Diagonals.{read-default, entries-stored}
+use Rattle.number.proofs.Arrays.{length-mapped}
 use Rattle.walk.proofs.Acts.{letter-moved, letter-stored, letter-scaled}
 use borrow.Author.Needs.{needs}
 use Rattle.walk.proofs.act.Statement.{statement}

@@ -5,7 +5,7 @@ use Prim.Native.Nat.{_-_, _^_, _≤_, _<_}
 use native.Mathlib.Omega.{arith}
 use lib.Pow.{pow-mono}
 use Rattle.rowset.specs.Mask.{countBelow}
-use Rattle.walk.proofs.Order.{below-mono}
+use Rattle.rowset.proofs.Positions.{below-mono}
 use Rattle.walk.proofs.Scaling.{SweptDiagonal, diagonal-ready, diagonal-next, diagonal-all}
 use Rattle.walk.proofs.Sweep.{swept-none}
 use Rattle.walk.proofs.diagonal.Statement.{statement}

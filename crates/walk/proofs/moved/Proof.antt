@@ -5,7 +5,7 @@ use Prim.Native.Nat.{ℕ, _+_, _-_, _^_, _≤_, _<_}
 use native.Mathlib.Omega.{arith}
 use lib.Pow.{pow-mono}
 use Rattle.rowset.specs.Mask.{countBelow}
-use Rattle.walk.proofs.Order.{below-mono}
+use Rattle.rowset.proofs.Positions.{below-mono}
 use Rattle.walk.proofs.Moves.{SweptMove, neighbours-two, move-ready, move-next, move-all}
 use Rattle.walk.proofs.Sweep.{swept-none}
 use Rattle.walk.proofs.moved.Statement.{statement}

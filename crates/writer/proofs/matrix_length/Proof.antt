@@ -6,7 +6,7 @@ use mathlib.Core.Path.{_≡_, sym, ap, _∙_}
 use lib.ListN.{length}
 use Rattle.number.specs.declared.Number.{Number}
 use Rattle.writer.specs.Encoding.{factorBytes, factorsOf}
-use Rattle.writer.proofs.Parts.{length-mapped}
+use Rattle.number.proofs.Arrays.{length-mapped}
 use Rattle.writer.proofs.Writing.{Counted, counted-none, counted-more, counted-all, encoding-length, factors-length, factors-at}
 use Rattle.writer.proofs.matrix_length.Statement.{statement}
 use Rattle.writer.proofs.matrix_length.Tie as tie

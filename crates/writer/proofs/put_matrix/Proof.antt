@@ -10,7 +10,8 @@ use denote.Ref.{now}
 use Rattle.group.specs.Group.{bytesOf}
 use Rattle.number.specs.declared.Number.{Number}
 use Rattle.writer.specs.Encoding.{factorBytes, factorsOf}
-use Rattle.writer.proofs.Parts.{part-is, length-mapped}
+use Rattle.writer.proofs.Parts.{part-is}
+use Rattle.number.proofs.Arrays.{length-mapped}
 use Rattle.writer.proofs.Writing.{WrittenSoFar, written-none, written-more, written-room, written-all, counted-all, encoding-length, encoding-sets, factors-length, factors-at, unread}
 use Rattle.writer.proofs.put_matrix.Statement.{statement}
 use Rattle.writer.proofs.put_matrix.Tie as tie

@@ -3,10 +3,11 @@ use Prim.Native.Nat.{_-_}
 use native.Mathlib.Omega.{arith}
 use borrow.Author.Needs.{needs}
 use mathlib.Core.Path.{sym, _∙_}
+use mathlib.Core.Bool.{or-true}
 use mathlib.Core.Logic.{⊎-elim}
 use lib.ListN.{length}
 use borrow.Author.Tests.{not-true, not-false}
-use Rattle.lines.proofs.Pairs.{Checked, checked-none, checked-end, checked-other, checked-more, or-true}
+use Rattle.lines.proofs.Pairs.{Checked, checked-none, checked-end, checked-other, checked-more}
 use Rattle.lines.proofs.reading.all_digits.Statement.{statement}
 use Rattle.lines.proofs.reading.all_digits.Tie as tie
 

@@ -2,7 +2,7 @@
 use mathlib.Core.Path.{_≡_, sym, ap, _∙_}
 use mathlib.Core.Bool.{Bool, true, _&&_}
 use lib.ListN.{length}
-use Rattle.writer.proofs.Parts.{length-mapped}
+use Rattle.number.proofs.Arrays.{length-mapped}
 use Rattle.places.specs.Check.{fewRows, soundNumbers, isGood}
 use Rattle.places.proofs.Checking.{tested-good}
 use borrow.Author.Needs.{needs}

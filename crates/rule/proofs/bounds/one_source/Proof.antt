@@ -3,7 +3,7 @@ use mathlib.Core.Path.{_≡_, ap, _∙_}
 use Prim.Native.Nat.{_+_, _-_}
 use native.Mathlib.Omega.{arith}
 use Rattle.words.specs.Operation.{boundOf}
-use Rattle.walk.proofs.Order.{tabulated, tabulated-at}
+use Rattle.rowset.proofs.Tabulated.{tabulated, tabulated-at}
 use borrow.Author.Needs.{needs}
 use Rattle.rule.proofs.bounds.one_source.Statement.{statement}
 use Rattle.rule.proofs.bounds.one_source.Tie as tie

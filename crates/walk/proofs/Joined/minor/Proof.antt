@@ -11,7 +11,7 @@ use Rattle.words.specs.Operation.{joinedWord}
 use Rattle.walk.specs.Steps.{stepOf, stepsOf}
 use Rattle.walk.specs.Held.{stateOf, Agree}
 use Rattle.walk.proofs.Held.{working-agree}
-use Rattle.walk.proofs.Diagonals.{length-mapped}
+use Rattle.number.proofs.Arrays.{length-mapped}
 use Rattle.walk.proofs.Sweep.{below-256}
 use Rattle.walk.proofs.Minors.{joined-start, joined-next, steps-length, steps-none, steps-next, joined-working, stored-at, minor-held, minor-none, rows-some, rows-few}
 use Rattle.walk.proofs.Joined.minor.Statement.{statement}

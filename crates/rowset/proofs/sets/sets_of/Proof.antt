@@ -5,10 +5,11 @@ use Prim.Native.Nat.{_+_, _*_, _^_, _≤_}
 use native.Mathlib.Omega.{arith}
 use lib.ListN.{getD}
 use lib.Pow.{pow-mono}
 use Rattle.rowset.specs.Mask.{maskHas, countTo, maskCount, countBelow}
-use Rattle.walk.proofs.Order.{tabulated, counted, counted-at, sets-few}
-use Rattle.walk.proofs.sets.sets_of.Statement.{statement}
-use Rattle.walk.proofs.sets.sets_of.Tie as tie
+use Rattle.rowset.proofs.Order.{counted, counted-at, sets-few}
+use Rattle.rowset.proofs.Tabulated.{tabulated}
+use Rattle.rowset.proofs.sets.sets_of.Statement.{statement}
+use Rattle.rowset.proofs.sets.sets_of.Tie as tie
 
 mul-wide : tie.Need-mul-wide
 mul-wide c = search needs

@@ -6,9 +6,9 @@ use Prim.Native.Nat.{ℕ, suc, _+_, _-_, _*_, _/_, _%_, _^_, _≤_, _<_, min}
 use native.Mathlib.Omega.{arith}
 use borrow.Author.Tests.{le-leb, lt-ltb, ltb-true}
 use lib.Dec.{T, eqb, leb, ltb, eqb→eq, leb→le}
 use Rattle.rowset.specs.Mask.{digit, maskHas, maskMoves, countTo, maskCount, positionOf}
 use Rattle.rowset.proofs.Finite.{and-left, and-right, T-true, implies, implies-at, all, all-at, all₃, all₃-at}
-use Rattle.walk.specs.Sets.{adjacent, partedOf, closedOf, SetAt, ChangedAt}
+use Rattle.rowset.specs.Sets.{adjacent, partedOf, closedOf, SetAt, ChangedAt}
 
 unfoldable pub changedOf : ℕ → ℕ → ℕ → ℕ
 changedOf a o m = partedOf (min a o) m + 2 ^ (a - 1)

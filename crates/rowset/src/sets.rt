@@ -2,11 +2,12 @@
 ghost use mathlib.Core.Path.{_≡_};
 ghost use mathlib.Core.Bool.{true};
 ghost use Prim.Native.Nat.{_-_, _^_, _≤_, _<_, min};
 ghost use Rattle.rowset.specs.Mask.{countBelow};
-ghost use Rattle.walk.specs.Sets.{adjacent, partedOf, SetAt, ChangedAt};
+ghost use Rattle.rowset.specs.Sets.{adjacent, partedOf, SetAt, ChangedAt};
 use crate::table::FIRST;
 use crate::table::SETS;
 use crate::table::SETS_OF;
+use crate::wide;
 
 // How many sets of k rows there are of n rows.
 pub fn sets_of(n: usize, k: usize) -> usize
@@ -14,7 +15,7 @@ pub fn sets_of(n: usize, k: usize) -> usize
     ensures { λ r. ⌜ r ≡ countBelow k (2 ^ n) ⌝ }
     ensures { λ r. ⌜ r ≤ 70 ⌝ }
 {
-    rowset::wide(SETS_OF[n * 9 + k])
+    wide(SETS_OF[n * 9 + k])
 }
 
 // The set of k rows at position p.
@@ -22,7 +23,7 @@ pub fn set_at(k: usize, p: usize) -> usize
     requires { ⌜ (k ≤ 8) × (p < countBelow k 256) ⌝ }
     ensures { λ r. ⌜ SetAt k p r ⌝ }
 {
-    rowset::wide(SETS[rowset::wide(FIRST[k]) + p])
+    wide(SETS[wide(FIRST[k]) + p])
 }
 
 fn lower(a: usize, o: usize) -> usize

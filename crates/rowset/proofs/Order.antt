@@ -10,30 +10,27 @@ use borrow.Author.Tests.{eq-eqb, eqb-true}
 use lib.Dec.{T, eqb, leb, eqb→eq, leb→le}
 use lib.ListN.{length, getD, List·getD-append}
 use lib.Seq.{getD-append-add}
 use Rattle.rowset.specs.Mask.{digit, maskHas, countTo, maskCount, countBelow, positionOf}
 use Rattle.rowset.proofs.Finite.{and-left, and-right, all, all-at}
-use Rattle.rowset.proofs.Positions.{position-below}
-use Rattle.walk.specs.Sets.{SetAt}
+use Rattle.rowset.proofs.Tabulated.{tabulated, tabulated-first}
+use Rattle.rowset.proofs.Positions.{below-mono, position-below}
+use Rattle.rowset.specs.Sets.{SetAt}
 
 -- WHERE THEY STAND
-pub below-mono : (k s t : ℕ) → s ≤ t → countBelow k s ≤ countBelow k t
-unfolding countBelow
-below-mono k s t h = le-ind (λ m. countBelow k s ≤ countBelow k m) (le-refl _) (λ m l i. omega arith) t h
-
 below-suc : (k s : ℕ) → maskCount s ≡ k → countBelow k (suc s) ≡ suc (countBelow k s)
 unfolding countBelow
 below-suc k s e = rw (eq-eqb (maskCount s) k e) (omega arith)
 
-pub position-is : (k s : ℕ) → maskCount s ≡ k → positionOf s ≡ countBelow k s
+pub position-counts : (k s : ℕ) → maskCount s ≡ k → positionOf s ≡ countBelow k s
 unfolding positionOf
-position-is k s e = ap (λ (c : ℕ). countBelow c s) e
+position-counts k s e = ap (λ (c : ℕ). countBelow c s) e
 
 -- the sets of k rows below t have the positions below their count, and no others have
 pub position-lt : (k s t : ℕ) → maskCount s ≡ k → s < t → positionOf s < countBelow k t
-position-lt k s t e h = omega (arith, position-is k s e, below-suc k s e, below-mono k (suc s) t h)
+position-lt k s t e h = omega (arith, position-counts k s e, below-suc k s e, below-mono k (suc s) t h)
 
 pub position-within : (k s t : ℕ) → maskCount s ≡ k → positionOf s < countBelow k t → s < t
-position-within k s t e h = elim (decLt s t) [ yes l ↦ l | no l ↦ absurd (omega (arith, position-is k s e, below-mono k t s (omega arith))) ]
+position-within k s t e h = elim (decLt s t) [ yes l ↦ l | no l ↦ absurd (omega (arith, position-counts k s e, below-mono k t s (omega arith))) ]
 
 -- THE TABLE
 abbrev kept : Bool → ℕ → List ℕ → List ℕ
@@ -117,7 +114,7 @@ set-at k p l h =
     let g : p < length (those k 0 256) = rw (those-count k 256) h in
     let e : getD (table 0 9) (before 0 k + p) 0 ≡ getD (those k 0 256) p 0 = rw z at (table-at 0 9 k p (omega arith) (rw z g)) in
     let s = those-at k 0 256 p g in
-    rw e (record { below = omega (arith, s .below); rows = s .rows; position = position-is k (getD (those k 0 256) p 0) (s .rows) ∙ omega (arith, s .before, none-below k) })
+    rw e (record { below = omega (arith, s .below); rows = s .rows; position = position-counts k (getD (those k 0 256) p 0) (s .rows) ∙ omega (arith, s .before, none-below k) })
 
 fits : ℕ → Bool
 fits k = leb (before 0 k + length (those k 0 256)) 256
@@ -140,17 +137,6 @@ sets-few k t l h = elim (decLt 0 (countBelow k 256)) [
 ]
 
 -- HOW MANY
--- f i, f (i + 1), .. : c of them
-unfoldable pub tabulated : (ℕ → ℕ) → ℕ → ℕ → List ℕ
-tabulated f i zero = []
-tabulated f i (suc c) = f i ∷ tabulated f (suc i) c
-
-pub tabulated-at : (f : ℕ → ℕ) (i c t : ℕ) → t < c → getD (tabulated f i c) t 0 ≡ f (i + t)
-unfolding tabulated
-tabulated-at f i zero t h = absurd (not-suc-le-zero h)
-tabulated-at f i (suc c) zero h = let e : i ≡ i + 0 = omega arith in ap f e
-tabulated-at f i (suc c) (suc t) h = let e : suc i + t ≡ i + suc t = omega arith in tabulated-at f (suc i) c t (omega arith) ∙ ap f e
-
 -- the sets of k rows out of n are counted at n * 9 + k
 unfoldable pub counted : ℕ → ℕ
 counted t = countBelow (t % 9) (2 ^ (t / 9))
@@ -158,9 +144,6 @@ counted t = countBelow (t % 9) (2 ^ (t / 9))
 pub counted-at : (n k : ℕ) → n ≤ 8 → k ≤ 8 → getD (tabulated counted 0 81) (n * 9 + k) 0 ≡ countBelow k (2 ^ n)
 unfolding counted
 counted-at n k h l =
-    let a : (0 + (n * 9 + k)) % 9 ≡ k = omega arith in
-    let b : (0 + (n * 9 + k)) / 9 ≡ n = omega arith in
-    tabulated-at counted 0 81 (n * 9 + k) (omega arith) ∙ ap₂ (λ (x y : ℕ). countBelow x (2 ^ y)) a b
-
-pub firsts-at : (k : ℕ) → k ≤ 8 → getD (tabulated (before 0) 0 9) k 0 ≡ before 0 k
-firsts-at k l = let e : 0 + k ≡ k = omega arith in tabulated-at (before 0) 0 9 k (omega arith) ∙ ap (before 0) e
+    let a : (n * 9 + k) % 9 ≡ k = omega arith in
+    let b : (n * 9 + k) / 9 ≡ n = omega arith in
+    tabulated-first counted 81 (n * 9 + k) (omega arith) ∙ ap₂ (λ (x y : ℕ). countBelow x (2 ^ y)) a b

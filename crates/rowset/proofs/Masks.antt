@@ -12,6 +12,7 @@ use lib.Dec.{eqb}
 use lib.ListN.{length}
 use lib.Pow.{mod-pow-add}
 use Rattle.words.specs.RowSet.{RowSet, has, put, replaced, equal, ofMask}
+use Rattle.words.proofs.RowSets.{length-put, equal-same, equal-true}
 use Rattle.rowset.specs.Mask.{digit, maskHas, maskBeyond, maskPut, maskReplaced, maskMoves, maskOf}
 use Rattle.rowset.proofs.Bit.{has-suc, has-top, has-under, digit-suc, digit-le}
 
@@ -23,15 +24,6 @@ ofMask-length (suc n) s = ap suc (ofMask-length n s)
 pub ofMask-suc : (n s : ℕ) → ofMask (suc n) s ≡ maskHas (suc n) s ∷ ofMask n s
 unfolding ofMask
 ofMask-suc n s = ap (λ x. x ∷ ofMask n s) (sym (has-suc n s))
-
-pub put-length : (i : ℕ) (x : Bool) (S : RowSet) → length (put i x S) ≡ length S
-unfolding put
-put-length i x [] = refl
-put-length i x (y ∷ S) = go (eqb i (suc (length S))) (put-length i x S)
-  where
-    go : (b : Bool) → length (put i x S) ≡ length S → length (cond b (x ∷ S) (y ∷ put i x S)) ≡ suc (length S)
-    go true h = refl
-    go false h = ap suc h
 
 pub mask-has : (n i s : ℕ) → 1 ≤ i → i ≤ n → has i (ofMask n s) ≡ maskHas i s
 unfolding has ofMask
@@ -99,7 +91,7 @@ unfolding put maskOf
 maskOf-put i x [] h l = absurd (omega arith)
 maskOf-put i x (y ∷ S) h l = elim (ℕ-discrete i (suc (length S))) [
   | yes e ↦ rw (eq-eqb i (suc (length S)) e, e) (put-top x y (length S) (maskOf S) (maskOf-below S))
-  | no e ↦ rw (ne-eqb i (suc (length S)) e, put-length i x S, maskOf-put i x S h (omega arith)) (put-under x y (length S) (maskOf S) i (maskOf-below S) h (omega arith))
+  | no e ↦ rw (ne-eqb i (suc (length S)) e, length-put i x S, maskOf-put i x S h (omega arith)) (put-under x y (length S) (maskOf S) i (maskOf-below S) h (omega arith))
 ]
 
 module _ (n s : ℕ) (b : s < 2 ^ n) where
@@ -108,12 +100,12 @@ module _ (n s : ℕ) (b : s < 2 ^ n) where
 
   pub mask-put : (i : ℕ) (x : Bool) → 1 ≤ i → i ≤ n → ofMask n (maskPut i x s) ≡ put i x (ofMask n s)
   mask-put i x h l =
-      let e : length (put i x (ofMask n s)) ≡ n = put-length i x (ofMask n s) ∙ ofMask-length n s in
+      let e : length (put i x (ofMask n s)) ≡ n = length-put i x (ofMask n s) ∙ ofMask-length n s in
       ap (ofMask n) (put-is i x h l) ∙ ap (λ k. ofMask k (maskOf (put i x (ofMask n s)))) (sym e) ∙ set-back (put i x (ofMask n s))
 
   pub put-below : (i : ℕ) (x : Bool) → 1 ≤ i → i ≤ n → maskPut i x s < 2 ^ n
   put-below i x h l =
-      let e : length (put i x (ofMask n s)) ≡ n = put-length i x (ofMask n s) ∙ ofMask-length n s in
+      let e : length (put i x (ofMask n s)) ≡ n = length-put i x (ofMask n s) ∙ ofMask-length n s in
       rw (put-is i x h l) (subst (λ k. maskOf (put i x (ofMask n s)) < 2 ^ k) e (maskOf-below (put i x (ofMask n s))))
 
 module _ (n s a o : ℕ) (b : s < 2 ^ n) (ha : 1 ≤ a) (la : a ≤ n) (ho : 1 ≤ o) (lo : o ≤ n) where
@@ -126,28 +118,12 @@ module _ (n s a o : ℕ) (b : s < 2 ^ n) (ha : 1 ≤ a) (la : a ≤ n) (ho : 1 �
   replaced-below = put-below n (maskPut a false s) (put-below n s b a false ha la) o true ho lo
 
 -- ONE SET
-equal-refl : (S : RowSet) → equal S S ≡ true
-unfolding equal
-equal-refl [] = refl
-equal-refl (true ∷ S) = equal-refl S
-equal-refl (false ∷ S) = equal-refl S
-
-pub equal-eq : (S T : RowSet) → equal S T ≡ true → S ≡ T
-unfolding equal
-equal-eq [] [] e = refl
-equal-eq [] (y ∷ T) e = absurd (false≢true e)
-equal-eq (x ∷ S) [] e = absurd (false≢true e)
-equal-eq (true ∷ S) (true ∷ T) e = ap (λ Z. true ∷ Z) (equal-eq S T e)
-equal-eq (true ∷ S) (false ∷ T) e = absurd (false≢true e)
-equal-eq (false ∷ S) (true ∷ T) e = absurd (false≢true e)
-equal-eq (false ∷ S) (false ∷ T) e = ap (λ Z. false ∷ Z) (equal-eq S T e)
-
 pub mask-equal : (n s t : ℕ) → s < 2 ^ n → t < 2 ^ n → equal (ofMask n s) (ofMask n t) ≡ eqb s t
 mask-equal n s t bs bt = elim (ℕ-discrete s t) [
-  | yes e ↦ rw (e, equal-refl (ofMask n t)) (sym (eq-eqb t t refl))
+  | yes e ↦ rw (e, equal-same (ofMask n t)) (sym (eq-eqb t t refl))
   | no e ↦ rw (ne-eqb s t e) (differ (equal (ofMask n s) (ofMask n t)) refl e)
 ]
   where
     differ : (x : Bool) → equal (ofMask n s) (ofMask n t) ≡ x → (s ≡ t → ⊥) → x ≡ false
-    differ true p e = absurd (e (sym (mask-back n s bs) ∙ ap maskOf (equal-eq (ofMask n s) (ofMask n t) p) ∙ mask-back n t bt))
+    differ true p e = absurd (e (sym (mask-back n s bs) ∙ ap maskOf (equal-true (ofMask n s) (ofMask n t) p) ∙ mask-back n t bt))
     differ false p e = refl

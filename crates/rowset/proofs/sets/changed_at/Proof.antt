@@ -4,12 +4,13 @@ use mathlib.Core.Path.{_≡_, sym, ap, ap₂, _∙_, subst}
 use Prim.Native.Nat.{ℕ, suc, _+_, _-_, _*_, _%_, _^_, _≤_, _<_, min}
 use native.Mathlib.Omega.{arith}
 use lib.Pow.{shl-exact, pow-mono}
 use Rattle.rowset.specs.Mask.{countBelow, positionOf}
-use Rattle.walk.specs.Sets.{adjacent, partedOf, closedOf, SetAt, ChangedAt}
-use Rattle.walk.proofs.Order.{below-mono, position-within}
-use Rattle.walk.proofs.Changed.{changedOf, changed-below, changed-at}
-use Rattle.walk.proofs.sets.changed_at.Statement.{statement}
-use Rattle.walk.proofs.sets.changed_at.Tie as tie
+use Rattle.rowset.specs.Sets.{adjacent, partedOf, closedOf, SetAt, ChangedAt}
+use Rattle.rowset.proofs.Positions.{below-mono}
+use Rattle.rowset.proofs.Order.{position-within}
+use Rattle.rowset.proofs.Changed.{changedOf, changed-below, changed-at}
+use Rattle.rowset.proofs.sets.changed_at.Statement.{statement}
+use Rattle.rowset.proofs.sets.changed_at.Tie as tie
 
 sub-set-at : tie.Need-sub-set-at
 sub-set-at c = search needs

@@ -4,9 +4,9 @@ use mathlib.Core.Path.{_≡_, ap}
 use Prim.Native.Nat.{ℕ, _+_, _-_, _*_, _/_, _%_, _^_, _<_}
 use native.Mathlib.Nat.{mod-eq-of-lt, div-mul-le-self}
 use native.Mathlib.Omega.{arith}
-use Rattle.walk.specs.Sets.{partedOf}
-use Rattle.walk.proofs.sets.parted.Statement.{statement}
-use Rattle.walk.proofs.sets.parted.Tie as tie
+use Rattle.rowset.specs.Sets.{partedOf}
+use Rattle.rowset.proofs.sets.parted.Statement.{statement}
+use Rattle.rowset.proofs.sets.parted.Tie as tie
 
 -- the shift back loses nothing
 whole : (m d : ℕ) → m < 64 → m / 2 ^ d * 2 ^ d % 2 ^ 64 ≡ m / 2 ^ d * 2 ^ d

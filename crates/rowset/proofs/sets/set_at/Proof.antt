@@ -4,11 +4,12 @@ use mathlib.Core.Path.{_≡_, sym, ap, _∙_, subst}
 use Prim.Native.Nat.{ℕ, _+_}
 use native.Mathlib.Omega.{arith}
 use lib.ListN.{getD}
 use Rattle.rowset.specs.Mask.{maskHas, countTo, maskCount}
-use Rattle.walk.specs.Sets.{SetAt}
-use Rattle.walk.proofs.Order.{those, table, before, tabulated, firsts-at, set-at, set-fits}
-use Rattle.walk.proofs.sets.set_at.Statement.{statement}
-use Rattle.walk.proofs.sets.set_at.Tie as tie
+use Rattle.rowset.specs.Sets.{SetAt}
+use Rattle.rowset.proofs.Order.{those, table, before, set-at, set-fits}
+use Rattle.rowset.proofs.Tabulated.{tabulated, tabulated-first}
+use Rattle.rowset.proofs.sets.set_at.Statement.{statement}
+use Rattle.rowset.proofs.sets.set_at.Tie as tie
 
 array-read-wide : tie.Need-array-read-wide
 array-read-wide c = search needs
@@ -21,7 +22,7 @@ first : (c : tie.After-wide) → c .wide .result ≡ before 0 (c .before .args .
 unfolding tabulated before those maskCount countTo maskHas
 first c =
     let e : c .wide .result ≡ getD (tabulated (before 0) 0 9) (c .before .args .k) 0 = c .wide .ensures .0 in
-    e ∙ firsts-at (c .before .args .k) (search needs)
+    e ∙ tabulated-first (before 0) 9 (c .before .args .k) (omega arith)
 
 add-wide : tie.Need-add-wide
 add-wide c = omega (arith, first c, set-fits (c .before .args .k) (search needs))
