@@ -16,13 +16,12 @@ use Rattle.words.proofs.Chosen.{length-among}
 use Rattle.words.proofs.Steps.{sources-map}
 use Rattle.words.proofs.Alike.{letters-joined, alike-each}
 use Rattle.words.proofs.Counts.{joined-cost, joined-square, row-square}
-use Rattle.words.proofs.Exponents.{runReach}
+use Rattle.words.specs.Sources.{Sources, StoredSteps, runReach}
 use Rattle.minors.specs.Matrix.{In}
-use Rattle.factors.specs.Demand.{Accepted}
+use Rattle.factors.specs.Demand.{AboveZero}
 use Rattle.factors.proofs.Near.{Near, near-more, near-stored}
 use Rattle.factors.proofs.Error.{NearWeight, NearEntry, roundings, exponents, minor-near, factor-near}
-use Rattle.factors.proofs.Exact.{AcceptedSteps, exact-minor-positive}
-pub use Rattle.words.proofs.Exponents.{StoredStep, StoredSteps}
+use Rattle.factors.proofs.Exact.{exact-minor-positive}
 
 pub stored-positive : (a : Number) → Stored a → 0 < value a .top
 stored-positive a s = value-positive a .0 (omega (arith, s .low))
@@ -37,9 +36,9 @@ letters-bound m n l =
     regroup m z = omega arith
 
 module _ (n : ℕ) where
-  -- are accepted as the fractions that they stand for
-  pub steps-accepted : (L : List (Step Number)) → StoredSteps n L → AcceptedSteps n (eachSteps value L)
-  steps-accepted = sources-map Stored Accepted n value stored-positive
+  -- stored sources are positive as the fractions that they stand for
+  pub steps-above-zero : (L : List (Step Number)) → StoredSteps n L → Sources AboveZero n (eachSteps value L)
+  steps-above-zero = sources-map Stored AboveZero n value stored-positive
 
   -- six sources of eight rows have 6 * 64 = 384 of the 1012 for which there is room
   module _ (s : Step Number) (L : List (Step Number)) (stored : StoredSteps n (s ∷ L)) (some : 1 ≤ n) (room : suc (length L) * (n * n) ≤ 1012) where
@@ -68,6 +67,6 @@ module _ (n : ℕ) where
         (factor-near (roundings 0 n W) (runReach (suc (length L)) n) (count P) (omega arith) _ _
         (λ I J u v w. (
           joined-minor-near (among P I) (among Q J) (length-among P I u ∙ p),
-          exact-minor-positive n (eachStep value s) (eachSteps value L) (steps-accepted (s ∷ L) stored) P Q p q e I J u v w,
+          exact-minor-positive n (eachStep value s) (eachSteps value L) (steps-above-zero (s ∷ L) stored) P Q p q e I J u v w,
         ))
         i j (x .0) (x .1) (y .0) (y .1))

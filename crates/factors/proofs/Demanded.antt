@@ -17,14 +17,13 @@ use Rattle.words.specs.Word.{Factors, ascending}
 use Rattle.words.specs.Operation.{Step, step, plain, inverted, conversed, Operation, product, inverse, converse, submatrix, steps, keptRows, keptColumns}
 use Rattle.words.specs.Operation.{size, boundOf, bound, rowByRow, joinedWord, refactored, result, eachStep, eachSteps}
 use Rattle.words.proofs.RowSets.{length-rows}
-use Rattle.words.proofs.Steps.{Sources}
-use Rattle.words.proofs.Exponents.{runReach}
+use Rattle.words.specs.Sources.{Each, Sources, runReach}
 use Rattle.minors.specs.Matrix.{In, Equal}
-use Rattle.factors.specs.Demand.{Each, Proper, Accepted, Pair, askedMinor, product-of, Factored, exactly, Demand}
+use Rattle.factors.specs.Demand.{Proper, AboveZero, Pair, askedMinor, multipliedOut, Factored, exactly, Demand}
 use Rattle.factors.proofs.Exact.{exact-minor-positive, exact-positive, exact-only}
-use Rattle.factors.proofs.Requested.{exact-requested}
+use Rattle.factors.proofs.Requested.{exact-requested, multiplied-same}
 use Rattle.factors.proofs.Near.{Near, near-positive}
-use Rattle.factors.proofs.Bound.{stored-positive, steps-accepted, joined-minor-near, refactored-near}
+use Rattle.factors.proofs.Bound.{stored-positive, steps-above-zero, joined-minor-near, refactored-near}
 
 -- what holds of the new factors of one step or two, at chosen rows and columns, holds of an operation's result
 on-steps : {A : Type 0} (P : A → Type 0) (n : ℕ) (T : List (Step A) → RowSet → RowSet → Type 0)
@@ -36,24 +35,24 @@ on-steps P n T f (converse b) h = f (step conversed b) [] (omega arith) (h, tt) 
 on-steps P n T f (submatrix b I J) h = f (step plain b) [] (omega arith) (h .0, tt) I J (h .1) (h .2) (h .3)
 
 -- THE EXACT RUN is right and the only one, for any positive fractions and any number of rows
-pub factored : (n : ℕ) (o : Operation Fraction) → Proper Accepted n o → Factored n o
+pub factored : (n : ℕ) (o : Operation Fraction) → Proper AboveZero n o → Factored n o
 factored n o h = record {
-  divisors = on-steps Accepted n (λ L I J. (R C : RowSet) → Pair (count I) R C → Accepted (minor exact (joinedWord n L) (among I R) (among J C)))
+  divisors = on-steps AboveZero n (λ L I J. (R C : RowSet) → Pair (count I) R C → AboveZero (minor exact (joinedWord n L) (among I R) (among J C)))
       (λ s L few k I J i j e R C p. exact-minor-positive n s L k I J i j e R C (p .rows) (p .columns) (p .counts)) o h;
-  positive = on-steps Accepted n (λ L I J. Each Accepted (count I) (refactored exact n L I J)) (λ s L few. exact-positive n s L) o h;
+  positive = on-steps AboveZero n (λ L I J. Each AboveZero (count I) (refactored exact n L I J)) (λ s L few. exact-positive n s L) o h;
   requested = exact-requested n o h;
-  only = on-steps Accepted n
-      (λ L I J. (c : Factors Fraction) → Each Accepted (count I) c → Equal rationals (count I) (product-of (count I) c) (product-of (count I) (refactored exact n L I J))
+  only = λ c p g. on-steps AboveZero n
+      (λ L I J. (c : Factors Fraction) → Each AboveZero (count I) c → Equal rationals (count I) (multipliedOut (count I) c) (multipliedOut (count I) (refactored exact n L I J))
       → (i j : ℕ) → In (count I) i → In (count I) j → Same (c i j) (refactored exact n L I J i j))
-      (λ s L few. exact-only n s L) o h;
+      (λ s L few. exact-only n s L) o h c p (multiplied-same n o c (result exact n o) g (exact-requested n o h));
 }
 
--- stored sources are accepted as the fractions that they stand for
+-- stored sources are positive as the fractions that they stand for
 module _ (n : ℕ) where
-  each-value : (b : Factors Number) → Each Stored n b → Each Accepted n (λ i j. value (b i j))
+  each-value : (b : Factors Number) → Each Stored n b → Each AboveZero n (λ i j. value (b i j))
   each-value b h i j x y = stored-positive (b i j) (h i j x y)
 
-  pub proper-value : (o : Operation Number) → Proper Stored n o → Proper Accepted n (exactly o)
+  pub proper-value : (o : Operation Number) → Proper Stored n o → Proper AboveZero n (exactly o)
   proper-value (product b c) h = (each-value b (h .0), each-value c (h .1))
   proper-value (inverse b) h = each-value b h
   proper-value (converse b) h = each-value b h
@@ -84,7 +83,7 @@ module _ (n : ℕ) where
     steps-divisors : (o : Operation Number) → Proper Stored n o → (I J : RowSet) → Pair (size n o) I J → 0 < askedMinor rounded n o I J .m
     steps-divisors = on-steps Stored n (λ L I J. (R C : RowSet) → Pair (count I) R C → 0 < minor rounded (joinedWord n L) (among I R) (among J C) .m)
         (λ s L two h I J i j e R C p. near-positive (joined-minor-near n s L h some (omega (arith, mul-le-mul two square)) (among I R) (among J C) (length-among I R (p .rows) ∙ i))
-        (exact-minor-positive n (eachStep value s) (eachSteps value L) (steps-accepted n (s ∷ L) h) I J i j e R C (p .rows) (p .columns) (p .counts)))
+        (exact-minor-positive n (eachStep value s) (eachSteps value L) (steps-above-zero n (s ∷ L) h) I J i j e R C (p .rows) (p .columns) (p .counts)))
 
     pub result-near : (o : Operation Number) → Proper Stored n o → (i j : ℕ) → In (size n o) i → In (size n o) j
         → Near (bound n o) (reachOf o) (result rounded n o i j) (result exact n (exactly o) i j)

@@ -12,7 +12,7 @@ use Rattle.words.specs.RowSet.{RowSet, count}
 use Rattle.words.specs.Word.{Word}
 use Rattle.words.specs.Walk.{minor}
 use Rattle.words.specs.Formula.{newFactor}
-use Rattle.words.proofs.Related.{Related, Each, Letters, total, letterCost, after, after-measure, minor-related}
+use Rattle.words.proofs.Related.{Related, Matched, Letters, total, letterCost, after, after-measure, minor-related}
 use Rattle.words.proofs.Formulas.{newFactor-related}
 use Rattle.factors.proofs.Near.{Near, near-more, near-zero, near-one, near-sum, near-product, near-quotient}
 
@@ -74,7 +74,7 @@ module _ (c : ℕ) where
     exponents W = 31 + total (letterCost 1035 (n * 1035)) W
 
     -- A MINOR of words whose letters are near
-    pub minor-near : (W : Word Number) (X : Word Fraction) → Each (Letters (NearWeight c) (NearEntry c) n) W X → Room (exponents W) → (I J : RowSet) → length I ≡ n
+    pub minor-near : (W : Word Number) (X : Word Fraction) → Matched (Letters (NearWeight c) (NearEntry c) n) W X → Room (exponents W) → (I J : RowSet) → length I ≡ n
         → Near (roundings W) (exponents W) (minor rounded W I J) (minor exact X I J)
     minor-near W X h room I J i =
         let e : after rounded exact Grade NearBy near-related n W (0, 31) .0 ≡ 0 + roundings W =

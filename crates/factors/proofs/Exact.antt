@@ -16,12 +16,13 @@ use Rattle.words.specs.Walk.{minor}
 use Rattle.words.specs.Operation.{Step, joinedWord, refactored, eachFactor, eachStep, eachSteps}
 use Rattle.words.proofs.Chosen.{length-among}
 use Rattle.words.proofs.Related.{Related, minor-related}
-use Rattle.words.proofs.Steps.{Source, Sources, sources-map}
+use Rattle.words.specs.Sources.{Each, Sources}
+use Rattle.words.proofs.Steps.{sources-map}
 use Rattle.words.proofs.Alike.{letters-joined, alike-each}
 use Rattle.words.proofs.Formulas.{newFactor-related}
 use Rattle.minors.specs.Matrix.{In, Equal, submatrixOf, wordMatrix}
 use Rattle.minors.proofs.Positive.{PositiveSteps}
-use Rattle.factors.specs.Demand.{Each, Accepted, product-of}
+use Rattle.factors.specs.Demand.{AboveZero, multipliedOut}
 use Rattle.factors.proofs.Refactored.{multiplied-equal, minor-positive, refactored-positive, refactored-multiplied, refactored-unique}
 
 -- the rational numbers' arithmetic
@@ -45,32 +46,25 @@ rational-related = record {
   rel-over = λ g x e y f h k. rational-quotient x e (k .1) ∙ ap₂ (λ a b. rationals .mul a (rationals-ordered .inv b)) h (k .0);
 }
 
--- sources whose factors are accepted
-abbrev pub AcceptedStep : ℕ → Step Fraction → Type 0
-AcceptedStep = Source Accepted
-
-abbrev pub AcceptedSteps : ℕ → List (Step Fraction) → Type 0
-AcceptedSteps = Sources Accepted
-
 module _ (n : ℕ) where
   -- stand for positive rational numbers
-  steps-positive : (L : List (Step Fraction)) → AcceptedSteps n L → PositiveSteps rationals rationals-ordered n (eachSteps rational L)
-  steps-positive = sources-map Accepted (rationals-ordered .Pos) n rational (λ x h. positive-rational x .0 h)
+  steps-positive : (L : List (Step Fraction)) → Sources AboveZero n L → PositiveSteps rationals rationals-ordered n (eachSteps rational L)
+  steps-positive = sources-map AboveZero (rationals-ordered .Pos) n rational (λ x h. positive-rational x .0 h)
 
-  module _ (s : Step Fraction) (L : List (Step Fraction)) (accepted : AcceptedSteps n (s ∷ L))
+  module _ (s : Step Fraction) (L : List (Step Fraction)) (above : Sources AboveZero n (s ∷ L))
       (P Q : RowSet) (lengthP : length P ≡ n) (lengthQ : length Q ≡ n) (counts : count Q ≡ count P) where
     minor-rational : (I J : RowSet) → length I ≡ n → rational (minor exact (joinedWord n (s ∷ L)) I J) ≡ minor ℚ (joinedWord n (eachSteps rational (s ∷ L))) I J
     minor-rational I J i =
         minor-related exact ℚ (Unit {0}) (λ g x y. Stands x y) rational-related n (joinedWord n (s ∷ L)) (joinedWord n (eachSteps rational (s ∷ L)))
         (letters-joined Stands (λ x y. Stands x y × (0 < x .top)) n (s ∷ L) (eachSteps rational (s ∷ L))
-        (alike-each Stands (λ x y. Stands x y × (0 < x .top)) n Accepted rational (λ x h. refl) (λ x h. (refl, h)) (s ∷ L) accepted)) tt rational-zero rational-one I J i
+        (alike-each Stands (λ x y. Stands x y × (0 < x .top)) n AboveZero rational (λ x h. refl) (λ x h. (refl, h)) (s ∷ L) above)) tt rational-zero rational-one I J i
 
     -- the exact minors are positive
     pub exact-minor-positive : (I J : RowSet) → length I ≡ count P → length J ≡ count P → count I ≡ count J → 0 < minor exact (joinedWord n (s ∷ L)) (among P I) (among Q J) .top
     exact-minor-positive I J i j e =
         positive-rational (minor exact (joinedWord n (s ∷ L)) (among P I) (among Q J)) .1
         (subst (rationals-ordered .Pos) (sym (minor-rational (among P I) (among Q J) (length-among P I i ∙ lengthP)))
-        (minor-positive rationals rationals-ordered n (eachStep rational s) (eachSteps rational L) (steps-positive (s ∷ L) accepted) P Q lengthP lengthQ counts I J i j e))
+        (minor-positive rationals rationals-ordered n (eachStep rational s) (eachSteps rational L) (steps-positive (s ∷ L) above) P Q lengthP lengthQ counts I J i j e))
 
     refactored-rational : (i j : ℕ) → In (count P) i → In (count P) j → rational (refactored exact n (s ∷ L) P Q i j) ≡ refactored ℚ n (eachSteps rational (s ∷ L)) P Q i j
     unfolding refactored
@@ -83,25 +77,25 @@ module _ (n : ℕ) where
         i j (x .0) (x .1) (y .0) (y .1)
 
     -- POSITIVE
-    pub exact-positive : Each Accepted (count P) (refactored exact n (s ∷ L) P Q)
+    pub exact-positive : Each AboveZero (count P) (refactored exact n (s ∷ L) P Q)
     exact-positive i j x y =
         positive-rational (refactored exact n (s ∷ L) P Q i j) .1
         (subst (rationals-ordered .Pos) (sym (refactored-rational i j x y))
-        (refactored-positive rationals rationals-ordered n (eachStep rational s) (eachSteps rational L) (steps-positive (s ∷ L) accepted) P Q lengthP lengthQ counts i j x y))
+        (refactored-positive rationals rationals-ordered n (eachStep rational s) (eachSteps rational L) (steps-positive (s ∷ L) above) P Q lengthP lengthQ counts i j x y))
 
     -- THEY MULTIPLY OUT to the chosen entries of the joined word's matrix
-    pub exact-multiplied : Equal rationals (count P) (product-of (count P) (refactored exact n (s ∷ L) P Q))
+    pub exact-multiplied : Equal rationals (count P) (multipliedOut (count P) (refactored exact n (s ∷ L) P Q))
         (submatrixOf rationals P Q (wordMatrix rationals rationals-ordered n (joinedWord n (eachSteps rational (s ∷ L)))))
     exact-multiplied i j x y =
         multiplied-equal rationals rationals-ordered (count P) _ _ refactored-rational i j x y
-        ∙ refactored-multiplied rationals rationals-ordered n (eachStep rational s) (eachSteps rational L) (steps-positive (s ∷ L) accepted) P Q lengthP lengthQ counts i j x y
+        ∙ refactored-multiplied rationals rationals-ordered n (eachStep rational s) (eachSteps rational L) (steps-positive (s ∷ L) above) P Q lengthP lengthQ counts i j x y
 
     -- AND NO OTHER POSITIVE FRACTIONS DO
-    pub exact-only : (c : Factors Fraction) → Each Accepted (count P) c
-        → Equal rationals (count P) (product-of (count P) c) (product-of (count P) (refactored exact n (s ∷ L) P Q))
+    pub exact-only : (c : Factors Fraction) → Each AboveZero (count P) c
+        → Equal rationals (count P) (multipliedOut (count P) c) (multipliedOut (count P) (refactored exact n (s ∷ L) P Q))
         → (i j : ℕ) → In (count P) i → In (count P) j → Same (c i j) (refactored exact n (s ∷ L) P Q i j)
     exact-only c p e i j x y =
         same-rational (c i j) (refactored exact n (s ∷ L) P Q i j)
-        (refactored-unique rationals rationals-ordered n (eachStep rational s) (eachSteps rational L) (steps-positive (s ∷ L) accepted) P Q lengthP lengthQ counts
+        (refactored-unique rationals rationals-ordered n (eachStep rational s) (eachSteps rational L) (steps-positive (s ∷ L) above) P Q lengthP lengthQ counts
         (eachFactor rational c) (λ i j x y. positive-rational (c i j) .0 (p i j x y)) (λ i j x y. e i j x y ∙ exact-multiplied i j x y) i j x y
         ∙ sym (refactored-rational i j x y))

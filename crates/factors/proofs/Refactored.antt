@@ -15,7 +15,7 @@ use Rattle.words.specs.Operation.{Step, joinedWord, refactored}
 use Rattle.words.proofs.RowSets.{length-rows}
 use Rattle.words.proofs.Chosen.{length-among, count-among, chosen-in}
 use Rattle.words.proofs.Steps.{joined-rows}
-use Rattle.words.proofs.Related.{Each, Letters}
+use Rattle.words.proofs.Related.{Matched, Letters}
 use Rattle.words.proofs.Alike.{letters-word}
 use Rattle.minors.specs.Matrix.{In, Matrix, Equal, submatrixOf, chosen, letterMatrix, wordMatrix, multiplied, Positive}
 use Rattle.minors.proofs.Products.{times-equal}
@@ -35,7 +35,7 @@ module _ (K : CRing) (O : Ordered K) where
   letter-equal n (D e) (D f) h r c x y = ap (λ u. cond (eqb r c) u (K .𝟘)) (h r (x .0) (x .1))
   letter-equal n (Dinv e) (Dinv f) h r c x y = ap (λ u. cond (eqb r c) (O .inv u) (K .𝟘)) (h r (x .0) (x .1))
 
-  wordMatrix-equal : (n : ℕ) (W X : Word R) → Each (Letters _≡_ _≡_ n) W X → Equal K n (wordMatrix K O n W) (wordMatrix K O n X)
+  wordMatrix-equal : (n : ℕ) (W X : Word R) → Matched (Letters _≡_ _≡_ n) W X → Equal K n (wordMatrix K O n W) (wordMatrix K O n X)
   unfolding wordMatrix
   wordMatrix-equal n [] [] h = λ i j x y. refl
   wordMatrix-equal n (l ∷ W) (m ∷ X) h = times-equal K n (letterMatrix K O l) (letterMatrix K O m) (wordMatrix K O n W) (wordMatrix K O n X) (letter-equal n l m (h .0)) (wordMatrix-equal n W X (h .1))

@@ -11,13 +11,10 @@ use Rattle.number.specs.Number.{rounded, value, Ranged, reach}
 use Rattle.words.specs.RowSet.{RowSet, count, among}
 use Rattle.words.specs.Walk.{minor}
 use Rattle.words.specs.Word.{Factors}
+pub use Rattle.words.specs.Sources.{Each}
 use Rattle.words.specs.Operation.{Operation, product, inverse, converse, submatrix, steps, joinedWord, keptRows, keptColumns, size, bound, rowByRow, result, eachFactor, eachSource}
-use Rattle.minors.specs.Matrix.{In, Equal, multiplied}
+use Rattle.minors.specs.Matrix.{In, Matrix, multiplied}
 use Rattle.factors.specs.Requested.{Requested}
-
--- factors of n rows of which each has a property
-abbrev pub Each : {A : Type 0} → (A → Type 0) → ℕ → Factors A → Type 0
-Each P n b = (i j : ℕ) → In n i → In n j → P (b i j)
 
 -- sources of n rows whose every factor has a property; chosen rows and columns of n, equally many
 abbrev pub Proper : {A : Type 0} → (A → Type 0) → ℕ → Operation A → Type 0
@@ -26,13 +23,17 @@ Proper P n (inverse b) = Each P n b
 Proper P n (converse b) = Each P n b
 Proper P n (submatrix b I J) = Each P n b × (length I ≡ n) × (length J ≡ n) × (count J ≡ count I)
 
--- a factor table's entries are accepted: all positive
-abbrev pub Accepted : Fraction → Type 0
-Accepted x = 0 < x .top
+-- a positive fraction
+abbrev pub AboveZero : Fraction → Type 0
+AboveZero x = 0 < x .top
 
 -- what fractions multiply out to, as matrices of rational numbers
-abbrev pub product-of : ℕ → Factors Fraction → ℕ → ℕ → rationals .R
-product-of k c = multiplied rationals rationals-ordered k (eachFactor rational c)
+abbrev pub multipliedOut : ℕ → Factors Fraction → Matrix rationals
+multipliedOut k c = multiplied rationals rationals-ordered k (eachFactor rational c)
+
+-- fractions multiply out to the requested matrix of an operation
+abbrev pub GivesRequested : ℕ → Operation Fraction → Factors Fraction → Type 0
+GivesRequested n o c = Requested rationals rationals-ordered n (eachSource rational o) (multipliedOut (size n o) c)
 
 -- the minor that the formulas of an operation ask for at row set I and column set J, which count among the kept rows and columns
 abbrev pub askedMinor : (K : Arithmetic) → ℕ → Operation (K .Num) → RowSet → RowSet → K .Num
@@ -46,10 +47,10 @@ pub record Pair (k : ℕ) (I J : RowSet) : Type 0 where
 
 -- THE EXACT RUN of an operation on fractions: no divisor is zero; its factors are positive and multiply out to the requested matrix, and no other positive fractions do.
 pub record Factored (n : ℕ) (o : Operation Fraction) : Type 0 where
-  pub divisors : (I J : RowSet) → Pair (size n o) I J → Accepted (askedMinor exact n o I J)
-  pub positive : Each Accepted (size n o) (result exact n o)
-  pub requested : Requested rationals rationals-ordered n (eachSource rational o) (product-of (size n o) (result exact n o))
-  pub only : (c : Factors Fraction) → Each Accepted (size n o) c → Equal rationals (size n o) (product-of (size n o) c) (product-of (size n o) (result exact n o))
+  pub divisors : (I J : RowSet) → Pair (size n o) I J → AboveZero (askedMinor exact n o I J)
+  pub positive : Each AboveZero (size n o) (result exact n o)
+  pub requested : GivesRequested n o (result exact n o)
+  pub only : (c : Factors Fraction) → Each AboveZero (size n o) c → GivesRequested n o c
       → (i j : ℕ) → In (size n o) i → In (size n o) j → Same (c i j) (result exact n o i j)
 
 -- the operation with each source number taken for the fraction that it stands for

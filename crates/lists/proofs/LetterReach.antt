@@ -20,7 +20,7 @@ use Rattle.words.specs.Walk.{carry, carryLetter}
 use Rattle.words.proofs.Counts.{word-cost}
 use Rattle.words.proofs.Related.{total, letterCost}
 use Rattle.words.proofs.Stages.{word-all}
-use Rattle.words.proofs.Steps.{Table}
+use Rattle.words.specs.Sources.{Each}
 use Rattle.words.proofs.Walks.{All}
 use Rattle.lists.specs.Lists.{signedWord, carried}
 use Rattle.lists.specs.Carrying.{letterReach, workingReach}
@@ -74,7 +74,7 @@ carry-reach n r v h (x ∷ W) s far i l =
     cost (Dinv e) = omega arith
 
 module _ (n : ℕ) (b : Factors Number) where
-  pub stored-letters : Table Stored n b → All (StoredLetter n) (signedWord n b)
+  pub stored-letters : Each Stored n b → All (StoredLetter n) (signedWord n b)
   stored-letters s = word-all (StoredLetter n) n (λ i j. plain (b i j))
       (λ i j p q t. (omega arith, t, stored i j (omega arith, t) (p, omega arith)))
       (λ i p. stored i i p p)
@@ -89,7 +89,7 @@ module _ (n : ℕ) (b : Factors Number) where
       let few : n * n ≤ 8 * 8 = mul-le-mul high high in
       omega arith
 
-  pub carried-reach : (v : ℕ → Signed) → 1 ≤ n → n ≤ 8 → Table Stored n b → Within 1000 n v → Within workingReach n (carried n b v)
+  pub carried-reach : (v : ℕ → Signed) → 1 ≤ n → n ≤ 8 → Each Stored n b → Within 1000 n v → Within workingReach n (carried n b v)
   unfolding carried
   carried-reach v low high s h i l =
       let few = word-reach low high in

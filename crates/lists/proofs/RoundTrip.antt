@@ -16,7 +16,7 @@ use Rattle.number.specs.declared.Number.{Number}
 use Rattle.number.specs.declared.signed.Signed.{Signed}
 use Rattle.number.proofs.Reach.{in-range-stored}
 use Rattle.words.specs.Word.{Factors}
-use Rattle.words.proofs.Steps.{Table}
+use Rattle.words.specs.Sources.{Each}
 use Rattle.lists.specs.Items.{isNegative, unbiased, itemOf, joined, listOf, signOf, listNumbers}
 use Rattle.lists.specs.Lists.{vectorOf, carried, carriedList, outside, anyOutside, itemsOf, carryOf, Outcome}
 use Rattle.lists.specs.Carrying.{workingReach}
@@ -105,7 +105,7 @@ numbers-length (a ∷ L) = omega (arith, numbers-length L)
 written-front : (out numbers : List ℤ) (k : ℕ) → length numbers ≡ k → k ≤ length out → take k (sets out 0 numbers) ≡ numbers
 written-front out numbers k e h = ap (take k) (sets-eq numbers out 0 (omega arith)) ∙ take-append-le k numbers _ (omega arith) ∙ take-all k numbers (omega arith)
 
-module _ (n : ℕ) (b : Factors Number) (low : 1 ≤ n) (high : n ≤ 8) (s : Table Stored n b) (z out : List ℤ) where
+module _ (n : ℕ) (b : Factors Number) (low : 1 ≤ n) (high : n ≤ 8) (s : Each Stored n b) (z out : List ℤ) where
   -- the carried items of a well-formed list are formed, if none is outside
   pub carried-formed : (L : List Signed) → listOf z ≡ some L → length L ≡ n → anyOutside (carriedList n b L) ≡ false → AllFormed (carriedList n b L)
   carried-formed L e f h = formed-list (carriedList n b L) (λ k p.

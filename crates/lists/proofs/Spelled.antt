@@ -15,7 +15,7 @@ use Rattle.words.specs.RowSet.{In}
 use Rattle.words.specs.Word.{Letter, E, Et, D, Dinv}
 use Rattle.words.specs.Walk.{carry, carryLetter}
 use Rattle.words.proofs.Alike.{letters-word}
-use Rattle.words.proofs.Related.{Each, Letters}
+use Rattle.words.proofs.Related.{Matched, Letters}
 use Rattle.walk.specs.Letters.{middle, placeWord, moveOf, moveAt, MoveWithin}
 use Rattle.walk.specs.Table.{cellOf, factorsOf}
 use Rattle.walk.specs.declared.Way.the-variants.{Plain}
@@ -31,7 +31,7 @@ abbrev At : List Number → Signed → ℕ → Type 0
 At b x p = x ≡ plain (getD b p zeroNumber)
 
 module _ (b : List Number) (n : ℕ) where
-  spelled : Each (Letters (At b) (At b) n) (signedWord n (factorsOf b)) (placeWord n Plain)
+  spelled : Matched (Letters (At b) (At b) n) (signedWord n (factorsOf b)) (placeWord n Plain)
   unfolding placeWord factorsOf
   spelled = letters-word (At b) (At b) n (λ i j. plain (factorsOf b i j)) cellOf (record { off = λ i j p q r t e. refl; on = λ i p q. refl })
 

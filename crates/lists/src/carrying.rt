@@ -5,7 +5,7 @@ ghost use Prim.Native.Nat.{_+_, _-_, _*_, _≤_, _<_};
 ghost use lib.ListN.{take, set};
 ghost use Rattle.number.specs.Number.{Stored, reach};
 ghost use Rattle.number.specs.Signed.{plain, signedSum, signedProduct, SignedRanged};
-ghost use Rattle.words.proofs.Steps.{Table};
+ghost use Rattle.words.specs.Sources.{Each};
 ghost use Rattle.walk.specs.Table.{factorsOf};
 ghost use Rattle.walk.specs.Letters.{middle};
 ghost use Rattle.lists.specs.Lists.{vectorOf, carriedList};
@@ -31,7 +31,7 @@ fn added(v: [Signed; 8], to: usize, from: usize, w: Number) -> [Signed; 8]
 // D: each item times its entry.
 fn diagonal(v: [Signed; 8], b: [Number; 64], n: usize) -> [Signed; 8]
     requires { ⌜ n ≤ 8 ⌝ }
-    requires { ⌜ Working workingReach n v × Table Stored n (factorsOf b) ⌝ }
+    requires { ⌜ Working workingReach n v × Each Stored n (factorsOf b) ⌝ }
     ensures { λ r. ⌜ Scaled n (factorsOf b) v r ⌝ }
 {
     let mut u = v;
@@ -48,7 +48,7 @@ fn diagonal(v: [Signed; 8], b: [Number; 64], n: usize) -> [Signed; 8]
 // Letter t of the word.
 fn letter(v: [Signed; 8], b: [Number; 64], n: usize, t: usize) -> [Signed; 8]
     requires { ⌜ (1 ≤ n) × (n ≤ 8) × (t < 2 * middle n + 1) ⌝ }
-    requires { ⌜ Working workingReach n v × Table Stored n (factorsOf b) ⌝ }
+    requires { ⌜ Working workingReach n v × Each Stored n (factorsOf b) ⌝ }
     ensures { λ r. ⌜ Carries n (letterOf n (factorsOf b) t ∷ []) v r ⌝ }
 {
     if t == letters::middle(n) {
@@ -62,7 +62,7 @@ fn letter(v: [Signed; 8], b: [Number; 64], n: usize, t: usize) -> [Signed; 8]
 
 // The whole word.
 pub fn through(v: [Signed; 8], b: [Number; 64], n: usize) -> [Signed; 8]
-    requires { ⌜ (1 ≤ n) × (n ≤ 8) × Working 1000 n v × Table Stored n (factorsOf b) ⌝ }
+    requires { ⌜ (1 ≤ n) × (n ≤ 8) × Working 1000 n v × Each Stored n (factorsOf b) ⌝ }
     ensures { λ r. ⌜ take n r ≡ carriedList n (factorsOf b) (take n v) ⌝ }
     ensures { λ r. ⌜ Working reach n r ⌝ }
 {

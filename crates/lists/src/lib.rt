@@ -4,7 +4,7 @@ ghost use Prim.Native.Nat.{_≤_};
 ghost use lib.ListN.{take};
 ghost use Rattle.lists.specs.Lists.{turn, reversals, outside, anyOutside, carryOf, reversalsOf};
 ghost use Rattle.number.specs.Number.{Stored};
-ghost use Rattle.words.proofs.Steps.{Table};
+ghost use Rattle.words.specs.Sources.{Each};
 ghost use Rattle.walk.specs.Table.{factorsOf};
 use number::Number;
 use number::signed::Signed;
@@ -106,7 +106,7 @@ fn any_outside(v: [Signed; 8], n: usize) -> bool
 
 // Carries the items through the word of n rows with these factors, that of row i and column j at (i - 1) * 8 + (j - 1), into `out`.
 pub fn carry(factors: [Number; 64], n: usize, items: &[i64], out: &mut [i64]) -> Answer
-    requires { ⌜ (1 ≤ n) × (n ≤ 8) × Table Stored n (factorsOf factors) ⌝ }
+    requires { ⌜ (1 ≤ n) × (n ≤ 8) × Each Stored n (factorsOf factors) ⌝ }
     ensures { λ r. ⌜ r ≡ carryOf n (factorsOf factors) (now (items .entry)) (now (out .entry)) .answer ⌝ }
     ensures { λ r. ⌜ now (out .exit) ≡ carryOf n (factorsOf factors) (now (items .entry)) (now (out .entry)) .out ⌝ }
 {

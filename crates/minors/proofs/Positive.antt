@@ -17,7 +17,8 @@ use Rattle.words.proofs.RowSets.{length-rows}
 use Rattle.words.proofs.Walks.{Rows, All, walk-append, oneAt-same}
 use Rattle.words.proofs.Words.{transposedWord}
 use Rattle.words.proofs.Stages.{stages, transposed-stages-all, stages-rows, word-stages, word-rows}
-use Rattle.words.proofs.Steps.{Source, Sources, Weights, step-weights, joined-weights}
+use Rattle.words.specs.Sources.{Source, Sources}
+use Rattle.words.proofs.Steps.{Weights, step-weights, joined-weights}
 use Rattle.minors.specs.Matrix.{Positive}
 use Rattle.minors.proofs.Transpose.{minor-transposed}
 use Rattle.minors.proofs.Nonnegative.{NonNegatives, KeepsSign, positive-keeps, act-nonnegative, act-positive, walk-nonnegative, oneAt-nonnegative, append-keeps}

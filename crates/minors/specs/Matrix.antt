@@ -7,6 +7,7 @@ use lib.Dec.{eqb}
 use Rattle.fraction.specs.Ring.{CRing, Ordered}
 use Rattle.words.specs.RowSet.{RowSet}
 use Rattle.words.specs.Word.{Factors, Letter, E, Et, D, Dinv, Word, word}
+use Rattle.words.specs.Sources.{Each}
 pub use Rattle.words.specs.RowSet.{In, chosen}
 
 module _ (K : CRing) where
@@ -68,4 +69,4 @@ module _ (K : CRing) (O : Ordered K) where
 
   -- positive factors b (i, j), i and j from 1 to n
   abbrev pub Positive : ℕ → Factors R → Type 0
-  Positive n b = (i j : ℕ) → In n i → In n j → O .Pos (b i j)
+  Positive = Each (O .Pos)

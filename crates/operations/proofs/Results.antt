@@ -13,7 +13,7 @@ use Rattle.number.specs.Number.{bias, reach, rounded, inRange, Ranged, Stored}
 use Rattle.words.specs.RowSet.{RowSet, In, rows, count, ofMask}
 use Rattle.words.specs.Word.{Factors}
 use Rattle.words.specs.Operation.{Operation, product, inverse, converse, submatrix, steps, keptRows, keptColumns, size, bound, rowByRow, result}
-use Rattle.words.proofs.Exponents.{StoredSteps}
+use Rattle.words.specs.Sources.{StoredSteps}
 use Rattle.words.proofs.Chosen.{count-all}
 use Rattle.rowset.proofs.Masks.{ofMask-length}
 use Rattle.rowset.proofs.Counts.{mask-count, count-to, countTo-le}

@@ -18,7 +18,8 @@ use Rattle.words.specs.Walk.{minor, walk, oneAt}
 use Rattle.words.specs.Formula.{newFactor}
 use Rattle.words.specs.Operation.{joinedWord, refactored}
 use Rattle.words.proofs.Chosen.{length-among}
-use Rattle.words.proofs.Exponents.{StoredSteps, runReach, walk-ranged}
+use Rattle.words.specs.Sources.{StoredSteps, runReach}
+use Rattle.words.proofs.Exponents.{walk-ranged}
 use Rattle.walk.specs.Steps.{stepOf, stepsOf}
 use Rattle.walk.specs.Table.{tableOf}
 use Rattle.walk.proofs.Minors.{rows-few}

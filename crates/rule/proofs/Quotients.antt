@@ -9,7 +9,8 @@ use Rattle.number.proofs.Zero.{product-positive}
 use Rattle.words.specs.RowSet.{RowSet, rows}
 use Rattle.words.specs.Formula.{runBefore, belowDiagonal}
 use Rattle.words.proofs.Formulas.{corner-is, corner-before, before-is}
-use Rattle.words.proofs.Exponents.{runReach, product-ranged}
+use Rattle.words.specs.Sources.{runReach}
+use Rattle.words.proofs.Exponents.{product-ranged}
 use Rattle.rule.specs.Chosen.{Usable}
 
 pub usable-reach : {a : Number} → Usable a → Ranged reach a

@@ -10,7 +10,7 @@ use Rattle.words.specs.RowSet.{RowSet, count, among, ofMask}
 use Rattle.words.specs.Word.{Factors}
 use Rattle.words.specs.Walk.{minor}
 use Rattle.words.specs.Operation.{joinedWord}
-use Rattle.words.proofs.Exponents.{StoredSteps, runReach}
+use Rattle.words.specs.Sources.{StoredSteps, runReach}
 use Rattle.walk.specs.Steps.{stepsOf}
 use Rattle.walk.specs.Table.{within}
 use Rattle.rule.specs.declared.Chosen.{Chosen}

@@ -8,7 +8,7 @@ use lib.ListN.{length}
 use Rattle.words.specs.RowSet.{RowSet, count, among}
 use Rattle.words.specs.Walk.{minor}
 use Rattle.words.specs.Operation.{Step, step, plain, Operation, steps, joinedWord, keptRows, keptColumns, boundOf, refactored}
-use Rattle.words.proofs.Exponents.{StoredSteps}
+use Rattle.words.specs.Sources.{StoredSteps}
 use Rattle.walk.specs.Steps.{wayOf, stepsOf}
 use Rattle.walk.specs.Table.{factorsOf, tableOf}
 use Rattle.walk.specs.declared.Way.{Way}

@@ -13,9 +13,9 @@ use Rattle.words.specs.Word.{Letter, E, Et, D, Dinv, Word}
 use Rattle.words.specs.Operation as words
 use Rattle.words.specs.Operation.{stepWord, joinedWord}
 use Rattle.words.specs.Walk.{State, moved, scaled, act}
-use Rattle.words.proofs.Related.{Each, Letters}
+use Rattle.words.proofs.Related.{Matched, Letters}
 use Rattle.words.proofs.Alike.{Alike, AlikeStep, alike, AlikeSteps, letters-joined}
-use Rattle.words.proofs.Exponents.{StoredStep}
+use Rattle.words.specs.Sources.{StoredStep}
 use Rattle.walk.specs.declared.Way.{Way}
 use Rattle.walk.specs.declared.Step.{Step}
 use Rattle.walk.specs.declared.letters.Move.{Move}
@@ -26,11 +26,11 @@ use Rattle.walk.specs.Held.{Agree}
 use Rattle.walk.proofs.Scaling.{scaled-entries}
 use Rattle.walk.proofs.Spelling.{IsMove, EntriesAt, IsDiagonal, word-length, letter-move, letter-diagonal}
 
-pub each-length : {A B : Type 0} (P : Letter A → Letter B → Type 0) (U : Word A) (X : Word B) → Each P U X → length U ≡ length X
+pub each-length : {A B : Type 0} (P : Letter A → Letter B → Type 0) (U : Word A) (X : Word B) → Matched P U X → length U ≡ length X
 each-length P [] [] h = refl
 each-length P (x ∷ U) (y ∷ X) h = ap suc (each-length P U X (h .1))
 
-pub each-at : {A B : Type 0} (P : Letter A → Letter B → Type 0) (U : Word A) (X : Word B) → Each P U X → (t : ℕ) → t < length X → (d : Letter A) (e : Letter B) → P (getD U t d) (getD X t e)
+pub each-at : {A B : Type 0} (P : Letter A → Letter B → Type 0) (U : Word A) (X : Word B) → Matched P U X → (t : ℕ) → t < length X → (d : Letter A) (e : Letter B) → P (getD U t d) (getD X t e)
 each-at P [] [] h t l d e = absurd (not-suc-le-zero l)
 each-at P (x ∷ U) (y ∷ X) h zero l d e = h .0
 each-at P (x ∷ U) (y ∷ X) h (suc t) l d e = each-at P U X (h .1) t (omega arith) d e
@@ -44,7 +44,7 @@ module _ (n : ℕ) (s : Step) (stored : StoredStep n (stepOf s)) where
   unfolding factorsOf
   placed = record { off = λ i j p q r t e. (refl, stored i j (p, q) (r, t)); on = λ i p q. (refl, stored i i (p, q) (p, q)) }
 
-  spelled : Each (Letters (At (s .factors)) (At (s .factors)) n) (stepWord n (stepOf s)) (placeWord n (s .way))
+  spelled : Matched (Letters (At (s .factors)) (At (s .factors)) n) (stepWord n (stepOf s)) (placeWord n (s .way))
   unfolding joinedWord placeWord
   spelled = letters-joined (At (s .factors)) (At (s .factors)) n (stepOf s ∷ []) (words.step (wayOf (s .way)) cellOf ∷ []) (alike placed, tt)
 

@@ -28,7 +28,8 @@ use Rattle.words.specs.Operation as words
 use Rattle.words.specs.Operation.{stepWord, joinedWord}
 use Rattle.words.proofs.Walks.{walk-append}
 use Rattle.words.proofs.Steps.{step-rows}
-use Rattle.words.proofs.Exponents.{StoredStep, StoredSteps, runReach, walk-ranged}
+use Rattle.words.specs.Sources.{StoredStep, StoredSteps, runReach}
+use Rattle.words.proofs.Exponents.{walk-ranged}
 use Rattle.walk.specs.Table.{absent}
 use Rattle.walk.specs.Held.{heldAt, stateOf, startOf, Agree, Working, stepReach}
 use Rattle.walk.proofs.Held.{agree-trans, agree-masks, held-back}

@@ -22,7 +22,8 @@ use Rattle.words.proofs.Walks.{Rows, All, all-behind}
 use Rattle.words.proofs.Related.{total, letterCost}
 use Rattle.words.proofs.Counts.{total-append, joined-square}
 use Rattle.words.proofs.Steps.{Weights, step-rows, step-weights}
-use Rattle.words.proofs.Exponents.{StoredStep, state-ranged}
+use Rattle.words.specs.Sources.{StoredStep}
+use Rattle.words.proofs.Exponents.{state-ranged}
 use Rattle.walk.specs.Held.{Agree, Working, stepReach, letterReach}
 use Rattle.walk.proofs.Held.{agree-refl, agree-trans, working-agree, act-agree}
 

@@ -9,7 +9,7 @@ ghost use Rattle.rowset.specs.Sets.{Neighbours};
 ghost use Rattle.words.specs.RowSet.{ofMask};
 ghost use Rattle.words.specs.Walk.{oneAt, moved, scaled, act, walk, minor};
 ghost use Rattle.words.specs.Operation.{stepWord, joinedWord};
-ghost use Rattle.words.proofs.Exponents.{StoredStep, StoredSteps};
+ghost use Rattle.words.specs.Sources.{StoredStep, StoredSteps};
 ghost use Rattle.walk.specs.Letters.{middle};
 ghost use Rattle.walk.specs.Held.{stateOf, startOf, Agree, Working, letterReach, stepReach};
 ghost use Rattle.walk.specs.Steps.{scaling, entriesOf, StoredEntries, divides, backwards, Entries, stepOf, stepsOf, letterAt};

@@ -1,5 +1,5 @@
--- Words whose letters correspond one by one (`Each P`): the word of a matrix (each-word), words joined (each-append), the inverse's word and the converse's
--- (each-inverse, each-converse). So the words of steps whose sources are alike (Alike, AlikeSteps): letters-joined. Steps are alike in other numbers (alike-each).
+-- Words whose letters correspond one by one (`Matched P`): the word of a matrix (matched-word), words joined (matched-append), the inverse's word and the converse's
+-- (matched-inverse, matched-converse). So the words of steps whose sources are alike (Alike, AlikeSteps): letters-joined. Steps are alike in other numbers (alike-each).
 -- A word corresponds to itself in its weights and entries (letters-self).
 use mathlib.Core.Path.{_≡_, refl, sym, ap}
 use mathlib.Core.List.{List, [], _∷_, _++_}
@@ -8,27 +8,28 @@ use native.Mathlib.Omega.{arith}
 use Rattle.words.specs.Word.{Factors, Letter, E, Et, D, Dinv, Word, ascending, descending, forUp, word, inverseLetter, inverseWord, converseLetter, converseWord, exchanged}
 use Rattle.words.specs.Operation.{Way, plain, inverted, conversed, transposed, Step, step, stepWord, joinedWord, eachSteps}
 use Rattle.words.proofs.Walks.{All}
-use Rattle.words.proofs.Steps.{Sources, Weights}
-use Rattle.words.proofs.Related.{Each, Letters}
+use Rattle.words.specs.Sources.{Sources}
+use Rattle.words.proofs.Steps.{Weights}
+use Rattle.words.proofs.Related.{Matched, Letters}
 
 module _ {A B : Type 0} (P : Letter A → Letter B → Type 0) where
-  pub each-append : (U : Word A) (X : Word B) (U′ : Word A) (X′ : Word B) → Each P U X → Each P U′ X′ → Each P (U ++ U′) (X ++ X′)
-  each-append [] [] U′ X′ h g = g
-  each-append (x ∷ U) (y ∷ X) U′ X′ h g = (h .0, each-append U X U′ X′ (h .1) g)
+  pub matched-append : (U : Word A) (X : Word B) (U′ : Word A) (X′ : Word B) → Matched P U X → Matched P U′ X′ → Matched P (U ++ U′) (X ++ X′)
+  matched-append [] [] U′ X′ h g = g
+  matched-append (x ∷ U) (y ∷ X) U′ X′ h g = (h .0, matched-append U X U′ X′ (h .1) g)
 
-  each-ascending : (a c : ℕ) (f : ℕ → Word A) (g : ℕ → Word B) → ((i : ℕ) → a ≤ i → i < a + c → Each P (f i) (g i)) → Each P (ascending a c f) (ascending a c g)
+  matched-ascending : (a c : ℕ) (f : ℕ → Word A) (g : ℕ → Word B) → ((i : ℕ) → a ≤ i → i < a + c → Matched P (f i) (g i)) → Matched P (ascending a c f) (ascending a c g)
   unfolding ascending
-  each-ascending a zero f g h = tt
-  each-ascending a (suc c) f g h =
-      each-append (f a) (g a) _ _ (h a (omega arith) (omega arith)) (each-ascending (suc a) c f g (λ i x y. h i (omega arith) (omega arith)))
+  matched-ascending a zero f g h = tt
+  matched-ascending a (suc c) f g h =
+      matched-append (f a) (g a) _ _ (h a (omega arith) (omega arith)) (matched-ascending (suc a) c f g (λ i x y. h i (omega arith) (omega arith)))
 
-  each-descending : (a c : ℕ) (f : ℕ → Word A) (g : ℕ → Word B) → c ≤ a → ((i : ℕ) → i ≤ a → a < i + c → Each P (f i) (g i)) → Each P (descending a c f) (descending a c g)
+  matched-descending : (a c : ℕ) (f : ℕ → Word A) (g : ℕ → Word B) → c ≤ a → ((i : ℕ) → i ≤ a → a < i + c → Matched P (f i) (g i)) → Matched P (descending a c f) (descending a c g)
   unfolding descending
-  each-descending a zero f g l h = tt
-  each-descending a (suc c) f g l h =
-      each-append (f a) (g a) _ _ (h a (omega arith) (omega arith)) (each-descending (a - 1) c f g (omega arith) (λ i x y. h i (omega arith) (omega arith)))
+  matched-descending a zero f g l h = tt
+  matched-descending a (suc c) f g l h =
+      matched-append (f a) (g a) _ _ (h a (omega arith) (omega arith)) (matched-descending (a - 1) c f g (omega arith) (λ i x y. h i (omega arith) (omega arith)))
 
-  single : (x : Letter A) (y : Letter B) → P x y → Each P (x ∷ []) (y ∷ [])
+  single : (x : Letter A) (y : Letter B) → P x y → Matched P (x ∷ []) (y ∷ [])
   single x y h = (h, tt)
 
   -- the word of a matrix: E j with a factor below the diagonal, D, Et j with one above it
@@ -36,30 +37,30 @@ module _ {A B : Type 0} (P : Letter A → Letter B → Type 0) where
       (below : (i j : ℕ) → 1 ≤ i → i < j → j ≤ n → P (E j (b j i)) (E j (c j i)))
       (diagonal : P (D (λ i. b i i)) (D (λ i. c i i)))
       (above : (i j : ℕ) → 1 ≤ i → i < j → j ≤ n → P (Et j (b i j)) (Et j (c i j))) where
-    pub each-word : Each P (word n b) (word n c)
+    pub matched-word : Matched P (word n b) (word n c)
     unfolding word
-    each-word =
-        each-append (forUp 1 (n - 1) (λ i. forUp (n - i + 1) n (λ j. E j (b j (i + j - n)) ∷ []))) (forUp 1 (n - 1) (λ i. forUp (n - i + 1) n (λ j. E j (c j (i + j - n)) ∷ []))) _ _
-        (each-ascending 1 (suc (n - 1) - 1) _ _ (λ i x y. each-ascending (n - i + 1) (suc n - (n - i + 1)) _ _ (λ j z w.
+    matched-word =
+        matched-append (forUp 1 (n - 1) (λ i. forUp (n - i + 1) n (λ j. E j (b j (i + j - n)) ∷ []))) (forUp 1 (n - 1) (λ i. forUp (n - i + 1) n (λ j. E j (c j (i + j - n)) ∷ []))) _ _
+        (matched-ascending 1 (suc (n - 1) - 1) _ _ (λ i x y. matched-ascending (n - i + 1) (suc n - (n - i + 1)) _ _ (λ j z w.
         single (E j (b j (i + j - n))) (E j (c j (i + j - n))) (below (i + j - n) j (omega arith) (omega arith) (omega arith))))) (
           diagonal,
-          each-descending (n - 1) (suc (n - 1) - 1) _ _ (omega arith) (λ i x y. each-descending n (suc n - (n - i + 1)) _ _ (omega arith) (λ j z w.
+          matched-descending (n - 1) (suc (n - 1) - 1) _ _ (omega arith) (λ i x y. matched-descending n (suc n - (n - i + 1)) _ _ (omega arith) (λ j z w.
               single (Et j (b (i + j - n) j)) (Et j (c (i + j - n) j)) (above (i + j - n) j (omega arith) (omega arith) (omega arith)))),
         )
 
-  pub each-inverse : ((x : Letter A) (y : Letter B) → P x y → P (inverseLetter x) (inverseLetter y)) → (U : Word A) (X : Word B) → Each P U X → Each P (inverseWord U) (inverseWord X)
+  pub matched-inverse : ((x : Letter A) (y : Letter B) → P x y → P (inverseLetter x) (inverseLetter y)) → (U : Word A) (X : Word B) → Matched P U X → Matched P (inverseWord U) (inverseWord X)
   unfolding inverseWord
-  each-inverse h [] [] g = tt
-  each-inverse h (x ∷ U) (y ∷ X) g = each-append (inverseWord U) (inverseWord X) _ _ (each-inverse h U X (g .1)) (h x y (g .0), tt)
+  matched-inverse h [] [] g = tt
+  matched-inverse h (x ∷ U) (y ∷ X) g = matched-append (inverseWord U) (inverseWord X) _ _ (matched-inverse h U X (g .1)) (h x y (g .0), tt)
 
-  pub each-converse : (n : ℕ) → ((x : Letter A) (y : Letter B) → P x y → P (converseLetter n x) (converseLetter n y)) → (U : Word A) (X : Word B) → Each P U X
-      → Each P (converseWord n U) (converseWord n X)
+  pub matched-converse : (n : ℕ) → ((x : Letter A) (y : Letter B) → P x y → P (converseLetter n x) (converseLetter n y)) → (U : Word A) (X : Word B) → Matched P U X
+      → Matched P (converseWord n U) (converseWord n X)
   unfolding converseWord
-  each-converse n h [] [] g = tt
-  each-converse n h (x ∷ U) (y ∷ X) g = (h x y (g .0), each-converse n h U X (g .1))
+  matched-converse n h [] [] g = tt
+  matched-converse n h (x ∷ U) (y ∷ X) g = (h x y (g .0), matched-converse n h U X (g .1))
 
 -- A WORD AND ITSELF, where only the weights and entries of one side are looked at
-pub letters-self : {A : Type 0} (P Q : A → Type 0) (n : ℕ) (W : Word A) → All (Weights P Q n) W → Each (Letters (λ w v. P w) (λ e f. Q e) n) W W
+pub letters-self : {A : Type 0} (P Q : A → Type 0) (n : ℕ) (W : Word A) → All (Weights P Q n) W → Matched (Letters (λ w v. P w) (λ e f. Q e) n) W W
 letters-self P Q n [] h = tt
 letters-self P Q n (E j w ∷ W) h = ((refl, h .0), letters-self P Q n W (h .1))
 letters-self P Q n (Et j w ∷ W) h = ((refl, h .0), letters-self P Q n W (h .1))
@@ -75,9 +76,9 @@ module _ {A B : Type 0} (P Q : A → B → Type 0) (n : ℕ) where
   alike-exchanged : (b : Factors A) (c : Factors B) → Alike b c → Alike (exchanged b) (exchanged c)
   alike-exchanged b c h = record { off = λ i j p q r s e. h .off j i r s p q (λ f. e (sym f)); on = h .on }
 
-  pub letters-word : (b : Factors A) (c : Factors B) → Alike b c → Each (Letters P Q n) (word n b) (word n c)
+  pub letters-word : (b : Factors A) (c : Factors B) → Alike b c → Matched (Letters P Q n) (word n b) (word n c)
   letters-word b c h =
-      each-word (Letters P Q n) n b c
+      matched-word (Letters P Q n) n b c
       (λ i j x y z. (refl, h .off j i (omega arith) z x (omega arith) (λ e. omega arith)))
       (λ i x y. h .on i x y)
       (λ i j x y z. (refl, h .off i j x (omega arith) (omega arith) z (λ e. omega arith)))
@@ -104,20 +105,20 @@ module _ {A B : Type 0} (P Q : A → B → Type 0) (n : ℕ) where
   AlikeSteps (s ∷ L) [] = ⊥
   AlikeSteps (s ∷ L) (t ∷ M) = AlikeStep s t × AlikeSteps L M
 
-  letters-step : (s : Step A) (t : Step B) → AlikeStep s t → Each (Letters P Q n) (stepWord n s) (stepWord n t)
+  letters-step : (s : Step A) (t : Step B) → AlikeStep s t → Matched (Letters P Q n) (stepWord n s) (stepWord n t)
   letters-step (step plain b) (step plain c) (alike h) = letters-word b c h
-  letters-step (step inverted b) (step inverted c) (alike h) = each-inverse (Letters P Q n) letters-inverse (word n b) (word n c) (letters-word b c h)
-  letters-step (step conversed b) (step conversed c) (alike h) = each-converse (Letters P Q n) n letters-converse (word n b) (word n c) (letters-word b c h)
+  letters-step (step inverted b) (step inverted c) (alike h) = matched-inverse (Letters P Q n) letters-inverse (word n b) (word n c) (letters-word b c h)
+  letters-step (step conversed b) (step conversed c) (alike h) = matched-converse (Letters P Q n) n letters-converse (word n b) (word n c) (letters-word b c h)
   letters-step (step transposed b) (step transposed c) (alike h) = letters-word (exchanged b) (exchanged c) (alike-exchanged b c h)
 
-  pub letters-joined : (L : List (Step A)) (M : List (Step B)) → AlikeSteps L M → Each (Letters P Q n) (joinedWord n L) (joinedWord n M)
+  pub letters-joined : (L : List (Step A)) (M : List (Step B)) → AlikeSteps L M → Matched (Letters P Q n) (joinedWord n L) (joinedWord n M)
   unfolding joinedWord
   letters-joined [] [] h = tt
   letters-joined (s ∷ []) (t ∷ []) h = letters-step s t (h .0)
   letters-joined (s ∷ []) (t ∷ t′ ∷ M) h = absurd (h .1)
   letters-joined (s ∷ s′ ∷ L) (t ∷ []) h = absurd (h .1)
   letters-joined (s ∷ s′ ∷ L) (t ∷ t′ ∷ M) h =
-      each-append (Letters P Q n) (stepWord n s) (stepWord n t) (joinedWord n (s′ ∷ L)) (joinedWord n (t′ ∷ M)) (letters-step s t (h .0)) (letters-joined (s′ ∷ L) (t′ ∷ M) (h .1))
+      matched-append (Letters P Q n) (stepWord n s) (stepWord n t) (joinedWord n (s′ ∷ L)) (joinedWord n (t′ ∷ M)) (letters-step s t (h .0)) (letters-joined (s′ ∷ L) (t′ ∷ M) (h .1))
 
   -- sources whose factors are in R, beside the same steps in other numbers
   pub alike-each : (R : A → Type 0) (f : A → B) → ((x : A) → R x → P x (f x)) → ((x : A) → R x → Q x (f x)) → (L : List (Step A)) → Sources R n L → AlikeSteps L (eachSteps f L)

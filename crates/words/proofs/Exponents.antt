@@ -16,17 +16,11 @@ use Rattle.words.specs.Word.{Word}
 use Rattle.words.specs.Walk.{State, oneAt, scaled, walk}
 use Rattle.words.specs.Operation.{Step, joinedWord}
 use Rattle.words.proofs.Walks.{All, all-behind}
-use Rattle.words.proofs.Steps.{Source, Sources, Weights, joined-weights}
+use Rattle.words.specs.Sources.{StoredSteps, runReach}
+use Rattle.words.proofs.Steps.{Weights, joined-weights}
 use Rattle.words.proofs.Related.{Related, repeated, total, letterCost, scaled-related, after, repeated-measure, after-measure, walk-related}
 use Rattle.words.proofs.Alike.{letters-self}
 use Rattle.words.proofs.Counts.{total-append, joined-square}
-
--- stored sources
-abbrev pub StoredStep : ℕ → Step Number → Type 0
-StoredStep = Source Stored
-
-abbrev pub StoredSteps : ℕ → List (Step Number) → Type 0
-StoredSteps = Sources Stored
 
 -- a weight times a number, before the sum
 pub weighed-ranged : {r : ℕ} {w x : Number} → r + 1064 ≤ bias → Stored w → Ranged r x → Ranged (r + 1033) (productOf w x)
@@ -77,9 +71,6 @@ module _ (e : ℕ → Number) (S : RowSet) (stored : (i : ℕ) → In (length S)
   divided-ranged = scaled-ranged quotientOf (ranged-related .rel-over)
 
 -- A RUN of m stored sources of n rows: how far its minors reach, and each number on the way to one
-abbrev pub runReach : ℕ → ℕ → ℕ
-runReach m n = 31 + 1035 * (m * (n * n))
-
 one-ranged : (J S : RowSet) → Ranged 31 (oneAt rounded J S)
 unfolding oneAt
 one-ranged J S = by (equal J S)

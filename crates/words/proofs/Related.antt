@@ -47,11 +47,11 @@ module _ {A : Type 0} where
   letterCost a d (Dinv e) = d
 
 -- two words, letter by letter
-abbrev pub Each : {A B : Type 0} → (Letter A → Letter B → Type 0) → Word A → Word B → Type 0
-Each P [] [] = Unit {0}
-Each P [] (y ∷ X) = ⊥
-Each P (x ∷ W) [] = ⊥
-Each P (x ∷ W) (y ∷ X) = P x y × Each P W X
+abbrev pub Matched : {A B : Type 0} → (Letter A → Letter B → Type 0) → Word A → Word B → Type 0
+Matched P [] [] = Unit {0}
+Matched P [] (y ∷ X) = ⊥
+Matched P (x ∷ W) [] = ⊥
+Matched P (x ∷ W) (y ∷ X) = P x y × Matched P W X
 
 -- two letters of one kind at one row, their weights related, or their entries 1 .. n
 abbrev pub Letters : {A B : Type 0} → (weight entry : A → B → Type 0) → ℕ → Letter A → Letter B → Type 0
@@ -120,13 +120,13 @@ module _ (A B : Arithmetic) (G : Type 0) (Rel : G → A .Num → B .Num → Type
   act-related (D e) (D f) h g ω η r S s = scaled-states (A .mul) (B .mul) rel-times e f h g ω η r S s
   act-related (Dinv e) (Dinv f) h g ω η r S s = scaled-states (A .div) (B .div) rel-over e f h g ω η r S s
 
-  pub walk-related : (W : Word (A .Num)) (X : Word (B .Num)) → Each (Letters Weight Entry n) W X → (g : G) (ω : State A) (η : State B) → States g ω η → States (after W g) (walk A W ω) (walk B X η)
+  pub walk-related : (W : Word (A .Num)) (X : Word (B .Num)) → Matched (Letters Weight Entry n) W X → (g : G) (ω : State A) (η : State B) → States g ω η → States (after W g) (walk A W ω) (walk B X η)
   unfolding walk after
   walk-related [] [] h g ω η r S s = r S s
   walk-related (l ∷ W) (m ∷ X) h g ω η r S s = act-related l m (h .0) (after W g) (walk A W ω) (walk B X η) (walk-related W X (h .1) g ω η r) S s
 
   -- a minor of related words, from a grade that relates zero to zero and one to one
-  pub minor-related : (W : Word (A .Num)) (X : Word (B .Num)) → Each (Letters Weight Entry n) W X → (g : G) → Rel g (A .zero) (B .zero) → Rel g (A .one) (B .one) → (I J : RowSet) → length I ≡ n
+  pub minor-related : (W : Word (A .Num)) (X : Word (B .Num)) → Matched (Letters Weight Entry n) W X → (g : G) → Rel g (A .zero) (B .zero) → Rel g (A .one) (B .one) → (I J : RowSet) → length I ≡ n
       → Rel (after W g) (minor A W I J) (minor B X I J)
   unfolding minor oneAt
   minor-related W X h g z o I J i = walk-related W X h g (oneAt A J) (oneAt B J) (λ S s. by (equal J S)) I i

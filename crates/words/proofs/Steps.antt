@@ -6,21 +6,10 @@ use native.Mathlib.Omega.{arith}
 use Rattle.words.specs.RowSet.{In}
 use Rattle.words.specs.Word.{Factors, Letter, E, Et, D, Dinv, Word, word, exchanged, inverseLetter, converseLetter}
 use Rattle.words.specs.Operation.{Step, step, plain, inverted, conversed, transposed, stepWord, joinedWord, eachSteps}
+use Rattle.words.specs.Sources.{Each, Source, Sources}
 use Rattle.words.proofs.Walks.{Rows, All, all-append}
 use Rattle.words.proofs.Words.{all-map, inverse-all, converse-all, inverse-row, converse-row}
 use Rattle.words.proofs.Stages.{word-all, word-rows}
-
--- the factors b (i, j), i and j from 1 to n, are in P; those of a step's source; those of all steps' sources
-module _ {A : Type 0} (P : A → Type 0) (n : ℕ) where
-  abbrev pub Table : Factors A → Type 0
-  Table b = (i j : ℕ) → In n i → In n j → P (b i j)
-
-  abbrev pub Source : Step A → Type 0
-  Source (step w b) = Table b
-
-  abbrev pub Sources : List (Step A) → Type 0
-  Sources [] = Unit {0}
-  Sources (s ∷ L) = Source s × Sources L
 
 pub sources-map : {A B : Type 0} (P : A → Type 0) (Q : B → Type 0) (n : ℕ) (f : A → B) → ((x : A) → P x → Q (f x)) → (L : List (Step A)) → Sources P n L → Sources Q n (eachSteps f L)
 sources-map P Q n f g [] h = tt
@@ -28,7 +17,7 @@ sources-map P Q n f g (step w b ∷ L) h = (λ i j x y. g (b i j) (h .0 i j x y)
 
 -- EVERY LETTER has a property that the words of such sources have, and that letters keep in the inverse's word and in the converse's
 module _ {A : Type 0} (P : A → Type 0) (Q : Letter A → Type 0) (n : ℕ)
-    (in-word : (b : Factors A) → Table P n b → All Q (word n b))
+    (in-word : (b : Factors A) → Each P n b → All Q (word n b))
     (in-inverse : (l : Letter A) → Q l → Q (inverseLetter l))
     (in-converse : (l : Letter A) → Q l → Q (converseLetter n l)) where
   pub step-all : (s : Step A) → Source P n s → All Q (stepWord n s)
@@ -73,7 +62,7 @@ module _ {A : Type 0} (P : A → Type 0) where
       one (Dinv e) h = h
 
   module _ (n : ℕ) where
-    pub word-weights : (b : Factors A) → Table P n b → All (Weights P P n) (word n b)
+    pub word-weights : (b : Factors A) → Each P n b → All (Weights P P n) (word n b)
     word-weights b h = word-all (Weights P P n) n b (λ i j x y z. h i j (omega arith, z) (x, omega arith)) (λ i x. h i i x x) (λ i j x y z. h j i (x, omega arith) (omega arith, z))
 
     inverse-weight : (l : Letter A) → Weights P P n l → Weights P P n (inverseLetter l)

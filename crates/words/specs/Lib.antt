@@ -3,4 +3,5 @@ pub mod Word
 pub mod Walk
 pub mod Formula
 pub mod Operation
+pub mod Sources
 pub mod Examples
