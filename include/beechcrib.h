@@ -2,11 +2,11 @@
  *
  * Link with libtnb_c.a (rt staticlib tnb_c). A shelf is a plain value: it goes into a call, and a call that may change it hands the new
  * one back. No call allocates, keeps a pointer or has any state of its own. Every call is total: whatever is handed over, it answers as
- * written here, as long as each pointer is good for its length.
+ * written here, as long as each pointer is good for its length and lent output overlaps nothing else that is handed over.
  *
  * Places count from 0 to 7. Row and column sets are masks, bit 0 for row 1.
  *
- * Every answer has a number: 0 for accepted, 1 to 14 for a refusal, 255 where the shelf handed over is not one that these calls made.
+ * Every answer has a number: 0 for accepted, 1 to 14 for a refusal, 255 where the shelf handed over is not one that these calls can have made.
  * A refused call changes neither the shelf nor lent memory. Where several conditions hold, the order is 1 (sources, then target), 11, 12,
  * 13, 8, 9, 14, 10; a load tests 1, 12, then bytes from the left.
  *
@@ -26,7 +26,7 @@
  *   14  a new factor, an answered minor or a nonzero carried item has an exponent outside -1000 to 1000
  *  255  no shelf of this library: a size above 8, a factor that is no stored number, or a number elsewhere that is not zero
  *
- * The offset is that of the faulty byte for 2 to 7, else 0. */
+ * The offset: for 3 to 6 the first byte of the group number at fault, for 2 the length of the input, for 7 the first byte behind the matrix, else 0. */
 #ifndef BEECHCRIB_H
 #define BEECHCRIB_H
 #include <stddef.h>

@@ -1,12 +1,15 @@
 -- DEMAND 3 HOLDS of product, re-signed inverse, converse and submatrix of stored sources of up to eight rows (demand); its exact part for any positive fractions and any size (factored).
+-- In plain words: a quarter of a millionth (demand-close).
 use mathlib.Core.Path.{_≡_, refl, sym, ap, _∙_, subst}
 use mathlib.Core.List.{List, [], _∷_}
 use Prim.Native.Nat.{ℕ, zero, suc, _+_, _-_, _*_, _≤_, _<_}
-use native.Mathlib.Nat.{mul-le-mul}
+use native.Mathlib.Nat.{mul-le-mul, mul-le-mul-left}
 use native.Mathlib.Omega.{arith}
 use lib.ListN.{length, length-append}
 use Rattle.fraction.specs.Fraction.{Fraction, Same, exact}
 use Rattle.fraction.specs.Rational.{rationals}
+use Rattle.fraction.specs.Within.{Close}
+use Rattle.fraction.proofs.Distance.{within-close}
 use Rattle.number.specs.declared.Number.{Number}
 use Rattle.number.specs.Number.{rounded, value, Stored, reach}
 use Rattle.number.proofs.Reach.{ranged-more}
@@ -125,3 +128,17 @@ demand n o some few h =
       within = λ i j x y. result-near n some few o h i j x y .within;
       factored = exactly-factored;
     }
+
+-- IN PLAIN WORDS: each factor differs from the exact one by less than a quarter of a millionth of it
+pub demand-close : (n : ℕ) (o : Operation Number) → 1 ≤ n → n ≤ 8 → Proper Stored n o → (i j : ℕ) → In (size n o) i → In (size n o) j
+    → Close 4000000 (value (result rounded n o i j)) (result exact n (exactly o) i j)
+demand-close n o some few h i j x y = within-close (bound n o) (bound-few o) (demand n o some few h .within i j x y)
+  where
+    square-few : 2 * n * n - n ≤ 120
+    square-few = omega (arith, mul-le-mul-left n few)
+
+    bound-few : (o : Operation Number) → bound n o ≤ 1000
+    bound-few (product b c) = omega (arith, square-few)
+    bound-few (inverse b) = omega (arith, square-few)
+    bound-few (converse b) = omega (arith, square-few)
+    bound-few (submatrix b P Q) = omega (arith, square-few)

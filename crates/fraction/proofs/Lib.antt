@@ -1,5 +1,6 @@
 pub mod Fraction
 pub mod Within
+pub mod Distance
 pub mod Rational
 pub mod Ring
 pub mod Ordered

@@ -1,5 +1,5 @@
 -- Document 01's "within k", "Numbers": one unit rounding is a factor from 1 - 2 ^ -32 to its reciprocal, and within k means a ratio from (1 - 2 ^ -32) ^ k to its reciprocal.
-use Prim.Native.Nat.{ℕ, _-_, _*_, _^_, _≤_}
+use Prim.Native.Nat.{ℕ, _+_, _-_, _*_, _^_, _≤_}
 use Rattle.fraction.specs.Fraction.{Fraction}
 
 -- (2 ^ 32 - 1) / 2 ^ 32 is 1 - 2 ^ -32. Shut, so that a power of either is never computed.
@@ -13,3 +13,8 @@ unit = 2 ^ 32
 pub record Within (k : ℕ) (x y : Fraction) : Type 0 where
   pub above : less ^ k * (y .top * x .low) ≤ unit ^ k * (x .top * y .low)
   pub below : less ^ k * (x .top * y .low) ≤ unit ^ k * (y .top * x .low)
+
+-- x differs from y by at most y / d: from (d - 1) / d to (d + 1) / d of it
+pub record Close (d : ℕ) (x y : Fraction) : Type 0 where
+  pub above : (d - 1) * (y .top * x .low) ≤ d * (x .top * y .low)
+  pub below : d * (x .top * y .low) ≤ (d + 1) * (y .top * x .low)

@@ -20,7 +20,7 @@ pub struct Shelf {
     sizes: [u8; 8],
 }
 
-// Document 01's number of what turned a call down, and the offset of the byte, 0 where it was no byte.
+// Document 01's number of what turned a call down, and its offset in the input, 0 where the number is not about bytes.
 pub struct Refusal {
     pub number: u8,
     pub offset: usize,
