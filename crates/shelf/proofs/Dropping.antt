@@ -16,7 +16,7 @@ use Rattle.walk.specs.Table.{tableOf}
 use Rattle.places.specs.Shelf.{without, Good}
 use Rattle.places.specs.Refusal.{firstOf, after, sourceTests}
 use Rattle.shelf.specs.Calls.{changed, dropCall}
-use Rattle.places.proofs.Holding.{good-without}
+use Rattle.places.proofs.Holding.{fits-none, good-put}
 use Rattle.places.proofs.Verdicts.{source-accepted, after-good}
 
 -- no rows: no factor
@@ -36,7 +36,7 @@ module _ (s : Shelf) (p : ℕ) where
   module _ (good : Good s) where
     pub drop-good : Good (dropCall s p .shelf)
     unfolding dropCall
-    drop-good = after-good s (without s p) good (firstOf (sourceTests s p)) (λ e. good-without s good p (source-accepted s p e .small))
+    drop-good = after-good s (without s p) good (firstOf (sourceTests s p)) (λ e. good-put s good p 0 _ (source-accepted s p e .small) (fits-none _))
 
     pub drop-answered : (x : Changed) → x ≡ dropCall s p → (x ≡ dropCall s p) × Good (x .shelf)
     drop-answered x e = (e, rw e drop-good)
