@@ -1,17 +1,15 @@
 -- The rule's operations on places. Where the tests of the places passed, the rule can be run (`Ready`, `product-ready`, `whole-ready`, `submatrix-ready`, `ready-workable`) and demand 3 holds; what is accepted can be kept,
 -- the shelf stays good, and what was promised holds (`operation-fits`, `operation-good`, `operation-promised`). The result by what was found: `operation-turned`, `operation-ranged`.
-use Prim.Native.Nat.{ℕ, suc, _+_, _<_, _≤_, _^_}
+use Prim.Native.Nat.{ℕ, _+_, _<_, _≤_}
 use native.Mathlib.Omega.{arith}
 use mathlib.Core.Path.{_≡_, refl, sym, ap, _∙_, subst}
-use mathlib.Core.Bool.{Bool, true, false, not, cond, _&&_}
+use mathlib.Core.Bool.{Bool, true, false, cond, _&&_}
 use mathlib.Core.List.{List, [], _∷_, _++_}
 use lib.Dec.{leb}
-use lib.ListN.{length}
 use borrow.Author.Tests.{leb-true}
 use Rattle.number.specs.declared.Number.{Number}
 use Rattle.number.specs.Number.{bias, reach, rounded, inRange, Ranged, Stored}
-use Rattle.words.specs.RowSet.{RowSet, In, rows, count, ofMask}
-use Rattle.words.specs.Word.{Factors}
+use Rattle.words.specs.RowSet.{rows, count}
 use Rattle.words.specs.Operation.{Operation, product, inverse, converse, submatrix, steps, keptRows, keptColumns, size, bound, rowByRow, result}
 use Rattle.words.proofs.Exponents.{StoredSteps}
 use Rattle.words.proofs.Chosen.{count-all}
@@ -36,10 +34,9 @@ use Rattle.places.proofs.Holding.{fits-table, rows-held, factors-held}
 use Rattle.places.proofs.Verdicts.{Fit, first-last, first-passed, when-passed, one-accepted, two-accepted, sets-accepted}
 use Rattle.operations.specs.declared.Proposed.{Proposed}
 use Rattle.operations.specs.declared.Operated.{Operated}
-use Rattle.operations.specs.declared.Bounded.{Bounded}
 use Rattle.operations.specs.declared.Bounded.the-variants as answer
 use Rattle.operations.specs.Operations.{refusal, factorTest, proposal, kept, rangedOf, operation, Keepable, productOf, inverseOf, converseOf, submatrixOf, submatrixTests}
-use Rattle.operations.specs.Promise.{Met, Promised}
+use Rattle.operations.specs.Promise.{Promised}
 use Rattle.operations.proofs.Proposals.{proposal-keepable, kept-good}
 
 -- a positive number that was worked, with its exponent in range, is a stored number

@@ -93,9 +93,13 @@ pub fn submatrix(shelf: Shelf, source: usize, rows: u8, columns: u8, target: usi
     ensures { λ r. ⌜ Good (r .shelf) ⌝ }
     ensures { λ r. ⌜ Promised (r .shelf) target (rowsAt shelf source) (submatrixOf shelf source rows columns) (r .answer) ⌝ }
 {
-    let i = rowset::wide(rows);
-    let j = rowset::wide(columns);
-    work::keep(shelf, target, work::submatrix(shelf, source, i, j, target))
+    let row_set = rowset::wide(rows);
+    let column_set = rowset::wide(columns);
+    work::keep(
+        shelf,
+        target,
+        work::submatrix(shelf, source, row_set, column_set, target),
+    )
 }
 
 // Any minor of a place, its row and column sets given as masks.

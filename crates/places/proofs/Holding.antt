@@ -1,6 +1,6 @@
 -- Laws of the shelf. Put and read: a place holds what was put there (`rows-put`, `table-put`), the others what they held (`rows-kept`, `table-kept`); what was put last counts (`put-put`),
 -- and what is there may be put again (`put-held`). A shelf is given by what it holds (`shelf-determined`). The empty shelf is good (`good-empty`), and stays good with what fits (`good-put`).
-use Prim.Native.Nat.{ℕ, zero, suc, _+_, _-_, _*_, _/_, _%_, _<_, _≤_}
+use Prim.Native.Nat.{ℕ, suc, _+_, _-_, _*_, _/_, _%_, _<_, _≤_}
 use native.Mathlib.Nat.{div-add-mod', div-lt-iff-lt-mul, mod-lt}
 use native.Mathlib.Decide.{ℕ-discrete}
 use native.Mathlib.Numerals.{add-one}

@@ -1,6 +1,6 @@
 // The shelf: eight places, each empty or holding a matrix. It goes in by value and comes back; what a place holds is read and put here.
 ghost use mathlib.Core.Path.{_≡_};
-ghost use Prim.Native.Nat.{_^_, _≤_, _<_};
+ghost use Prim.Native.Nat.{_^_, _<_};
 ghost use lib.IntN.{subℕ};
 ghost use Rattle.number.specs.Number.{bias};
 ghost use Rattle.places.specs.Shelf.{rowsAt, tableAt, withTable, emptyShelf, Fits, Good};

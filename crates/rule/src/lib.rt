@@ -112,14 +112,13 @@ impl Chosen {
         self.factor(i, j)
     }
 
-    // The new factors, zero past their rows and columns.
-    pub fn factors(self) -> [Number; 64]
+    // The new factors, zero past their rows and columns, put over the 64 numbers of a table.
+    pub fn factors(self, table: [Number; 64]) -> [Number; 64]
         requires { ⌜ Proper self ⌝ }
         ensures { λ r. ⌜ r ≡ tableOf (sizeOf self) (refactored rounded (self .word .n) (stepsOf (self .word)) (chosenRows self) (chosenColumns self)) ⌝ }
     {
         let k = rowset::count(self.rows);
-        let zero = Number::zero();
-        let mut b = [zero; 64];
+        let mut b = table;
         for t in 0..64usize {
             b[t] = self.cell(k, t);
         }
@@ -165,7 +164,7 @@ fn of_one(way: Way, b: [Number; 64], n: usize, p: usize, q: usize) -> Refactored
         columns: q,
     };
     Refactored {
-        factors: c.factors(),
+        factors: c.factors(b),
         rows: rowset::count(p),
         bound: bounds::one_source(n),
     }
@@ -182,7 +181,7 @@ pub fn product(b: [Number; 64], c: [Number; 64], n: usize) -> Refactored
         columns: all,
     };
     Refactored {
-        factors: c.factors(),
+        factors: c.factors(b),
         rows: n,
         bound: bounds::product(n),
     }

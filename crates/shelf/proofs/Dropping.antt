@@ -1,6 +1,5 @@
 -- Dropping a place: its result by what was found (`drop-turned`, `drop-done`), and the shelf stays good (`drop-good`).
-use mathlib.Core.Path.{_≡_, refl, sym, ap, _∙_}
-use mathlib.Core.List.{List, []}
+use mathlib.Core.Path.{_≡_, refl, sym, ap}
 use Prim.Native.Nat.{ℕ}
 use lib.ListN.{replicate}
 use Rattle.number.specs.declared.Number.{Number}
@@ -14,7 +13,7 @@ use Rattle.places.specs.declared.Verdict.{Verdict}
 use Rattle.places.specs.declared.Verdict.the-variants.{Accepted, Refused}
 use Rattle.walk.specs.Table.{tableOf}
 use Rattle.places.specs.Shelf.{without, Good}
-use Rattle.places.specs.Refusal.{firstOf, after, sourceTests}
+use Rattle.places.specs.Refusal.{firstOf, sourceTests}
 use Rattle.shelf.specs.Calls.{changed, dropCall}
 use Rattle.places.proofs.Holding.{fits-none, good-put}
 use Rattle.places.proofs.Verdicts.{source-accepted, after-good}

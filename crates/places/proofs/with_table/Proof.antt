@@ -8,7 +8,6 @@ use mathlib.Core.List.{List}
 use Rattle.number.specs.declared.Number.{Number}
 use Rattle.writer.proofs.Parts.{length-mapped}
 use Rattle.places.proofs.Holding.{shelf-fields, good-put}
-use native.Mathlib.Nat.{le-antisymm}
 use Prim.Native.Nat.{ℕ, _*_, _-_, _≤_}
 use mathlib.Core.Path.{_≡_, refl}
 use lib.ListN.{length, take}

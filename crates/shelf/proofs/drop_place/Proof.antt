@@ -1,4 +1,3 @@
-use native.Mathlib.Omega.{arith}
 use mathlib.Core.Path.{_≡_, sym, ap, _∙_}
 use Rattle.places.specs.declared.Verdict.the-variants.{Accepted}
 use Rattle.places.specs.Shelf.{withTable}

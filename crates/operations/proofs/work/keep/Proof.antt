@@ -2,8 +2,7 @@ use Rattle.operations.specs.declared.Operated.{Operated}
 use Rattle.places.specs.declared.Shelf.{Shelf}
 use Rattle.operations.specs.declared.Bounded.the-variants.{Bound}
 use Rattle.operations.proofs.Proposals.{kept-by}
-use mathlib.Core.Path.{_≡_, refl, ap}
-use Rattle.operations.specs.Operations.{kept}
+use mathlib.Core.Path.{refl, ap}
 use borrow.Author.Needs.{needs}
 use Rattle.operations.proofs.work.keep.Statement.{statement}
 use Rattle.operations.proofs.work.keep.Tie as tie
