@@ -70,7 +70,7 @@ module _ (s : Shelf) (p I J : ℕ) where
 
     pub minor-workable : Good s → Source s p → Fit (rowsAt s p) I J → (t : List Number) → t ≡ tableAt s p →
         ((1 ≤ n) × (n ≤ 8) × Each Stored n (factorsOf t)) × ((i < 2 ^ n) × (j < 2 ^ n) × (maskCount i ≡ maskCount j))
-    minor-workable good o w t h = rw (e, f, g, h) ((o .some, good .few p (o .small), good .stored p (o .small)), (w .rows, w .columns, w .counts))
+    minor-workable good o w t h = rw (e, f, g, h) ((o .some, good .held p (o .small) .few, good .held p (o .small) .stored), (w .rows, w .columns, w .counts))
 
 pub in-range-small : (a : Number) → inRange a ≡ true → a .x < 2 ^ 32
 unfolding inRange

@@ -1,17 +1,15 @@
--- The rule's operations on places. Where the tests of the places passed, the rule can be run (`Ready`, `product-ready`, .., `ready-ready`) and demand 3 holds; what is accepted can be kept,
--- the shelf stays good, and what was promised holds (`operation-kept`). The result by what was found: `operation-turned`, `operation-ranged`.
-use Prim.Native.Nat.{ℕ, suc, _+_, _<_, _≤_, _^_}
+-- The rule's operations on places. Where the tests of the places passed, the rule can be run (`Ready`, `product-ready`, `whole-ready`, `submatrix-ready`, `ready-workable`) and demand 3 holds; what is accepted can be kept,
+-- the shelf stays good, and what was promised holds (`operation-fits`, `operation-good`, `operation-promised`). The result by what was found: `operation-turned`, `operation-ranged`.
+use Prim.Native.Nat.{ℕ, _+_, _<_, _≤_}
 use native.Mathlib.Omega.{arith}
 use mathlib.Core.Path.{_≡_, refl, sym, ap, _∙_, subst}
-use mathlib.Core.Bool.{Bool, true, false, not, cond, _&&_}
+use mathlib.Core.Bool.{Bool, true, false, cond, _&&_}
 use mathlib.Core.List.{List, [], _∷_, _++_}
 use lib.Dec.{leb}
-use lib.ListN.{length}
 use borrow.Author.Tests.{leb-true}
 use Rattle.number.specs.declared.Number.{Number}
 use Rattle.number.specs.Number.{bias, reach, rounded, inRange, Ranged, Stored}
-use Rattle.words.specs.RowSet.{RowSet, In, rows, count, ofMask}
-use Rattle.words.specs.Word.{Factors}
+use Rattle.words.specs.RowSet.{rows, count}
 use Rattle.words.specs.Operation.{Operation, product, inverse, converse, submatrix, steps, keptRows, keptColumns, size, bound, rowByRow, result}
 use Rattle.words.specs.Sources.{StoredSteps}
 use Rattle.words.proofs.Chosen.{count-all}
@@ -21,24 +19,25 @@ use Rattle.factors.specs.Demand.{Each, Proper, Demand}
 use Rattle.factors.proofs.Demanded.{demand}
 use Rattle.walk.specs.Table.{tableOf}
 use Rattle.rule.specs.declared.Refactored.{Refactored}
-use Rattle.rule.specs.Result.{OperationWorkable, resultOf}
+use Rattle.rule.specs.declared.Whole.{Whole}
+use Rattle.rule.specs.declared.Whole.the-variants.{Inverse, Converse}
+use Rattle.rule.specs.Result.{OperationWorkable, resultOf, wholeOf}
 use Rattle.places.specs.declared.Shelf.{Shelf}
 use Rattle.places.specs.declared.Refusal.{Refusal}
 use Rattle.places.specs.declared.Verdict.{Verdict}
 use Rattle.places.specs.declared.Verdict.the-variants.{Accepted, Refused}
 use Rattle.places.specs.Table.{outside}
-use Rattle.places.specs.Shelf.{rowsAt, factorsAt, Good}
+use Rattle.places.specs.Shelf.{rowsAt, factorsAt, Fits, Good}
 use Rattle.places.specs.Refusal.{firstOf, orElse, when, unfit, oneSource, twoSources}
 use Rattle.places.proofs.Table.{rows-ranged, outside-table}
-use Rattle.places.proofs.Holding.{rows-held, factors-held}
+use Rattle.places.proofs.Holding.{fits-table, rows-held, factors-held}
 use Rattle.places.proofs.Verdicts.{Fit, first-last, first-passed, when-passed, one-accepted, two-accepted, sets-accepted}
 use Rattle.operations.specs.declared.Proposed.{Proposed}
 use Rattle.operations.specs.declared.Operated.{Operated}
-use Rattle.operations.specs.declared.Bounded.{Bounded}
 use Rattle.operations.specs.declared.Bounded.the-variants as answer
 use Rattle.operations.specs.Operations.{refusal, factorTest, proposal, kept, rangedOf, operation, Keepable, productOf, inverseOf, converseOf, submatrixOf, submatrixTests}
-use Rattle.operations.specs.Promise.{Met, Promised}
-use Rattle.operations.proofs.Proposals.{Kept, proposal-keepable, kept-good}
+use Rattle.operations.specs.Promise.{Promised}
+use Rattle.operations.proofs.Proposals.{proposal-keepable, kept-good}
 
 -- a positive number that was worked, with its exponent in range, is a stored number
 pub both-true : (t u : Bool) → t && u ≡ true → (t ≡ true) × (u ≡ true)
@@ -89,12 +88,12 @@ module _ (s : Shelf) (good : Good s) where
   pub product-ready : (l r t : ℕ) → firstOf (twoSources s l r t) ≡ Accepted → Ready t (rowsAt s l) (productOf s l r)
   product-ready l r t e =
       let a = two-accepted s l r t e in
-      let few = good .few l (a .0 .small) in
+      let few = good .held l (a .0 .small) .few in
       record {
         small = a .2 .small;
         some = a .0 .some;
         few = few;
-        proper = (good .stored l (a .0 .small), subst (λ (n : ℕ). Each Stored n (factorsAt s r)) (sym (a .3)) (good .stored r (a .1 .small)));
+        proper = (good .held l (a .0 .small) .stored, subst (λ (n : ℕ). Each Stored n (factorsAt s r)) (sym (a .3)) (good .held r (a .1 .small) .stored));
         fits = omega (arith, count-all (rowsAt s l));
       }
 
@@ -102,25 +101,23 @@ module _ (s : Shelf) (good : Good s) where
     source : (o : Operation Number) → Proper Stored (rowsAt s p) o → size (rowsAt s p) o ≤ rowsAt s p → Ready t (rowsAt s p) o
     source o h l =
         let a = one-accepted s p t e in
-        let few = good .few p (a .0 .small) in
+        let few = good .held p (a .0 .small) .few in
         record { small = a .1 .small; some = a .0 .some; few = few; proper = h; fits = omega arith }
 
     stored : Each Stored (rowsAt s p) (factorsAt s p)
-    stored = good .stored p (one-accepted s p t e .0 .small)
-
-    pub inverse-ready : Ready t (rowsAt s p) (inverseOf s p)
-    inverse-ready = source (inverseOf s p) stored (omega (arith, count-all (rowsAt s p)))
-
-    pub converse-ready : Ready t (rowsAt s p) (converseOf s p)
-    converse-ready = source (converseOf s p) stored (omega (arith, count-all (rowsAt s p)))
+    stored = good .held p (one-accepted s p t e .0 .small) .stored
 
     fit-ready : (I J : ℕ) → Fit (rowsAt s p) I J → Ready t (rowsAt s p) (submatrixOf s p I J)
     fit-ready I J f =
         let n = rowsAt s p in
-        let few : n ≤ 8 = good .few p (one-accepted s p t e .0 .small) in
+        let few : n ≤ 8 = good .held p (one-accepted s p t e .0 .small) .few in
         source (submatrixOf s p I J)
         (stored, ofMask-length n I, ofMask-length n J, mask-count n J few (f .columns) ∙ sym (f .counts) ∙ sym (mask-count n I few (f .rows)))
         (omega (arith, count-to n I, countTo-le n I))
+
+  pub whole-ready : (w : Whole) (p t : ℕ) → firstOf (oneSource s p t) ≡ Accepted → Ready t (rowsAt s p) (wholeOf w (factorsAt s p))
+  whole-ready Inverse p t e = source p t e (inverseOf s p) (stored p t e) (omega (arith, count-all (rowsAt s p)))
+  whole-ready Converse p t e = source p t e (converseOf s p) (stored p t e) (omega (arith, count-all (rowsAt s p)))
 
   pub submatrix-ready : (p I J t : ℕ) → firstOf (submatrixTests s p I J t) ≡ Accepted → Ready t (rowsAt s p) (submatrixOf s p I J)
   submatrix-ready p I J t e =
@@ -137,16 +134,15 @@ module _ (L : List Verdict) (t n : ℕ) (o : Operation Number) (ready : firstOf 
   operation-demand : firstOf L ≡ Accepted → Demand n o
   operation-demand e = let w = ready e in demand n o (w .some) (w .few) (w .proper)
 
-  operation-kept : firstOf (L ++ (factorTest n o ∷ [])) ≡ Accepted → Kept t (size n o) (result rounded n o)
-  operation-kept e =
+  operation-fits : firstOf (L ++ (factorTest n o ∷ [])) ≡ Accepted → (t < 8) × Fits (size n o) (tableOf (size n o) (result rounded n o))
+  operation-fits e =
       let v = verdict e in
       let w = ready (v .0) in
-      let d = operation-demand (v .0) in
-      record {
-        small = w .small;
-        few = w .fits;
-        stored = λ i j x y. stored-in-range (result rounded n o i j) (d .ranged i j x y) (d .positive i j x y) (rows-ranged (size n o) (result rounded n o) (w .fits) (v .1) i j x y);
-      }
+      let d = operation-demand (v .0) in (
+        w .small,
+        fits-table (size n o) (result rounded n o) (w .fits)
+            (λ i j x y. stored-in-range (result rounded n o i j) (d .ranged i j x y) (d .positive i j x y) (rows-ranged (size n o) (result rounded n o) (w .fits) (v .1) i j x y)),
+      )
 
   pub operation-turned : (w : Refusal) → firstOf L ≡ Refused w → refusal w ≡ operation L n o
   unfolding operation
@@ -169,30 +165,29 @@ module _ (L : List Verdict) (t n : ℕ) (o : Operation Number) (ready : firstOf 
       ∙ ap (λ (t : Bool). proposal (when t 14) (size n o) (bound n o) b) (outside-table (size n o) b (ready e .fits))
       ∙ ap (λ (u : Verdict). proposal u (size n o) (bound n o) b) (sym v)
 
-  pub operation-keepable : Keepable t (operation L n o .rows) (operation L n o .answer)
+  pub operation-keepable : Keepable t (operation L n o)
   unfolding operation
-  operation-keepable = proposal-keepable t (size n o) (bound n o) (result rounded n o) (firstOf (L ++ (factorTest n o ∷ []))) operation-kept
+  operation-keepable = proposal-keepable t (size n o) (bound n o) (result rounded n o) (firstOf (L ++ (factorTest n o ∷ []))) operation-fits
 
   -- the two ways in which a result is answered
-  pub answered-turned : (w : Refusal) (y : Proposed) → firstOf L ≡ Refused w → y ≡ refusal w → (y ≡ operation L n o) × Keepable t (y .rows) (y .answer)
+  pub answered-turned : (w : Refusal) (y : Proposed) → firstOf L ≡ Refused w → y ≡ refusal w → (y ≡ operation L n o) × Keepable t y
   answered-turned w y e f = let g = f ∙ operation-turned w e in (g, rw g operation-keepable)
 
-  pub answered-ranged : (x : Refactored) (y : Proposed) → firstOf L ≡ Accepted → x ≡ resultOf n o → y ≡ rangedOf x → (y ≡ operation L n o) × Keepable t (y .rows) (y .answer)
+  pub answered-ranged : (x : Refactored) (y : Proposed) → firstOf L ≡ Accepted → x ≡ resultOf n o → y ≡ rangedOf x → (y ≡ operation L n o) × Keepable t y
   answered-ranged x y e f g = let h = g ∙ operation-ranged e x f in (h, rw h operation-keepable)
 
   module _ (s : Shelf) (good : Good s) where
     pub operation-good : Good (kept s t (operation L n o) .shelf)
-    unfolding operation
-    operation-good = kept-good t (size n o) (bound n o) (result rounded n o) s good (firstOf (L ++ (factorTest n o ∷ []))) operation-kept
+    operation-good = kept-good s t (operation L n o) good operation-keepable
 
     promised-by : (v : Verdict) → firstOf (L ++ (factorTest n o ∷ [])) ≡ v → (let x = kept s t (proposal v (size n o) (bound n o) (result rounded n o)) in Promised (x .shelf) t n o (x .answer))
     unfolding kept
     promised-by Accepted e =
-        let k = operation-kept e in
+        let k = operation-fits e in
         record {
           bound-is = refl;
-          rows = rows-held s good t (size n o) (result rounded n o) (k .small);
-          factors = factors-held s good t (size n o) (result rounded n o) (k .small) (k .few);
+          rows = rows-held s good t (size n o) (tableOf (size n o) (result rounded n o)) (k .0) (k .1);
+          factors = factors-held s good t (size n o) (result rounded n o) (k .0) (k .1);
           demand = operation-demand (verdict e .0);
         }
     promised-by (Refused w) e = tt
@@ -201,10 +196,11 @@ module _ (L : List Verdict) (t n : ℕ) (o : Operation Number) (ready : firstOf 
     unfolding operation
     operation-promised = promised-by (firstOf (L ++ (factorTest n o ∷ []))) refl
 
-    pub operation-done : (x : Proposed) (y : Operated) → x ≡ operation L n o → y ≡ kept s t x → (y ≡ kept s t (operation L n o)) × (Good (y .shelf) × Promised (y .shelf) t n o (y .answer))
+    pub operation-done : (x : Proposed) (y : Operated) → x ≡ operation L n o → (y ≡ kept s t x) × Good (y .shelf)
+        → (y ≡ kept s t (operation L n o)) × (Good (y .shelf) × Promised (y .shelf) t n o (y .answer))
     operation-done x y e f =
-        let g : y ≡ kept s t (operation L n o) = f ∙ ap (kept s t) e in
-        (g, (rw g operation-good, rw g operation-promised))
+        let g : y ≡ kept s t (operation L n o) = f .0 ∙ ap (kept s t) e in
+        (g, (f .1, rw g operation-promised))
 
 -- THE TESTS OF A SUBMATRIX, by those of its places
 module _ (s : Shelf) (p I J t : ℕ) where

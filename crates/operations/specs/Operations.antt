@@ -1,5 +1,6 @@
 -- The operations (document 01, "Shelf calls"): what each proposes (`productProposal`, ..), the shelf with a result kept (`kept`), each call with its answer (`productCall`, ..), and minors (`minorCall`).
-use Prim.Native.Nat.{ℕ, _≤_, _<_}
+use Prim.Native.Nat.{ℕ, _<_}
+use mathlib.Core.Path.{_≡_}
 use mathlib.Core.Bool.{not, cond}
 use mathlib.Core.List.{List, [], _∷_, _++_}
 use lib.ListN.{replicate}
@@ -16,7 +17,7 @@ use Rattle.places.specs.declared.Verdict.{Verdict}
 use Rattle.places.specs.declared.Verdict.the-variants.{Accepted, Refused}
 use Rattle.walk.specs.Table.{tableOf}
 use Rattle.places.specs.Table.{outside, exponentOf}
-use Rattle.places.specs.Shelf.{rowsAt, factorsAt, withTable}
+use Rattle.places.specs.Shelf.{rowsAt, factorsAt, withTable, Fits}
 use Rattle.places.specs.Refusal.{firstOf, when, unfit, sourceTests, oneSource, twoSources}
 use Rattle.operations.specs.declared.Bounded.{Bounded}
 use Rattle.operations.specs.declared.Bounded.the-variants as answer
@@ -41,10 +42,9 @@ keptBy s t x (answer.Refused w) = record { shelf = s; answer = answer.Refused w 
 unfoldable pub kept : Shelf → ℕ → Proposed → Operated
 kept s t x = keptBy s t x (x .answer)
 
--- what can be kept: at a place of the shelf, at most eight rows
-abbrev pub Keepable : ℕ → ℕ → Bounded → Type 0
-Keepable t k (answer.Bound e) = (t < 8) × (k ≤ 8)
-Keepable t k (answer.Refused w) = Unit {0}
+-- what can be kept: where it was not turned down, it fits a place of the shelf
+abbrev pub Keepable : ℕ → Proposed → Type 0
+Keepable t x = (e : ℕ) → x .answer ≡ answer.Bound e → (t < 8) × Fits (x .rows) (x .factors)
 
 -- TRANSPOSE: factors exchanged, no rounding
 unfoldable pub transposeProposal : Shelf → ℕ → ℕ → Proposed
@@ -80,11 +80,9 @@ submatrixOf s p I J = submatrix (factorsAt s p) (ofMask (rowsAt s p) I) (ofMask 
 abbrev pub productProposal : Shelf → ℕ → ℕ → ℕ → Proposed
 productProposal s l r t = operation (twoSources s l r t) (rowsAt s l) (productOf s l r)
 
-abbrev pub inverseProposal : Shelf → ℕ → ℕ → Proposed
-inverseProposal s p t = operation (oneSource s p t) (rowsAt s p) (inverseOf s p)
-
-abbrev pub converseProposal : Shelf → ℕ → ℕ → Proposed
-converseProposal s p t = operation (oneSource s p t) (rowsAt s p) (converseOf s p)
+-- on one source, with no other tests
+abbrev pub wholeProposal : Shelf → ℕ → ℕ → Operation Number → Proposed
+wholeProposal s p t o = operation (oneSource s p t) (rowsAt s p) o
 
 abbrev pub submatrixTests : Shelf → ℕ → ℕ → ℕ → ℕ → List Verdict
 submatrixTests s p I J t = oneSource s p t ++ (when (unfit (rowsAt s p) I J) 8 ∷ [])
@@ -97,10 +95,10 @@ abbrev pub productCall : Shelf → ℕ → ℕ → ℕ → Operated
 productCall s l r t = kept s t (productProposal s l r t)
 
 abbrev pub inverseCall : Shelf → ℕ → ℕ → Operated
-inverseCall s p t = kept s t (inverseProposal s p t)
+inverseCall s p t = kept s t (wholeProposal s p t (inverseOf s p))
 
 abbrev pub converseCall : Shelf → ℕ → ℕ → Operated
-converseCall s p t = kept s t (converseProposal s p t)
+converseCall s p t = kept s t (wholeProposal s p t (converseOf s p))
 
 abbrev pub submatrixCall : Shelf → ℕ → ℕ → ℕ → ℕ → Operated
 submatrixCall s p I J t = kept s t (submatrixProposal s p I J t)

@@ -9,6 +9,7 @@ use places::Refusal;
 use places::Shelf;
 use places::Verdict;
 use places::judge;
+use rule::Whole;
 
 mod value; // value.rt: a minor
 mod work; // work.rt: results, and how they are kept
@@ -64,7 +65,11 @@ pub fn inverse(shelf: Shelf, source: usize, target: usize) -> Operated
     ensures { λ r. ⌜ Good (r .shelf) ⌝ }
     ensures { λ r. ⌜ Promised (r .shelf) target (rowsAt shelf source) (inverseOf shelf source) (r .answer) ⌝ }
 {
-    work::keep(shelf, target, work::inverse(shelf, source, target))
+    work::keep(
+        shelf,
+        target,
+        work::of_whole(shelf, Whole::Inverse, source, target),
+    )
 }
 
 // The converse of a place, to an empty place.
@@ -74,7 +79,11 @@ pub fn converse(shelf: Shelf, source: usize, target: usize) -> Operated
     ensures { λ r. ⌜ Good (r .shelf) ⌝ }
     ensures { λ r. ⌜ Promised (r .shelf) target (rowsAt shelf source) (converseOf shelf source) (r .answer) ⌝ }
 {
-    work::keep(shelf, target, work::converse(shelf, source, target))
+    work::keep(
+        shelf,
+        target,
+        work::of_whole(shelf, Whole::Converse, source, target),
+    )
 }
 
 // The chosen rows and columns of a place, given as masks, to an empty place.
@@ -84,9 +93,13 @@ pub fn submatrix(shelf: Shelf, source: usize, rows: u8, columns: u8, target: usi
     ensures { λ r. ⌜ Good (r .shelf) ⌝ }
     ensures { λ r. ⌜ Promised (r .shelf) target (rowsAt shelf source) (submatrixOf shelf source rows columns) (r .answer) ⌝ }
 {
-    let i = rowset::wide(rows);
-    let j = rowset::wide(columns);
-    work::keep(shelf, target, work::submatrix(shelf, source, i, j, target))
+    let row_set = rowset::wide(rows);
+    let column_set = rowset::wide(columns);
+    work::keep(
+        shelf,
+        target,
+        work::submatrix(shelf, source, row_set, column_set, target),
+    )
 }
 
 // Any minor of a place, its row and column sets given as masks.

@@ -1,10 +1,11 @@
 // The operations: a result is worked first (`Proposed`) and kept by a step of its own.
 ghost use mathlib.Core.Path.{_≡_};
 ghost use Prim.Native.Nat.{_<_};
-ghost use Rattle.places.specs.Shelf.{Good};
+ghost use Rattle.rule.specs.Result.{wholeOf};
+ghost use Rattle.places.specs.Shelf.{factorsAt, Good};
 ghost use Rattle.places.specs.Refusal.{firstOf};
 ghost use Rattle.operations.specs.Operations.{Keepable, refusal, kept, rangedOf, submatrixTests};
-ghost use Rattle.operations.specs.Operations.{transposeProposal, productProposal, inverseProposal, converseProposal, submatrixProposal};
+ghost use Rattle.operations.specs.Operations.{transposeProposal, productProposal, wholeProposal, submatrixProposal};
 use crate::Bounded;
 use crate::Operated;
 use crate::Proposed;
@@ -14,6 +15,7 @@ use places::Verdict;
 use places::judge;
 use places::tables;
 use rule::Refactored;
+use rule::Whole;
 
 // No result.
 fn refusal(why: Refusal) -> Proposed
@@ -29,8 +31,9 @@ fn refusal(why: Refusal) -> Proposed
 
 // A result is kept at a place; without one the shelf stays as it was.
 pub fn keep(shelf: Shelf, target: usize, result: Proposed) -> Operated
-    requires { ⌜ Keepable target (result .rows) (result .answer) ⌝ }
+    requires { ⌜ Good shelf × Keepable target result ⌝ }
     ensures { λ r. ⌜ r ≡ kept shelf target result ⌝ }
+    ensures { λ r. ⌜ Good (r .shelf) ⌝ }
 {
     let answer = result.answer;
     match answer {
@@ -52,7 +55,7 @@ pub fn keep(shelf: Shelf, target: usize, result: Proposed) -> Operated
 pub fn transposed(shelf: Shelf, source: usize, target: usize) -> Proposed
     requires { ⌜ Good shelf ⌝ }
     ensures { λ r. ⌜ r ≡ transposeProposal shelf source target ⌝ }
-    ensures { λ r. ⌜ Keepable target (r .rows) (r .answer) ⌝ }
+    ensures { λ r. ⌜ Keepable target r ⌝ }
 {
     let first = judge::one_source(shelf, source, target);
     if let Verdict::Refused(why) = first {
@@ -88,7 +91,7 @@ fn ranged(result: Refactored) -> Proposed
 pub fn product(shelf: Shelf, left: usize, right: usize, target: usize) -> Proposed
     requires { ⌜ Good shelf ⌝ }
     ensures { λ r. ⌜ r ≡ productProposal shelf left right target ⌝ }
-    ensures { λ r. ⌜ Keepable target (r .rows) (r .answer) ⌝ }
+    ensures { λ r. ⌜ Keepable target r ⌝ }
 {
     let first = judge::two_sources(shelf, left, right, target);
     if let Verdict::Refused(why) = first {
@@ -100,10 +103,11 @@ pub fn product(shelf: Shelf, left: usize, right: usize, target: usize) -> Propos
     ranged(rule::product(b, c, n))
 }
 
-pub fn inverse(shelf: Shelf, source: usize, target: usize) -> Proposed
+// The re-signed inverse or the converse.
+pub fn of_whole(shelf: Shelf, which: Whole, source: usize, target: usize) -> Proposed
     requires { ⌜ Good shelf ⌝ }
-    ensures { λ r. ⌜ r ≡ inverseProposal shelf source target ⌝ }
-    ensures { λ r. ⌜ Keepable target (r .rows) (r .answer) ⌝ }
+    ensures { λ r. ⌜ r ≡ wholeProposal shelf source target (wholeOf which (factorsAt shelf source)) ⌝ }
+    ensures { λ r. ⌜ Keepable target r ⌝ }
 {
     let first = judge::one_source(shelf, source, target);
     if let Verdict::Refused(why) = first {
@@ -111,21 +115,7 @@ pub fn inverse(shelf: Shelf, source: usize, target: usize) -> Proposed
     }
     let n = places::rows_at(shelf, source);
     let b = places::table_at(shelf, source);
-    ranged(rule::inverse(b, n))
-}
-
-pub fn converse(shelf: Shelf, source: usize, target: usize) -> Proposed
-    requires { ⌜ Good shelf ⌝ }
-    ensures { λ r. ⌜ r ≡ converseProposal shelf source target ⌝ }
-    ensures { λ r. ⌜ Keepable target (r .rows) (r .answer) ⌝ }
-{
-    let first = judge::one_source(shelf, source, target);
-    if let Verdict::Refused(why) = first {
-        return refusal(why);
-    }
-    let n = places::rows_at(shelf, source);
-    let b = places::table_at(shelf, source);
-    ranged(rule::converse(b, n))
+    ranged(rule::of_whole(which, b, n))
 }
 
 // The tests of a submatrix before its factors are worked.
@@ -156,7 +146,7 @@ pub fn submatrix(
 ) -> Proposed
     requires { ⌜ Good shelf × (rows < 256) × (columns < 256) ⌝ }
     ensures { λ r. ⌜ r ≡ submatrixProposal shelf source rows columns target ⌝ }
-    ensures { λ r. ⌜ Keepable target (r .rows) (r .answer) ⌝ }
+    ensures { λ r. ⌜ Keepable target r ⌝ }
 {
     let first = submatrix_tests(shelf, source, rows, columns, target);
     if let Verdict::Refused(why) = first {

@@ -168,13 +168,13 @@ module _ (s : Shelf) (eight : length (s .sizes) ≡ 8) (all : length (s .numbers
         sym e ∙ tested-within (leb (suc i) (rowsAt s p)) (leb (suc j) (rowsAt s p)) (factorsAt s p (suc i) (suc j)) (cell-of p i j h k l (factorsAt s p (suc i) (suc j)) e))
 
     pub tested-good : Good s
-    tested-good = record { places = eight; numbers = all; few = few-of; stored = stored-of; rest = rest-is }
+    tested-good = record { places = eight; numbers = all; held = λ p h. record { few = few-of p h; stored = stored-of p h; rest = rest-is p h } }
 
 pub good-tested : (s : Shelf) → Good s → isGood s ≡ true
 unfolding isGood fewRows soundNumbers sound
 good-tested s g =
     and-eq-true-iff (fewRows s) (soundNumbers s) .1 (
-      all-below (λ p. leb (rowsAt s p) 8) 8 (λ p h. le-leb (rowsAt s p) 8 (g .few p h)),
+      all-below (λ p. leb (rowsAt s p) 8) 8 (λ p h. le-leb (rowsAt s p) 8 (g .held p h .few)),
       all-below (soundAt s) 512
           (λ k h.
           let p : k / 64 < 8 = div-lt-iff-lt-mul {k = 64} {x = k} {y = 8} (omega arith) .1 (omega arith) in
@@ -186,9 +186,9 @@ good-tested s g =
           let e : getD (s .numbers) k absent ≡ within n b (suc (k % 64 / 8)) (suc (k % 64 % 8)) =
           ap (λ (x : ℕ). getD (s .numbers) x absent) (sym (div-add-mod' k 64))
           ∙ number-of s (g .places) (g .numbers) (k / 64) (k % 64) p r
-          ∙ ap (λ (t : List Number). getD t (k % 64) zeroNumber) (g .rest (k / 64) p)
+          ∙ ap (λ (t : List Number). getD t (k % 64) zeroNumber) (g .held (k / 64) p .rest)
           ∙ ap (λ (x : ℕ). getD (tableOf n b) x zeroNumber) (sym (div-add-mod' (k % 64) 8))
           ∙ table-at n b zeroNumber (k % 64 / 8) (k % 64 % 8) i j in
           subst (λ (a : Number). cond (leb (suc (k % 64 / 8)) n && leb (suc (k % 64 % 8)) n) (isStored a) (isZero a) ≡ true) (sym e)
-          (within-tested n b (g .stored (k / 64) p) (suc (k % 64 / 8)) (suc (k % 64 % 8)) (omega arith) (omega arith) (leb (suc (k % 64 / 8)) n) (leb (suc (k % 64 % 8)) n) refl refl)),
+          (within-tested n b (g .held (k / 64) p .stored) (suc (k % 64 / 8)) (suc (k % 64 % 8)) (omega arith) (omega arith) (leb (suc (k % 64 / 8)) n) (leb (suc (k % 64 % 8)) n) refl refl)),
     )

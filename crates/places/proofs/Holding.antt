@@ -1,6 +1,6 @@
 -- Laws of the shelf. Put and read: a place holds what was put there (`rows-put`, `table-put`), the others what they held (`rows-kept`, `table-kept`); what was put last counts (`put-put`),
--- and what is there may be put again (`put-held`). A shelf is given by what it holds (`shelf-determined`), and stays good (`good-empty`, `good-holding`, `good-without`).
-use Prim.Native.Nat.{ℕ, zero, suc, _+_, _-_, _*_, _/_, _%_, _<_, _≤_}
+-- and what is there may be put again (`put-held`). A shelf is given by what it holds (`shelf-determined`). The empty shelf is good (`good-empty`), and stays good with what fits (`good-put`).
+use Prim.Native.Nat.{ℕ, suc, _+_, _-_, _*_, _/_, _%_, _<_, _≤_}
 use native.Mathlib.Nat.{div-add-mod', div-lt-iff-lt-mul, mod-lt}
 use native.Mathlib.Decide.{ℕ-discrete}
 use native.Mathlib.Numerals.{add-one}
@@ -16,7 +16,7 @@ use Rattle.minors.specs.Matrix.{In}
 use Rattle.factors.specs.Demand.{Each}
 use Rattle.places.specs.declared.Shelf.{Shelf}
 use Rattle.walk.specs.Table.{absent, factorsOf, tableOf}
-use Rattle.places.specs.Shelf.{rowsAt, tableAt, factorsAt, withTable, holding, without, emptyShelf, Good}
+use Rattle.places.specs.Shelf.{rowsAt, tableAt, factorsAt, withTable, holding, emptyShelf, Fits, Good}
 use Rattle.writer.proofs.Parts.{sets-append}
 use Rattle.places.proofs.Filled.{Filled, filled-all}
 use Rattle.places.proofs.Table.{table-length, factors-table, table-list, table-same, table-refactored, within-none}
@@ -122,66 +122,66 @@ pub shelf-determined : (s t : Shelf) → Good s → Good t → ((p : ℕ) → p 
 shelf-determined s t g h e f =
     same-places s t g h e
     (λ p l.
-    g .rest p l
+    g .held p l .rest
     ∙ table-same (rowsAt s p) (factorsAt s p) (factorsAt t p) (f p l)
     ∙ ap (λ (n : ℕ). tableOf n (factorsAt t p)) (e p l)
-    ∙ sym (h .rest p l))
+    ∙ sym (h .held p l .rest))
+
+-- WHAT FITS A PLACE: the table of stored factors
+pub fits-table : (n : ℕ) (b : Factors Number) → n ≤ 8 → Each Stored n b → Fits n (tableOf n b)
+fits-table n b few h = record { few = few; stored = λ i j x y. rw (factors-table n b few i j x y) (h i j x y); rest = sym (table-refactored n b few) }
+
+pub fits-none : (b : Factors Number) → Fits 0 (tableOf 0 b)
+fits-none b = fits-table 0 b (omega arith) (λ i j x y. absurd (omega arith))
 
 -- THE SHELF STAYS GOOD
-module _ (s : Shelf) (g : Good s) (p n : ℕ) (b : Factors Number) (small : p < 8) where
+module _ (s : Shelf) (g : Good s) (p n : ℕ) (t : List Number) (small : p < 8) (fits : Fits n t) where
   abbrev new : Shelf
-  new = holding s p n b
+  new = withTable s p n t
 
-  long : length (tableOf n b) ≡ 64
-  long = table-length n b
+  long : length t ≡ 64
+  long = ap length (fits .rest) ∙ table-length n (factorsOf t)
 
   pub rows-held : rowsAt new p ≡ n
-  rows-held = rows-put s p n (tableOf n b) small (g .places) (g .numbers) long
+  rows-held = rows-put s p n t small (g .places) (g .numbers) long
 
-  pub table-held : tableAt new p ≡ tableOf n b
-  table-held = table-put s p n (tableOf n b) small (g .places) (g .numbers) long
+  pub table-held : tableAt new p ≡ t
+  table-held = table-put s p n t small (g .places) (g .numbers) long
 
-  pub factors-held : n ≤ 8 → (i j : ℕ) → In n i → In n j → factorsAt new p i j ≡ b i j
-  factors-held few i j h k = ap (λ (t : List Number). factorsOf t i j) table-held ∙ factors-table n b few i j h k
-
-  -- what holds of the matrix put and of each other place
-  place-by : (P : ℕ → List Number → Type 0) → P n (tableOf n b) → ((q : ℕ) → q < 8 → P (rowsAt s q) (tableAt s q)) → (q : ℕ) → q < 8 → P (rowsAt new q) (tableAt new q)
-  place-by P h k q l =
+  -- the table put, and each other place
+  each-held : (q : ℕ) → q < 8 → Fits (rowsAt new q) (tableAt new q)
+  each-held q l =
       elim (ℕ-discrete q p) [
-        | yes e ↦ rw (e, rows-held, table-held) h
-        | no e ↦
-            rw (rows-kept s p n (tableOf n b) small (g .places) (g .numbers) long q e, table-kept s p n (tableOf n b) small (g .places) (g .numbers) long q e) (k q l)
+        | yes e ↦ rw (e, rows-held, table-held) fits
+        | no e ↦ rw (rows-kept s p n t small (g .places) (g .numbers) long q e, table-kept s p n t small (g .places) (g .numbers) long q e) (g .held q l)
       ]
 
-  pub good-holding : n ≤ 8 → Each Stored n b → Good new
+  pub good-put : Good new
   unfolding withTable
-  good-holding few h =
-      record {
-        places = length-set (s .sizes) p n ∙ g .places;
-        numbers = length-sets (s .numbers) (p * 64) (tableOf n b) ∙ g .numbers;
-        few = place-by (λ m t. m ≤ 8) few (g .few);
-        stored = place-by (λ m t. Each Stored m (factorsOf t)) (λ i j x y. rw (factors-table n b few i j x y) (h i j x y)) (g .stored);
-        rest = place-by (λ m t. t ≡ tableOf m (factorsOf t)) (sym (table-refactored n b few)) (g .rest);
-      }
+  good-put =
+      record { places = length-set (s .sizes) p n ∙ g .places; numbers = length-sets (s .numbers) (p * 64) t ∙ g .numbers; held = each-held }
 
-pub good-without : (s : Shelf) → Good s → (p : ℕ) → p < 8 → Good (without s p)
-good-without s g p small = good-holding s g p 0 (λ i j. zeroNumber) small (omega arith) (λ i j x y. absurd (omega arith))
+pub factors-held : (s : Shelf) → Good s → (p n : ℕ) (b : Factors Number) → p < 8 → Fits n (tableOf n b) → (i j : ℕ) → In n i → In n j → factorsAt (holding s p n b) p i j ≡ b i j
+factors-held s g p n b small fits i j h k =
+    ap (λ (t : List Number). factorsOf t i j) (table-held s g p n (tableOf n b) small fits) ∙ factors-table n b (fits .few) i j h k
 
 -- what is there may be put again
 pub put-held : (s : Shelf) → Good s → (p : ℕ) → p < 8 → holding s p (rowsAt s p) (factorsAt s p) ≡ s
 put-held s g p small =
     let n = rowsAt s p in
+    let f = g .held p small in
     let t = tableOf n (factorsAt s p) in
     let l : length t ≡ 64 = table-length n (factorsAt s p) in
-    same-places (holding s p n (factorsAt s p)) s (good-holding s g p n (factorsAt s p) small (g .few p small) (g .stored p small)) g
-    (λ q h.
+    let h : Fits n t = fits-table n (factorsAt s p) (f .few) (f .stored) in
+    same-places (withTable s p n t) s (good-put s g p n t small h) g
+    (λ q x.
     elim (ℕ-discrete q p) [
-      | yes e ↦ rw e (rows-held s g p n (factorsAt s p) small)
+      | yes e ↦ rw e (rows-held s g p n t small h)
       | no e ↦ rows-kept s p n t small (g .places) (g .numbers) l q e
     ])
-    (λ q h.
+    (λ q x.
     elim (ℕ-discrete q p) [
-      | yes e ↦ rw e (table-held s g p n (factorsAt s p) small ∙ sym (g .rest p small))
+      | yes e ↦ rw e (table-held s g p n t small h ∙ sym (f .rest))
       | no e ↦ table-kept s p n t small (g .places) (g .numbers) l q e
     ])
 
@@ -210,7 +210,5 @@ good-empty =
     record {
       places = length-replicate {A = ℕ} 8 0;
       numbers = length-replicate 512 zeroNumber;
-      few = λ p h. rw (empty-rows p h) (omega arith);
-      stored = λ p h. rw (empty-rows p h) (λ i j x y. absurd (omega arith));
-      rest = λ p h. rw (empty-rows p h) (empty-table p h _);
+      held = λ p h. rw (empty-rows p h, empty-table p h (λ i j. zeroNumber)) (fits-none (λ i j. zeroNumber));
     }

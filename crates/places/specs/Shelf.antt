@@ -1,5 +1,5 @@
 -- The shelf (document 01, "Shelf calls"): places 0 to 7, each empty or holding a matrix. What a place holds (`rowsAt`, `factorsAt`), a matrix put at a place (`holding`),
--- a place emptied (`without`), and what holds of every shelf that a call hands back (`Good`). An empty place holds no rows.
+-- a place emptied (`without`), and what holds of every shelf that a call hands back (`Good`, by `Fits` of each place). An empty place holds no rows.
 use Prim.Native.Nat.{ℕ, _*_, _≤_, _<_}
 use mathlib.Core.Path.{_≡_}
 use mathlib.Core.List.{List}
@@ -37,10 +37,14 @@ without s p = holding s p 0 (λ i j. zeroNumber)
 unfoldable pub emptyShelf : Shelf
 emptyShelf = record { numbers = replicate 512 zeroNumber; sizes = replicate 8 0 }
 
--- at most eight rows at each place; their factors are stored numbers; every other number is zero
+-- what a place can hold: at most eight rows, their factors stored numbers, every other number zero
+pub record Fits (n : ℕ) (t : List Number) : Type 0 where
+  pub few : n ≤ 8
+  pub stored : Each Stored n (factorsOf t)
+  pub rest : t ≡ tableOf n (factorsOf t)
+
+-- eight places, and each holds what fits
 pub record Good (s : Shelf) : Type 0 where
   pub places : length (s .sizes) ≡ 8
   pub numbers : length (s .numbers) ≡ 512
-  pub few : (p : ℕ) → p < 8 → rowsAt s p ≤ 8
-  pub stored : (p : ℕ) → p < 8 → Each Stored (rowsAt s p) (factorsAt s p)
-  pub rest : (p : ℕ) → p < 8 → tableAt s p ≡ tableOf (rowsAt s p) (factorsAt s p)
+  pub held : (p : ℕ) → p < 8 → Fits (rowsAt s p) (tableAt s p)

@@ -1,9 +1,9 @@
 // The shelf: eight places, each empty or holding a matrix. It goes in by value and comes back; what a place holds is read and put here.
 ghost use mathlib.Core.Path.{_≡_};
-ghost use Prim.Native.Nat.{_^_, _≤_, _<_};
+ghost use Prim.Native.Nat.{_^_, _<_};
 ghost use lib.IntN.{subℕ};
 ghost use Rattle.number.specs.Number.{bias};
-ghost use Rattle.places.specs.Shelf.{rowsAt, tableAt, withTable, emptyShelf, Good};
+ghost use Rattle.places.specs.Shelf.{rowsAt, tableAt, withTable, emptyShelf, Fits, Good};
 use number::Number;
 
 pub mod check; // check.rt: the test of a shelf that nothing vouches for
@@ -69,8 +69,9 @@ pub fn table_at(shelf: Shelf, place: usize) -> [Number; 64]
 
 // A table of n rows put at a place.
 pub fn with_table(shelf: Shelf, place: usize, n: usize, t: [Number; 64]) -> Shelf
-    requires { ⌜ (place < 8) × (n ≤ 8) ⌝ }
+    requires { ⌜ Good shelf × (place < 8) × Fits n t ⌝ }
     ensures { λ r. ⌜ r ≡ withTable shelf place n t ⌝ }
+    ensures { λ r. ⌜ Good r ⌝ }
 {
     let mut left = shelf;
     for k in 0..64usize {

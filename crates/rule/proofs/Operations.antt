@@ -64,6 +64,10 @@ module _ (n p : ℕ) (ln : n ≤ 8) (e : p ≡ maskRun 1 n) where
   pub all-workable : (L : List (Step Number)) → Workable n L (rows n 1 n) (rows n 1 n) → Workable n L (ofMask n p) (ofMask n p)
   all-workable L W = subst (λ (P : RowSet). Workable n L P P) (sym all-mask) W
 
+  -- what `of_one` asks for all rows and columns
+  pub all-asked : (L : List (Step Number)) → Workable n L (rows n 1 n) (rows n 1 n) → ((p < 2 ^ n) × (p < 2 ^ n)) × Workable n L (ofMask n p) (ofMask n p)
+  all-asked L W = ((all-below, all-below), all-workable L W)
+
   pub all-result : (L : List (Step Number)) → refactoredOf n L (ofMask n p) (ofMask n p) ≡ refactoredOf n L (rows n 1 n) (rows n 1 n)
   all-result L = ap (λ (P : RowSet). refactoredOf n L P P) all-mask
 

@@ -6,8 +6,9 @@ use Rattle.number.specs.Number.{rounded}
 use Rattle.number.specs.declared.Number.{Number}
 use lib.ListN.{length}
 use Rattle.words.specs.RowSet.{RowSet, count, among}
+use Rattle.words.specs.Word.{Factors}
 use Rattle.words.specs.Walk.{minor}
-use Rattle.words.specs.Operation.{Step, step, plain, Operation, steps, joinedWord, keptRows, keptColumns, boundOf, refactored}
+use Rattle.words.specs.Operation.{Step, step, plain, Operation, inverse, converse, steps, joinedWord, keptRows, keptColumns, boundOf, refactored}
 use Rattle.words.specs.Sources.{StoredSteps}
 use Rattle.walk.specs.Steps.{wayOf, stepsOf}
 use Rattle.walk.specs.Table.{factorsOf, tableOf}
@@ -15,6 +16,8 @@ use Rattle.walk.specs.declared.Way.{Way}
 use Rattle.walk.specs.declared.Joined.{Joined}
 use Rattle.rule.specs.Chosen.{Regular}
 use Rattle.rule.specs.declared.Refactored.{Refactored}
+use Rattle.rule.specs.declared.Whole.{Whole}
+use Rattle.rule.specs.declared.Whole.the-variants.{Inverse, Converse}
 
 pub record OneStep (way : Way) (b : List Number) (n : ℕ) (w : Joined) : Type 0 where
   pub steps : stepsOf w ≡ step (wayOf way) (factorsOf b) ∷ []
@@ -44,3 +47,8 @@ resultOf n o = refactoredOf n (steps o) (keptRows n o) (keptColumns n o)
 
 abbrev pub OperationWorkable : ℕ → Operation Number → Type 0
 OperationWorkable n o = Workable n (steps o) (keptRows n o) (keptColumns n o)
+
+-- the re-signed inverse and the converse
+abbrev pub wholeOf : Whole → Factors Number → Operation Number
+wholeOf Inverse b = inverse b
+wholeOf Converse b = converse b

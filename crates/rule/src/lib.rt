@@ -6,11 +6,11 @@ ghost use Rattle.number.specs.Number.{rounded};
 ghost use Rattle.rowset.specs.Mask.{maskCount};
 ghost use Rattle.words.specs.RowSet.{ofMask, rows};
 ghost use Rattle.words.specs.Formula.{runBefore, onDiagonal, belowDiagonal, newFactor};
-ghost use Rattle.words.specs.Operation.{step, product, inverse, converse, submatrix, refactored};
+ghost use Rattle.words.specs.Operation.{step, product, submatrix, refactored};
 ghost use Rattle.walk.specs.Steps.{wayOf, stepsOf};
 ghost use Rattle.walk.specs.Table.{factorsOf, tableOf};
 ghost use Rattle.rule.specs.Chosen.{sizeOf, chosenRows, chosenColumns, chosenMinor, turnedBy, cellAt, Proper, Usable};
-ghost use Rattle.rule.specs.Result.{OneStep, TwoSteps, Workable, OperationWorkable, refactoredOf, resultOf};
+ghost use Rattle.rule.specs.Result.{OneStep, TwoSteps, Workable, OperationWorkable, refactoredOf, resultOf, wholeOf};
 use number::Number;
 use walk::Joined;
 use walk::Step;
@@ -30,6 +30,12 @@ pub struct Refactored {
     pub factors: [Number; 64],
     pub rows: usize,
     pub bound: u32,
+}
+
+// The operations on one source that keep all its rows and columns.
+pub enum Whole {
+    Inverse,
+    Converse,
 }
 
 impl Chosen {
@@ -106,14 +112,13 @@ impl Chosen {
         self.factor(i, j)
     }
 
-    // The new factors, zero past their rows and columns.
-    pub fn factors(self) -> [Number; 64]
+    // The new factors, zero past their rows and columns, put over the 64 numbers of a table.
+    pub fn factors(self, table: [Number; 64]) -> [Number; 64]
         requires { ⌜ Proper self ⌝ }
         ensures { λ r. ⌜ r ≡ tableOf (sizeOf self) (refactored rounded (self .word .n) (stepsOf (self .word)) (chosenRows self) (chosenColumns self)) ⌝ }
     {
         let k = rowset::count(self.rows);
-        let zero = Number::zero();
-        let mut b = [zero; 64];
+        let mut b = table;
         for t in 0..64usize {
             b[t] = self.cell(k, t);
         }
@@ -159,7 +164,7 @@ fn of_one(way: Way, b: [Number; 64], n: usize, p: usize, q: usize) -> Refactored
         columns: q,
     };
     Refactored {
-        factors: c.factors(),
+        factors: c.factors(b),
         rows: rowset::count(p),
         bound: bounds::one_source(n),
     }
@@ -176,26 +181,22 @@ pub fn product(b: [Number; 64], c: [Number; 64], n: usize) -> Refactored
         columns: all,
     };
     Refactored {
-        factors: c.factors(),
+        factors: c.factors(b),
         rows: n,
         bound: bounds::product(n),
     }
 }
 
-pub fn inverse(b: [Number; 64], n: usize) -> Refactored
-    requires { ⌜ OperationWorkable n (inverse (factorsOf b)) ⌝ }
-    ensures { λ r. ⌜ r ≡ resultOf n (inverse (factorsOf b)) ⌝ }
+// The operation on a whole source.
+pub fn of_whole(which: Whole, b: [Number; 64], n: usize) -> Refactored
+    requires { ⌜ OperationWorkable n (wholeOf which (factorsOf b)) ⌝ }
+    ensures { λ r. ⌜ r ≡ resultOf n (wholeOf which (factorsOf b)) ⌝ }
 {
     let all = rowset::run(1, n);
-    of_one(Way::Inverted, b, n, all, all)
-}
-
-pub fn converse(b: [Number; 64], n: usize) -> Refactored
-    requires { ⌜ OperationWorkable n (converse (factorsOf b)) ⌝ }
-    ensures { λ r. ⌜ r ≡ resultOf n (converse (factorsOf b)) ⌝ }
-{
-    let all = rowset::run(1, n);
-    of_one(Way::Conversed, b, n, all, all)
+    match which {
+        Whole::Inverse => of_one(Way::Inverted, b, n, all, all),
+        Whole::Converse => of_one(Way::Conversed, b, n, all, all),
+    }
 }
 
 // The rows p and the columns q, both masks.

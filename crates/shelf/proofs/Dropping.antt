@@ -1,6 +1,5 @@
 -- Dropping a place: its result by what was found (`drop-turned`, `drop-done`), and the shelf stays good (`drop-good`).
-use mathlib.Core.Path.{_≡_, refl, sym, ap, _∙_}
-use mathlib.Core.List.{List, []}
+use mathlib.Core.Path.{_≡_, refl, sym, ap}
 use Prim.Native.Nat.{ℕ}
 use lib.ListN.{replicate}
 use Rattle.number.specs.declared.Number.{Number}
@@ -14,9 +13,9 @@ use Rattle.places.specs.declared.Verdict.{Verdict}
 use Rattle.places.specs.declared.Verdict.the-variants.{Accepted, Refused}
 use Rattle.walk.specs.Table.{tableOf}
 use Rattle.places.specs.Shelf.{without, Good}
-use Rattle.places.specs.Refusal.{firstOf, after, sourceTests}
+use Rattle.places.specs.Refusal.{firstOf, sourceTests}
 use Rattle.shelf.specs.Calls.{changed, dropCall}
-use Rattle.places.proofs.Holding.{good-without}
+use Rattle.places.proofs.Holding.{fits-none, good-put}
 use Rattle.places.proofs.Verdicts.{source-accepted, after-good}
 
 -- no rows: no factor
@@ -36,7 +35,7 @@ module _ (s : Shelf) (p : ℕ) where
   module _ (good : Good s) where
     pub drop-good : Good (dropCall s p .shelf)
     unfolding dropCall
-    drop-good = after-good s (without s p) good (firstOf (sourceTests s p)) (λ e. good-without s good p (source-accepted s p e .small))
+    drop-good = after-good s (without s p) good (firstOf (sourceTests s p)) (λ e. good-put s good p 0 _ (source-accepted s p e .small) (fits-none _))
 
     pub drop-answered : (x : Changed) → x ≡ dropCall s p → (x ≡ dropCall s p) × Good (x .shelf)
     drop-answered x e = (e, rw e drop-good)

@@ -36,18 +36,18 @@ module _ (s : Shelf) (good : Good s) (p : ℕ) where
     small = place-small (omega arith)
 
     pub factor-below : (i - 1) * 8 + (j - 1) < 64
-    factor-below = omega (arith, good .few p small)
+    factor-below = omega (arith, good .held p small .few)
 
     -- the number that the table has there
     module _ (t : List Number) (is : t ≡ tableAt s p) where
       pub factor-is : getD t ((i - 1) * 8 + (j - 1)) absent ≡ factorsAt s p i j
       unfolding factorsOf
       factor-is =
-          let l : length t ≡ 64 = ap length (is ∙ good .rest p small) ∙ table-length (rowsAt s p) (factorsAt s p) in
+          let l : length t ≡ 64 = ap length (is ∙ good .held p small .rest) ∙ table-length (rowsAt s p) (factorsAt s p) in
           read-any t ((i - 1) * 8 + (j - 1)) absent zeroNumber (omega (arith, factor-below)) ∙ ap (λ (u : List Number). getD u ((i - 1) * 8 + (j - 1)) zeroNumber) is
 
       pub factor-exponent : getD t ((i - 1) * 8 + (j - 1)) absent .x < 2 ^ 32
-      factor-exponent = rw factor-is (omega (arith, good .stored p small i j row column .stop))
+      factor-exponent = rw factor-is (omega (arith, good .held p small .stored i j row column .stop))
 
     pub factor-done : (a : Number) (e : ℤ) → a ≡ factorsAt s p i j → e ≡ exponentOf a → _≡_ {A = Factor} (record { mantissa = a .m; exponent = e }) (factorCall s p i j)
     unfolding factorCall

@@ -1,4 +1,4 @@
--- A load: its result by what was found (`load-turned`, `load-read`), the shelf stays good (`load-good`); stored lists and stored factors (`stored-square`, `stored-rows`).
+-- A load: its result by what was found (`load-turned`, `load-read`), the shelf stays good (`load-good`); what was read fits a place (`read-fits`); stored factors as a list (`stored-rows`).
 use Prim.Native.Nat.{ℕ, zero, suc, _+_, _-_, _*_, _/_, _%_, _<_, _≤_}
 use native.Mathlib.Nat.{mod-lt}
 use native.Mathlib.Omega.{arith}
@@ -29,12 +29,12 @@ use Rattle.places.specs.declared.Verdict.the-variants.{Accepted, Refused}
 use Rattle.shelf.specs.declared.Changed.{Changed}
 use Rattle.walk.specs.Table.{tableOf}
 use Rattle.places.specs.Table.{squareOf}
-use Rattle.places.specs.Shelf.{holding, Good}
+use Rattle.places.specs.Shelf.{holding, Fits, Good}
 use Rattle.places.specs.Refusal.{firstOf, orElse, after, refused, targetTests}
 use Rattle.shelf.specs.Calls.{changed, ofReading, loadTests, readTo, loadCall}
 use Rattle.places.proofs.RowByRow.{row-by-row-get, row-below}
 use Rattle.places.proofs.Table.{square-below, some-rows, table-same}
-use Rattle.places.proofs.Holding.{good-holding}
+use Rattle.places.proofs.Holding.{fits-table, good-put}
 use Rattle.places.proofs.Verdicts.{first-last, first-passed, target-accepted, after-good}
 
 -- STORED: of a list, of factors
@@ -47,7 +47,7 @@ all-stored-list : (L : List Number) → ((k : ℕ) → k < length L → Stored (
 all-stored-list [] h = tt
 all-stored-list (a ∷ L) h = (h 0 (omega arith), all-stored-list L (λ k l. h (suc k) (omega arith)))
 
-pub stored-square : (n : ℕ) (L : List Number) → Storable n L → Each Stored n (squareOf n L)
+stored-square : (n : ℕ) (L : List Number) → Storable n L → Each Stored n (squareOf n L)
 unfolding squareOf
 stored-square n L w i j x y =
     all-stored-at L (w .stored) ((i - 1) * n + (j - 1)) (omega (arith, w .square, square-below n (i - 1) (j - 1) (omega arith) (omega arith)))
@@ -88,6 +88,12 @@ square-taken n numbers =
     table-same n (squareOf n numbers) (squareOf n (take (n * n) numbers))
     (λ i j x y. sym (getD-take (n * n) numbers ((i - 1) * n + (j - 1)) zeroNumber (square-below n (i - 1) (j - 1) (omega arith) (omega arith))))
 
+-- what was read fits a place
+pub read-fits : (s : List ℕ) → Bytes s → (n : ℕ) (L : List Number) (q : ℕ) → matrixOf s ≡ matrix n L q → Fits n (tableOf n (squareOf n L))
+read-fits s bs n L q e =
+    let w = matrix-read s bs n L q e .storable in
+    fits-table n (squareOf n L) (w .few) (stored-square n L w)
+
 -- THE RESULT, by what was found
 module _ (s : Shelf) (p : ℕ) (bytes : List ℕ) where
   load-verdict : firstOf (loadTests s p bytes) ≡ orElse (firstOf (targetTests s p)) (ofReading bytes (matrixOf bytes))
@@ -122,9 +128,7 @@ module _ (s : Shelf) (p : ℕ) (bytes : List ℕ) where
   -- THE SHELF STAYS GOOD
   module _ (good : Good s) (bs : Bytes bytes) where
     read-good : p < 8 → (w : Reading) → matrixOf bytes ≡ w → Good (readTo s p w)
-    read-good small (matrix n L q) e =
-        let st = matrix-read bytes bs n L q e .storable in
-        good-holding s good p n (squareOf n L) small (st .few) (stored-square n L st)
+    read-good small (matrix n L q) e = good-put s good p n _ small (read-fits bytes bs n L q e)
     read-good small (fault k o) e = good
 
     pub load-good : Good (loadCall s p bytes .shelf)

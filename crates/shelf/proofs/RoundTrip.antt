@@ -31,7 +31,7 @@ use Rattle.places.proofs.Table.{table-length, table-same, square-list, square-f
 use Rattle.places.proofs.Holding.{rows-held, factors-held, put-put, put-held}
 use Rattle.places.proofs.Verdicts.{Source, first-passed, target-accepted}
 use Rattle.shelf.specs.Calls.{changed, ofReading, loadTests, loadCall, bytesAt}
-use Rattle.shelf.proofs.Loading.{stored-rows, load-done, load-read}
+use Rattle.shelf.proofs.Loading.{stored-rows, read-fits, load-done, load-read}
 
 -- the same factors row by row
 rows-same : (n : ℕ) (b c : Factors Number) → ((i j : ℕ) → In n i → In n j → b i j ≡ c i j) → rowByRow n b ≡ rowByRow n c
@@ -42,7 +42,7 @@ rows-same n b c h =
 -- WRITTEN BYTES READ BACK
 module _ (s : Shelf) (good : Good s) (q : ℕ) (held : Source s q) where
   storable : Storable (rowsAt s q) (rowByRow (rowsAt s q) (factorsAt s q))
-  storable = stored-rows (rowsAt s q) (factorsAt s q) (held .some) (good .few q (held .small)) (good .stored q (held .small))
+  storable = stored-rows (rowsAt s q) (factorsAt s q) (held .some) (good .held q (held .small) .few) (good .held q (held .small) .stored)
 
   read-back : matrixOf (bytesAt s q) ≡ matrix (rowsAt s q) (rowByRow (rowsAt s q) (factorsAt s q)) (length (bytesAt s q))
   unfolding bytesAt
@@ -70,10 +70,11 @@ module _ (s : Shelf) (good : Good s) (p : ℕ) (bytes : List ℕ) (bs : Bytes by
       let m = matrix-read bytes bs n L q e in
       let l : length bytes ≤ q = whole (ltb q (length bytes)) q (length bytes) refl f in
       let small : p < 8 = target-accepted s p (passed .0) .small in
+      let fits = read-fits bytes bs n L q e in
       let new : loadCall s p bytes ≡ changed Accepted s (holding s p n (squareOf n L)) = sym (load-done s p bytes (passed .0) n L q e l) in
-      let r : rowsAt (holding s p n (squareOf n L)) p ≡ n = rows-held s good p n (squareOf n L) small in
+      let r : rowsAt (holding s p n (squareOf n L)) p ≡ n = rows-held s good p n (tableOf n (squareOf n L)) small fits in
       rw (new, r)
-      (ap (encoding n) (rows-same n _ (squareOf n L) (factors-held s good p n (squareOf n L) small (m .storable .few)) ∙ square-list n L (m .storable .square))
+      (ap (encoding n) (rows-same n _ (squareOf n L) (factors-held s good p n (squareOf n L) small fits) ∙ square-list n L (m .storable .square))
       ∙ sym (m .taken) ∙ take-all q bytes l)
   written-by (fault k o) e f = absurd (let z : _≡_ {A = ℕ} 0 1 = cc in omega arith)
 

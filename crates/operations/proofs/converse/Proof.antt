@@ -1,26 +1,27 @@
-use Rattle.operations.proofs.Results.{converse-ready, operation-done}
+use Rattle.rule.specs.declared.Whole.the-variants.{Converse}
+use Rattle.operations.proofs.Results.{whole-ready, operation-done}
 use borrow.Author.Needs.{needs}
 use Rattle.operations.proofs.converse.Statement.{statement}
 use Rattle.operations.proofs.converse.Tie as tie
 use Rattle.operations.proofs.converse.Reads as reads
 use Rattle.operations.proofs.converse.Lts as lts
-use Rattle.operations.proofs.work.converse.Reads as converse-reads
+use Rattle.operations.proofs.work.of_whole.Reads as of-whole-reads
 use Rattle.operations.proofs.work.keep.Reads as keep-reads
 
 -- src/lib.rt:74:31
-converse-requires : tie.Need-converse-requires
-converse-requires c κs = c .pre
+of-whole-requires : tie.Need-of-whole-requires
+of-whole-requires c κs = c .pre
 
 -- src/lib.rt:74:5
 keep-requires : tie.Need-keep-requires
-keep-requires c κs = c .converse .ensures .1
+keep-requires c κs = (c .before .pre, c .of-whole .ensures .1)
 
 -- src/lib.rt:68:1
 returns : tie.Need-returns
 returns c =
     let begin = c .before .before in
     let a = begin .args in
-    operation-done _ (a .target) _ _ (converse-ready (a .shelf) (begin .pre) (a .source) (a .target)) (a .shelf) (begin .pre) _ _ (c .before .converse .ensures .0) (c .keep .ensures)
+    operation-done _ (a .target) _ _ (whole-ready (a .shelf) (begin .pre) Converse (a .source) (a .target)) (a .shelf) (begin .pre) _ _ (c .before .of-whole .ensures .0) (c .keep .ensures)
 
 pub converse-spec : {M : Type 1} → statement M
-converse-spec = tie.close (tie.spec converse-requires keep-requires returns)
+converse-spec = tie.close (tie.spec of-whole-requires keep-requires returns)

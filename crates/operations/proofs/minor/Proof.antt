@@ -95,7 +95,7 @@ wide-requires-2 c κs = search needs
 
 -- src/lib.rt:154:9
 sets-requires : tie.Need-sets-requires
-sets-requires c κs = (rw (c .before .before .rows-at .ensures) (entry (c .before .before .before) .pre .few _ (source (c .before .before .before) .small)), c .before .wide .ensures .1, c .wide2 .ensures .1)
+sets-requires c κs = (rw (c .before .before .rows-at .ensures) (entry (c .before .before .before) .pre .held _ (source (c .before .before .before) .small) .few), c .before .wide .ensures .1, c .wide2 .ensures .1)
 
 -- src/lib.rt:155:29
 enum-known-second : tie.Need-enum-known-second

@@ -13,7 +13,7 @@ product-requires c κs = c .pre
 
 -- src/lib.rt:54:5
 keep-requires : tie.Need-keep-requires
-keep-requires c κs = c .product .ensures .1
+keep-requires c κs = (c .before .pre, c .product .ensures .1)
 
 -- src/lib.rt:48:1
 returns : tie.Need-returns

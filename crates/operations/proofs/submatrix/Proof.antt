@@ -22,7 +22,7 @@ submatrix-requires c κs = (c .before .before .pre, c .before .wide .ensures .1,
 
 -- src/lib.rt:86:5
 keep-requires : tie.Need-keep-requires
-keep-requires c κs = c .submatrix .ensures .1
+keep-requires c κs = (c .before .before .before .pre, c .submatrix .ensures .1)
 
 -- src/lib.rt:78:1
 returns : tie.Need-returns

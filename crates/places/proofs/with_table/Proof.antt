@@ -3,18 +3,17 @@ use lib.ListN.{getD}
 use Prim.Native.Nat.{_+_}
 use lib.ListN.{set}
 use lib.Seq.{take-all}
-use mathlib.Core.Path.{sym, ap, _∙_}
+use mathlib.Core.Path.{sym, ap, subst, _∙_}
 use mathlib.Core.List.{List}
 use Rattle.number.specs.declared.Number.{Number}
 use Rattle.number.proofs.Arrays.{length-mapped}
-use Rattle.places.proofs.Holding.{shelf-fields}
-use native.Mathlib.Nat.{le-antisymm}
+use Rattle.places.proofs.Holding.{shelf-fields, good-put}
 use Prim.Native.Nat.{ℕ, _*_, _-_, _≤_}
 use mathlib.Core.Path.{_≡_, refl}
 use lib.ListN.{length, take}
 use lib.Seq.{sets}
 use Rattle.places.proofs.Holding.{put-more}
-use Rattle.places.specs.Shelf.{withTable}
+use Rattle.places.specs.Shelf.{withTable, Good}
 use native.Mathlib.Omega.{arith}
 use borrow.Author.Needs.{needs}
 use Rattle.places.proofs.with_table.Statement.{statement}
@@ -92,7 +91,9 @@ returns c =
     let l = c .before .loop in
     let e : l .k ≡ 64 = omega arith in
     let t : take (l .k) (a .t4) ≡ a .t4 = take-all (l .k) (a .t4) (search needs) in
-    shelf-fields _ _ (l .inv .1 ∙ ap (sets (a .shelf .numbers) (a .place * 64)) t) (ap (λ (x : List ℕ). set x (a .place) (a .n)) (l .inv .2))
+    let same : _ ≡ withTable (a .shelf) (a .place) (a .n) (a .t4) =
+    shelf-fields _ _ (l .inv .1 ∙ ap (sets (a .shelf .numbers) (a .place * 64)) t) (ap (λ (x : List ℕ). set x (a .place) (a .n)) (l .inv .2)) in
+    (same, subst Good (sym same) (good-put (a .shelf) (c .before .before .pre .0) (a .place) (a .n) (a .t4) (c .before .before .pre .1) (c .before .before .pre .2)))
 
 pub with-table-spec : {M : Type 1} → statement M
 with-table-spec =

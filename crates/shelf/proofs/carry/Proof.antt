@@ -61,7 +61,7 @@ carry-requires : tie.Need-carry-requires
 carry-requires c κs =
     let told = c .before .before .before in
     let o = source told in
-    rw (c .before .before .rows-at .ensures, c .before .table-at .ensures) (o .some, entry told .pre .few _ (o .small), entry told .pre .stored _ (o .small))
+    rw (c .before .before .rows-at .ensures, c .before .table-at .ensures) (o .some, entry told .pre .held _ (o .small) .few, entry told .pre .held _ (o .small) .stored)
 
 -- src/lib.rt:134:32
 enum-told-2 : tie.Need-enum-told-2

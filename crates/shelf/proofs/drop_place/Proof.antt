@@ -1,9 +1,10 @@
-use native.Mathlib.Omega.{arith}
 use mathlib.Core.Path.{_≡_, sym, ap, _∙_}
 use Rattle.places.specs.declared.Verdict.the-variants.{Accepted}
 use Rattle.places.specs.Shelf.{withTable}
 use Rattle.places.specs.Refusal.{firstOf, sourceTests}
 use Rattle.shelf.specs.Calls.{changed}
+use Rattle.number.specs.Number.{zeroNumber}
+use Rattle.places.proofs.Holding.{fits-none}
 use Rattle.places.proofs.Verdicts.{source-accepted}
 use Rattle.shelf.proofs.Dropping.{table-blank, drop-turned, drop-done, drop-answered}
 use borrow.Author.Needs.{needs}
@@ -47,7 +48,9 @@ blank-requires c κs = search needs
 
 -- src/lib.rt:126:16
 with-table-requires : tie.Need-with-table-requires
-with-table-requires c κs = (source-accepted _ _ (accepted (c .before)) .small, omega arith)
+with-table-requires c κs =
+    let told = c .before in
+    (told .before .before .before .pre, source-accepted _ _ (accepted told) .small, rw (c .blank .ensures ∙ sym (table-blank (λ i j. zeroNumber))) (fits-none (λ i j. zeroNumber)))
 
 -- src/lib.rt:116:1
 returns-2 : tie.Need-returns-2
@@ -56,7 +59,7 @@ returns-2 c =
     let entry = told .before .before .before in
     let a = entry .args in
     drop-answered _ _ (entry .pre) _
-    (ap (changed Accepted (a .shelf)) (c .with-table .ensures ∙ ap (withTable (a .shelf) (a .place) 0) (c .before .blank .ensures ∙ sym (table-blank _))) ∙ drop-done _ _ (accepted told))
+    (ap (changed Accepted (a .shelf)) (c .with-table .ensures .0 ∙ ap (withTable (a .shelf) (a .place) 0) (c .before .blank .ensures ∙ sym (table-blank _))) ∙ drop-done _ _ (accepted told))
 
 pub drop-place-spec : {M : Type 1} → statement M
 drop-place-spec =

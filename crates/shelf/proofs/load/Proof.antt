@@ -12,7 +12,7 @@ use Rattle.group.specs.Group.{Bytes}
 use Rattle.reader.specs.declared.Outcome.the-variants.{Matrix}
 use Rattle.reader.specs.Matrix.{OutcomeInside, matrix, matrixOf}
 use Rattle.places.proofs.Verdicts.{target-accepted}
-use Rattle.shelf.proofs.Loading.{parsed-fault, parsed-matrix, square-taken, load-turned, load-fault, load-behind, load-done, load-answered}
+use Rattle.shelf.proofs.Loading.{parsed-fault, parsed-matrix, square-taken, read-fits, load-turned, load-fault, load-behind, load-done, load-answered}
 use borrow.Author.Needs.{needs}
 use Rattle.shelf.proofs.load.Statement.{statement}
 use Rattle.shelf.proofs.load.Tie as tie
@@ -92,7 +92,12 @@ spread-requires c κs = rows-few (c .before .before .before)
 
 -- src/lib.rt:107:24
 with-table-requires : tie.Need-with-table-requires
-with-table-requires c κs = (target-accepted _ _ (accepted (c .before .before .before .before .before .before .before)) .small, rows-few (c .before .before .before .before))
+with-table-requires c κs =
+    let o = c .before .before .before .before in
+    let told = o .before .before .before in
+    let entry = told .before .before .before in
+    let fits = read-fits _ (bytes-in entry) _ _ _ (found o) in
+    (entry .before .pre, target-accepted _ _ (accepted told) .small, rw (c .spread .ensures ∙ square-taken _ _) fits)
 
 -- src/lib.rt:111:33
 enum-known-outcome-2 : tie.Need-enum-known-outcome-2
@@ -111,7 +116,7 @@ returns-3 c =
     let a = entry .before .args in
     let t = c .before .spread .ensures ∙ square-taken _ _ in
     load-answered (a .shelf) (a .place) (now (a .bytes)) (entry .before .pre) (bytes-in entry) _
-    (ap (changed Accepted (a .shelf)) (c .with-table .ensures ∙ ap (withTable (a .shelf) (a .place) _) t)
+    (ap (changed Accepted (a .shelf)) (c .with-table .ensures .0 ∙ ap (withTable (a .shelf) (a .place) _) t)
     ∙ load-done (a .shelf) (a .place) (now (a .bytes)) (accepted (read .before)) _ _ _ (found o) (c .before .before .before .if1 .left))
 
 -- src/lib.rt:83:1

@@ -60,7 +60,7 @@ table-at-requires c κs = source-accepted _ _ (accepted (c .before)) .small
 packed-requires : tie.Need-packed-requires
 packed-requires c κs =
     let told = c .before .before in
-    rw (c .before .rows-at .ensures) (told .before .before .before .before .pre .few _ (source-accepted _ _ (accepted told) .small))
+    rw (c .before .rows-at .ensures) (told .before .before .before .before .pre .held _ (source-accepted _ _ (accepted told) .small) .few)
 
 -- src/lib.rt:143:9
 write-matrix-requires : tie.Need-write-matrix-requires

@@ -1,9 +1,8 @@
 use Rattle.operations.specs.declared.Operated.{Operated}
 use Rattle.places.specs.declared.Shelf.{Shelf}
 use Rattle.operations.specs.declared.Bounded.the-variants.{Bound}
-use Rattle.operations.proofs.Proposals.{kept-by, keepable-bound}
-use mathlib.Core.Path.{_≡_, refl, ap}
-use Rattle.operations.specs.Operations.{kept}
+use Rattle.operations.proofs.Proposals.{kept-by}
+use mathlib.Core.Path.{refl, ap}
 use borrow.Author.Needs.{needs}
 use Rattle.operations.proofs.work.keep.Statement.{statement}
 use Rattle.operations.proofs.work.keep.Tie as tie
@@ -17,7 +16,10 @@ enum-known-answer c = search needs
 
 -- src/operations.rt:37:24
 with-table-requires : tie.Need-with-table-requires
-with-table-requires c κs = keepable-bound (c .before .before .before .before .args .shelf) _ (c .before .before .before .before .args .result) _ (c .before .before .answer .given .1) (c .before .before .before .before .pre)
+with-table-requires c κs =
+    let begin = c .before .before .before .before in
+    let h = begin .pre .1 _ (c .before .before .answer .given .1) in
+    (begin .pre .0, h .0, h .1)
 
 -- src/operations.rt:41:26
 enum-known-answer-2 : tie.Need-enum-known-answer-2
@@ -27,15 +29,18 @@ enum-known-answer-2 c = search needs
 returns : tie.Need-returns
 returns c =
     let known = c .before .before .before in
-    let a = known .before .before .args in
-    kept-by (a .shelf) (a .target) (a .result) _ (known .answer .given .1) _
-    (ap (λ (s : Shelf). let r : Operated = record { shelf = s; answer = Bound (known .answer .given .0 .0) } in r) (c .with-table .ensures))
+    let a = known .before .before .args in (
+      kept-by (a .shelf) (a .target) (a .result) _ (known .answer .given .1) _
+          (ap (λ (s : Shelf). let r : Operated = record { shelf = s; answer = Bound (known .answer .given .0 .0) } in r) (c .with-table .ensures .0)),
+      c .with-table .ensures .1,
+    )
 
 -- src/operations.rt:28:1
 returns-2 : tie.Need-returns-2
 returns-2 c =
-    let a = c .before .before .before .args in
-    kept-by (a .shelf) (a .target) (a .result) _ (c .before .answer2 .given .1) _ refl
+    let begin = c .before .before .before in
+    let a = begin .args in
+    (kept-by (a .shelf) (a .target) (a .result) _ (c .before .answer2 .given .1) _ refl, begin .pre .0)
 
 pub keep-spec : {M : Type 1} → statement M
 keep-spec =

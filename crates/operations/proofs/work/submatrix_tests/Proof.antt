@@ -39,7 +39,7 @@ rows-at-requires c κs = search needs
 sets-requires : tie.Need-sets-requires
 sets-requires c κs =
     let h = entry (c .before) .pre in
-    (rw (c .rows-at .ensures) (h .0 .few _ (source-small (c .before))), h .1, h .2)
+    (rw (c .rows-at .ensures) (h .0 .held _ (source-small (c .before)) .few), h .1, h .2)
 
 -- src/work.rt:135:26
 enum-known-first : tie.Need-enum-known-first

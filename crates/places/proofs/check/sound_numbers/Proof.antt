@@ -58,7 +58,7 @@ loop-less c = search needs
 -- src/check.rt:65:5
 loop-again : tie.Need-loop-again Inv-loop μ-loop
 unfolding rowsAt
-loop-again c = seen-more _ (c .before .before .before .before .before .loop .inv) (c .before .before .before .before .loop-test .taken) (sym (c .before .sound .ensures) ∙ not-false _ (c .if1 .left))
+loop-again c = seen-more _ (c .before .before .before .before .before .loop .inv) (search needs) (sym (c .before .sound .ensures) ∙ not-false _ (c .if1 .left))
 
 -- src/check.rt:62:1
 returns-2 : tie.Need-returns-2 Inv-loop μ-loop

@@ -21,14 +21,11 @@ abbrev μ-loop : tie.MeasureT-loop
 count-requires : tie.Need-count-requires Inv-loop μ-loop
 count-requires c κs = below-256 (c .args .self .word .n) (c .args .self .rows) (c .pre .few) (c .pre .rows)
 
-zero-requires : tie.Need-zero-requires Inv-loop μ-loop
-zero-requires c κs = search needs
-
 loop-holds : tie.Need-loop-holds Inv-loop μ-loop
-loop-holds c = (search needs, tabled-none refl)
+loop-holds c = (search needs, tabled-none (search needs))
 
 cell-requires : tie.Need-cell-requires Inv-loop μ-loop
-cell-requires c κs = (c .before .before .before .before .pre, c .before .before .before .count .ensures .0, search needs)
+cell-requires c κs = (c .before .before .before .pre, c .before .before .count .ensures .0, search needs)
 
 mul-b : tie.Need-mul-b Inv-loop μ-loop
 mul-b c = search needs
@@ -47,8 +44,8 @@ loop-again c = (omega arith, tabled-next (c .before .before .loop .inv .1) (sear
 
 returns : tie.Need-returns Inv-loop μ-loop
 returns c =
-    let b = c .before .before .before .before in
-    tabled-all (c .before .loop .inv .1) (omega arith) ∙ refactored-is (b .args .self) (b .pre) (c .before .before .before .count .result) (c .before .before .before .count .ensures .0)
+    let b = c .before .before .before in
+    tabled-all (c .before .loop .inv .1) (omega arith) ∙ refactored-is (b .args .self) (b .pre) (c .before .before .count .result) (c .before .before .count .ensures .0)
 
 pub factors-spec : {M : Type 1} → statement M
 factors-spec =
@@ -57,7 +54,6 @@ factors-spec =
     Inv-loop
     μ-loop
     count-requires
-    zero-requires
     loop-holds
     cell-requires
     mul-b
