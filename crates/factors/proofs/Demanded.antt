@@ -5,7 +5,7 @@ use mathlib.Core.List.{List, [], _∷_}
 use Prim.Native.Nat.{ℕ, zero, suc, _+_, _-_, _*_, _≤_, _<_}
 use native.Mathlib.Nat.{mul-le-mul, mul-le-mul-left}
 use native.Mathlib.Omega.{arith}
-use lib.ListN.{length, length-append}
+use lib.ListN.{length}
 use Rattle.fraction.specs.Fraction.{Fraction, Same, exact}
 use Rattle.fraction.specs.Rational.{rationals}
 use Rattle.fraction.specs.Within.{Close}
@@ -16,9 +16,10 @@ use Rattle.number.proofs.Reach.{ranged-more}
 use Rattle.words.specs.RowSet.{RowSet, rows, count, among}
 use Rattle.words.specs.Walk.{minor}
 use Rattle.words.proofs.Chosen.{length-among}
-use Rattle.words.specs.Word.{Factors, ascending}
+use Rattle.words.specs.Word.{Factors}
 use Rattle.words.specs.Operation.{Step, step, plain, inverted, conversed, Operation, product, inverse, converse, submatrix, steps, keptRows, keptColumns}
 use Rattle.words.specs.Operation.{size, boundOf, bound, rowByRow, joinedWord, refactored, result, eachStep, eachSteps}
+use Rattle.words.proofs.RowByRow.{rowByRow-length}
 use Rattle.words.proofs.RowSets.{length-rows}
 use Rattle.words.specs.Sources.{Each, Sources, runReach}
 use Rattle.minors.specs.Matrix.{In, Equal}
@@ -101,19 +102,6 @@ module _ (n : ℕ) where
     small (inverse b) = omega (arith, square)
     small (converse b) = omega (arith, square)
     small (submatrix b P Q) = omega (arith, square)
-
--- as many factors as rows times columns
-length-ascending : {A : Type 0} (a c m : ℕ) (f : ℕ → List A) → ((i : ℕ) → length (f i) ≡ m) → length (ascending a c f) ≡ c * m
-unfolding ascending
-length-ascending a zero m f h = omega arith
-length-ascending a (suc c) m f h = length-append (f a) (ascending (suc a) c f) ∙ omega (arith, h a, length-ascending (suc a) c m f h)
-
-pub rowByRow-length : {A : Type 0} (k : ℕ) (b : Factors A) → length (rowByRow k b) ≡ k * k
-unfolding rowByRow
-rowByRow-length k b =
-    let z : suc k - 1 ≡ k = omega arith in
-    length-ascending 1 (suc k - 1) ((suc k - 1) * 1) _ (λ i. length-ascending 1 (suc k - 1) 1 (λ j. b i j ∷ []) (λ j. refl))
-    ∙ ap (λ (m : ℕ). m * (m * 1)) z ∙ omega arith
 
 -- DEMAND 3
 pub demand : (n : ℕ) (o : Operation Number) → 1 ≤ n → n ≤ 8 → Proper Stored n o → Demand n o

@@ -11,7 +11,7 @@ use Rattle.number.specs.Number.{rounded, value, Ranged, reach}
 use Rattle.words.specs.RowSet.{RowSet, count, among}
 use Rattle.words.specs.Walk.{minor}
 use Rattle.words.specs.Word.{Factors}
-pub use Rattle.words.specs.Sources.{Each}
+use Rattle.words.specs.Sources.{Each}
 use Rattle.words.specs.Operation.{Operation, product, inverse, converse, submatrix, steps, joinedWord, keptRows, keptColumns, size, bound, rowByRow, result, eachFactor, eachSource}
 use Rattle.minors.specs.Matrix.{In, Matrix, multiplied}
 use Rattle.factors.specs.Requested.{Requested}

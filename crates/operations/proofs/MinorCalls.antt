@@ -9,7 +9,7 @@ use mathlib.Core.List.{List, [], _∷_, _++_}
 use Rattle.number.specs.declared.Number.{Number}
 use Rattle.number.specs.Number.{bias, rounded, inRange, Stored}
 use Rattle.rowset.specs.Mask.{maskCount}
-use Rattle.factors.specs.Demand.{Each}
+use Rattle.words.specs.Sources.{Each}
 use Rattle.words.specs.RowSet.{ofMask}
 use Rattle.words.specs.Word.{word}
 use Rattle.words.specs.Walk.{minor}
@@ -25,7 +25,7 @@ use Rattle.places.proofs.Verdicts.{first-append, first-last, Source, Fit}
 use Rattle.operations.specs.declared.Valued.{Valued}
 use Rattle.operations.specs.declared.Valued.the-variants as value
 use Rattle.operations.specs.Operations.{minorAt, minorTests, valued, minorCall}
-use Rattle.operations.proofs.Results.{both-true}
+use Rattle.number.proofs.Tests.{both}
 
 module _ (s : Shelf) (p I J : ℕ) where
   abbrev fit : Verdict
@@ -74,4 +74,4 @@ module _ (s : Shelf) (p I J : ℕ) where
 
 pub in-range-small : (a : Number) → inRange a ≡ true → a .x < 2 ^ 32
 unfolding inRange
-in-range-small a e = omega (arith, leb-true (a .x) (bias + 1000) (both-true (leb bias (a .x + 1000)) (leb (a .x) (bias + 1000)) e .1))
+in-range-small a e = omega (arith, leb-true (a .x) (bias + 1000) (both (leb bias (a .x + 1000)) (leb (a .x) (bias + 1000)) e .1))

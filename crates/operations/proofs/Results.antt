@@ -3,19 +3,18 @@
 use Prim.Native.Nat.{ℕ, _+_, _<_, _≤_}
 use native.Mathlib.Omega.{arith}
 use mathlib.Core.Path.{_≡_, refl, sym, ap, _∙_, subst}
-use mathlib.Core.Bool.{Bool, true, false, cond, _&&_}
+use mathlib.Core.Bool.{Bool, true, false, cond}
 use mathlib.Core.List.{List, [], _∷_, _++_}
-use lib.Dec.{leb}
-use borrow.Author.Tests.{leb-true}
 use Rattle.number.specs.declared.Number.{Number}
-use Rattle.number.specs.Number.{bias, reach, rounded, inRange, Ranged, Stored}
+use Rattle.number.specs.Number.{rounded, Stored}
+use Rattle.number.proofs.Reach.{in-range-stored}
 use Rattle.words.specs.RowSet.{rows, count}
 use Rattle.words.specs.Operation.{Operation, product, inverse, converse, submatrix, steps, keptRows, keptColumns, size, bound, rowByRow, result}
 use Rattle.words.specs.Sources.{StoredSteps}
 use Rattle.words.proofs.Chosen.{count-all}
 use Rattle.rowset.proofs.Masks.{ofMask-length}
 use Rattle.rowset.proofs.Counts.{mask-count, count-to, countTo-le}
-use Rattle.factors.specs.Demand.{Each, Proper, Demand}
+use Rattle.factors.specs.Demand.{Proper, Demand}
 use Rattle.factors.proofs.Demanded.{demand}
 use Rattle.walk.specs.Table.{tableOf}
 use Rattle.rule.specs.declared.Refactored.{Refactored}
@@ -38,18 +37,6 @@ use Rattle.operations.specs.declared.Bounded.the-variants as answer
 use Rattle.operations.specs.Operations.{refusal, factorTest, proposal, kept, rangedOf, operation, Keepable, productOf, inverseOf, converseOf, submatrixOf, submatrixTests}
 use Rattle.operations.specs.Promise.{Promised}
 use Rattle.operations.proofs.Proposals.{proposal-keepable, kept-good}
-
--- a positive number that was worked, with its exponent in range, is a stored number
-pub both-true : (t u : Bool) → t && u ≡ true → (t ≡ true) × (u ≡ true)
-both-true true true e = (refl, refl)
-both-true true false e = absurd (let z : _≡_ {A = ℕ} 0 1 = cc in omega arith)
-both-true false u e = absurd (let z : _≡_ {A = ℕ} 0 1 = cc in omega arith)
-
-pub stored-in-range : (a : Number) → Ranged reach a → 0 < a .m → inRange a ≡ true → Stored a
-unfolding inRange
-stored-in-range a r p e =
-    let b = both-true (leb bias (a .x + 1000)) (leb (a .x) (bias + 1000)) e in
-    record { low = r .low p; high = r .high; start = leb-true _ _ (b .0); stop = leb-true _ _ (b .1) }
 
 -- sources of n rows that hold stored factors, sets that fit, and a place of the shelf
 pub record Ready (t n : ℕ) (o : Operation Number) : Type 0 where
@@ -141,7 +128,7 @@ module _ (L : List Verdict) (t n : ℕ) (o : Operation Number) (ready : firstOf 
       let d = operation-demand (v .0) in (
         w .small,
         fits-table (size n o) (result rounded n o) (w .fits)
-            (λ i j x y. stored-in-range (result rounded n o i j) (d .ranged i j x y) (d .positive i j x y) (rows-ranged (size n o) (result rounded n o) (w .fits) (v .1) i j x y)),
+            (λ i j x y. in-range-stored (d .ranged i j x y) (d .positive i j x y) (rows-ranged (size n o) (result rounded n o) (w .fits) (v .1) i j x y)),
       )
 
   pub operation-turned : (w : Refusal) → firstOf L ≡ Refused w → refusal w ≡ operation L n o

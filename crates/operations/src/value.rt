@@ -7,7 +7,7 @@ ghost use Rattle.words.specs.RowSet.{ofMask};
 ghost use Rattle.words.specs.Word.{word};
 ghost use Rattle.words.specs.Walk.{minor};
 ghost use Rattle.walk.specs.Table.{factorsOf};
-ghost use Rattle.factors.specs.Demand.{Each};
+ghost use Rattle.words.specs.Sources.{Each};
 use number::Number;
 use walk::Joined;
 use walk::Step;

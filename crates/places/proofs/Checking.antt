@@ -12,10 +12,11 @@ use lib.Seq.{length-take-le}
 use borrow.Author.Tests.{leb-true, le-leb, ltb-true, lt-ltb, eqb-true}
 use Rattle.number.specs.declared.Number.{Number}
 use Rattle.number.specs.Number.{bias, zeroNumber, inRange, Stored}
+use Rattle.number.proofs.Tests.{unless}
 use Rattle.words.specs.Word.{Factors}
-use Rattle.minors.specs.Matrix.{In}
-use Rattle.factors.specs.Demand.{Each}
-use Rattle.walk.specs.Table.{absent, factorsOf, within, tableOf}
+use Rattle.words.specs.RowSet.{In}
+use Rattle.words.specs.Sources.{Each}
+use Rattle.walk.specs.Table.{absent, factorsOf, padded, tableOf}
 use Rattle.places.specs.declared.Shelf.{Shelf}
 use Rattle.places.specs.Shelf.{rowsAt, tableAt, factorsAt, Good}
 use Rattle.places.specs.Check.{allBelow, isStored, isZero, sound, fewRows, soundAt, soundNumbers, isGood}
@@ -42,11 +43,7 @@ module _ (f : ℕ → Bool) where
       ]
 
   pub all-fails : (n i : ℕ) → i < n → f i ≡ false → allBelow n f ≡ false
-  all-fails n i h e = untrue (allBelow n f) (λ g. true≢false (sym (all-each n g i h) ∙ e))
-    where
-      untrue : (t : Bool) → (t ≡ true → ⊥) → t ≡ false
-      untrue true h = absurd (h refl)
-      untrue false h = refl
+  all-fails n i h e = unless (allBelow n f) (λ g. true≢false (sym (all-each n g i h) ∙ e))
 
   -- what a loop has seen so far
   pub record Seen (n k : ℕ) : Type 0 where
@@ -183,7 +180,7 @@ good-tested s g =
           let b = factorsAt s (k / 64) in
           let i : k % 64 / 8 < 8 = row-below zeroNumber 8 (omega arith) (k % 64) r in
           let j : k % 64 % 8 < 8 = mod-lt (k % 64) (omega arith) in
-          let e : getD (s .numbers) k absent ≡ within n b (suc (k % 64 / 8)) (suc (k % 64 % 8)) =
+          let e : getD (s .numbers) k absent ≡ padded n b (suc (k % 64 / 8)) (suc (k % 64 % 8)) =
           ap (λ (x : ℕ). getD (s .numbers) x absent) (sym (div-add-mod' k 64))
           ∙ number-of s (g .places) (g .numbers) (k / 64) (k % 64) p r
           ∙ ap (λ (t : List Number). getD t (k % 64) zeroNumber) (g .held (k / 64) p .rest)

@@ -12,14 +12,14 @@ use lib.Seq.{sets, length-sets, sets-eq, take-at, drop-at, length-take-le, getD-
 use Rattle.number.specs.declared.Number.{Number}
 use Rattle.number.specs.Number.{zeroNumber, Stored}
 use Rattle.words.specs.Word.{Factors}
-use Rattle.minors.specs.Matrix.{In}
-use Rattle.factors.specs.Demand.{Each}
+use Rattle.words.specs.RowSet.{In}
+use Rattle.words.specs.Sources.{Each}
 use Rattle.places.specs.declared.Shelf.{Shelf}
 use Rattle.walk.specs.Table.{absent, factorsOf, tableOf}
 use Rattle.places.specs.Shelf.{rowsAt, tableAt, factorsAt, withTable, holding, emptyShelf, Fits, Good}
 use Rattle.writer.proofs.Parts.{sets-append}
 use Rattle.places.proofs.Filled.{Filled, filled-all}
-use Rattle.places.proofs.Table.{table-length, factors-table, table-list, table-same, table-refactored, within-none}
+use Rattle.places.proofs.Table.{table-length, factors-table, table-list, table-same, table-refactored, padded-none}
 
 pub shelf-fields : (s t : Shelf) → s .numbers ≡ t .numbers → s .sizes ≡ t .sizes → s ≡ t
 shelf-fields s t e f = ap₂ (λ (a : List Number) (b : List ℕ). let r : Shelf = record { numbers = a; sizes = b } in r) e f
@@ -202,7 +202,7 @@ module _ (p : ℕ) (small : p < 8) where
   empty-table : (b : Factors Number) → tableAt emptyShelf p ≡ tableOf 0 b
   empty-table b =
       table-list 0 b zeroNumber (tableAt emptyShelf p) empty-length
-      (λ i j h g. empty-number (i * 8 + j) (omega arith) ∙ sym (within-none b (suc i) (suc j) (omega arith)))
+      (λ i j h g. empty-number (i * 8 + j) (omega arith) ∙ sym (padded-none b (suc i) (suc j) (omega arith)))
 
 pub good-empty : Good emptyShelf
 unfolding emptyShelf

@@ -8,7 +8,7 @@ use lib.ListN.{length, getD, List·getD-append}
 use lib.Seq.{getD-append-add, ext-getD}
 use Rattle.words.specs.Word.{Factors, ascending}
 use Rattle.words.specs.Operation.{rowByRow}
-use Rattle.factors.proofs.Demanded.{rowByRow-length}
+use Rattle.words.proofs.RowByRow.{rowByRow-length}
 
 module _ {A : Type 0} (z : A) where
   ascending-at : (m c a q r : ℕ) (f : ℕ → List A) → ((i : ℕ) → length (f i) ≡ m) → q < c → r < m → getD (ascending a c f) (q * m + r) z ≡ getD (f (a + q)) r z

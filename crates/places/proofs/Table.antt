@@ -4,7 +4,7 @@ use Prim.Native.Nat.{ℕ, zero, suc, _+_, _-_, _*_, _/_, _%_, _<_, _≤_}
 use native.Mathlib.Nat.{mul-le-mul, mul-le-mul-right, div-add-mod', mod-lt}
 use native.Mathlib.Omega.{arith}
 use mathlib.Core.Path.{_≡_, refl, sym, ap, _∙_}
-use mathlib.Core.Bool.{Bool, true, false, not, cond, _&&_, _||_}
+use mathlib.Core.Bool.{Bool, true, false, not, cond, _&&_, _||_, or-true}
 use mathlib.Core.List.{List, [], _∷_}
 use lib.Dec.{leb}
 use lib.ListN.{length, getD, take}
@@ -13,9 +13,9 @@ use Rattle.number.specs.declared.Number.{Number}
 use Rattle.number.specs.Number.{bias, zeroNumber, inRange}
 use Rattle.words.specs.Word.{Factors, exchanged}
 use Rattle.words.specs.Operation.{rowByRow}
-use Rattle.minors.specs.Matrix.{In}
-use Rattle.factors.proofs.Demanded.{rowByRow-length}
-use Rattle.walk.specs.Table.{absent, factorsOf, within, tableOf}
+use Rattle.words.specs.RowSet.{In}
+use Rattle.words.proofs.RowByRow.{rowByRow-length}
+use Rattle.walk.specs.Table.{absent, factorsOf, padded, tableOf}
 use Rattle.places.specs.Table.{squareOf, outside}
 use Rattle.places.proofs.Filled.{read-any, Filled, filled-all, filled-part}
 use Rattle.places.proofs.RowByRow.{row-by-row-at, row-by-row-get, row-by-row-list, row-below}
@@ -25,12 +25,12 @@ index : (n i : ℕ) → In n i → (suc (i - 1) ≡ i) × (i - 1 < n)
 index n i h = (omega arith, omega arith)
 
 -- no rows, no factor
-pub within-none : (b : Factors Number) (i j : ℕ) → 0 < i → within 0 b i j ≡ zeroNumber
-within-none b i j h = rw (lt-leb i 0 h)
+pub padded-none : (b : Factors Number) (i j : ℕ) → 0 < i → padded 0 b i j ≡ zeroNumber
+padded-none b i j h = rw (lt-leb i 0 h)
 
 -- the number at k of a table
 abbrev pub cellAt : ℕ → Factors Number → ℕ → Number
-cellAt n b k = within n b (suc (k / 8)) (suc (k % 8))
+cellAt n b k = padded n b (suc (k / 8)) (suc (k % 8))
 
 -- squares of numbers of rows
 pub some-rows : (n x : ℕ) → x < n * n → 0 < n
@@ -41,54 +41,54 @@ pub square-below : (n i j : ℕ) → i < n → j < n → i * n + j < n * n
 square-below n i j h g = omega (arith, mul-le-mul-right n h)
 
 module _ (n : ℕ) where
-  pub within-in : (b : Factors Number) (i j : ℕ) → i ≤ n → j ≤ n → within n b i j ≡ b i j
-  within-in b i j h g = rw (le-leb i n h, le-leb j n g)
+  pub padded-in : (b : Factors Number) (i j : ℕ) → i ≤ n → j ≤ n → padded n b i j ≡ b i j
+  padded-in b i j h g = rw (le-leb i n h, le-leb j n g)
 
   module _ (b c : Factors Number) (same : (i j : ℕ) → In n i → In n j → b i j ≡ c i j) where
-    within-by : (i j : ℕ) → 1 ≤ i → 1 ≤ j → (t u : Bool) → leb i n ≡ t → leb j n ≡ u → cond (t && u) (b i j) zeroNumber ≡ cond (t && u) (c i j) zeroNumber
-    within-by i j h g true true p q = same i j (h, leb-true i n p) (g, leb-true j n q)
-    within-by i j h g true false p q = refl
-    within-by i j h g false true p q = refl
-    within-by i j h g false false p q = refl
+    padded-by : (i j : ℕ) → 1 ≤ i → 1 ≤ j → (t u : Bool) → leb i n ≡ t → leb j n ≡ u → cond (t && u) (b i j) zeroNumber ≡ cond (t && u) (c i j) zeroNumber
+    padded-by i j h g true true p q = same i j (h, leb-true i n p) (g, leb-true j n q)
+    padded-by i j h g true false p q = refl
+    padded-by i j h g false true p q = refl
+    padded-by i j h g false false p q = refl
 
   module _ (b : Factors Number) where
     pub table-length : length (tableOf n b) ≡ 64
     unfolding tableOf
-    table-length = rowByRow-length 8 (within n b)
+    table-length = rowByRow-length 8 (padded n b)
 
-    pub table-at : (z : Number) (i j : ℕ) → i < 8 → j < 8 → getD (tableOf n b) (i * 8 + j) z ≡ within n b (suc i) (suc j)
+    pub table-at : (z : Number) (i j : ℕ) → i < 8 → j < 8 → getD (tableOf n b) (i * 8 + j) z ≡ padded n b (suc i) (suc j)
     unfolding tableOf
-    table-at z i j h g = row-by-row-at z 8 (within n b) i j h g
+    table-at z i j h g = row-by-row-at z 8 (padded n b) i j h g
 
-    pub factors-within : (i j : ℕ) → In 8 i → In 8 j → factorsOf (tableOf n b) i j ≡ within n b i j
+    pub factors-within : (i j : ℕ) → In 8 i → In 8 j → factorsOf (tableOf n b) i j ≡ padded n b i j
     unfolding factorsOf
     factors-within i j h g =
         table-at zeroNumber (i - 1) (j - 1) (index 8 i h .1) (index 8 j g .1) ∙ rw (index 8 i h .0, index 8 j g .0)
 
     pub factors-table : n ≤ 8 → (i j : ℕ) → In n i → In n j → factorsOf (tableOf n b) i j ≡ b i j
-    factors-table few i j h g = factors-within i j (omega arith, omega arith) (omega arith, omega arith) ∙ within-in b i j (h .1) (g .1)
+    factors-table few i j h g = factors-within i j (omega arith, omega arith) (omega arith, omega arith) ∙ padded-in b i j (h .1) (g .1)
 
   -- a table is given by its factors
-  pub table-list : (b : Factors Number) (z : Number) (t : List Number) → length t ≡ 64 → ((i j : ℕ) → i < 8 → j < 8 → getD t (i * 8 + j) z ≡ within n b (suc i) (suc j)) → t ≡ tableOf n b
+  pub table-list : (b : Factors Number) (z : Number) (t : List Number) → length t ≡ 64 → ((i j : ℕ) → i < 8 → j < 8 → getD t (i * 8 + j) z ≡ padded n b (suc i) (suc j)) → t ≡ tableOf n b
   unfolding tableOf
-  table-list b z t l h = row-by-row-list z 8 (within n b) t l h
+  table-list b z t l h = row-by-row-list z 8 (padded n b) t l h
 
   pub table-filled : (b : Factors Number) {k : ℕ} {t : List Number} → Filled zeroNumber (cellAt n b) 64 k t → 64 ≤ k → t ≡ tableOf n b
   unfolding tableOf
   table-filled b w h =
-      filled-all zeroNumber (cellAt n b) 64 w h (tableOf n b) (table-length b) (λ k l. row-by-row-get zeroNumber 8 (omega arith) k l (within n b))
+      filled-all zeroNumber (cellAt n b) 64 w h (tableOf n b) (table-length b) (λ k l. row-by-row-get zeroNumber 8 (omega arith) k l (padded n b))
 
   pub table-same : (b c : Factors Number) → ((i j : ℕ) → In n i → In n j → b i j ≡ c i j) → tableOf n b ≡ tableOf n c
   table-same b c same =
       table-list c zeroNumber (tableOf n b) (table-length b)
-      (λ i j h g. table-at b zeroNumber i j h g ∙ within-by b c same (suc i) (suc j) (omega arith) (omega arith) (leb (suc i) n) (leb (suc j) n) refl refl)
+      (λ i j h g. table-at b zeroNumber i j h g ∙ padded-by b c same (suc i) (suc j) (omega arith) (omega arith) (leb (suc i) n) (leb (suc j) n) refl refl)
 
   pub table-refactored : (b : Factors Number) → n ≤ 8 → tableOf n (factorsOf (tableOf n b)) ≡ tableOf n b
   table-refactored b few = table-same (factorsOf (tableOf n b)) b (factors-table b few)
 
 -- all 64 numbers
 pub table-whole : (b : Factors Number) (i j : ℕ) → i < 8 → j < 8 → getD (tableOf 8 b) (i * 8 + j) zeroNumber ≡ b (suc i) (suc j)
-table-whole b i j h g = table-at 8 b zeroNumber i j h g ∙ within-in 8 b (suc i) (suc j) (omega arith) (omega arith)
+table-whole b i j h g = table-at 8 b zeroNumber i j h g ∙ padded-in 8 b (suc i) (suc j) (omega arith) (omega arith)
 
 -- the exchange of all 64 is that of the factors
 module _ (n : ℕ) (b : Factors Number) where
@@ -115,7 +115,7 @@ exchanged-cell t k long h =
     let r : suc (k % 8) - 1 ≡ k % 8 = omega arith in
     let c : suc (k / 8) - 1 ≡ k / 8 = omega arith in
     read-any t (k % 8 * 8 + k / 8) absent zeroNumber (omega arith)
-    ∙ rw (within-in 8 (exchanged (factorsOf t)) (suc (k / 8)) (suc (k % 8)) (omega arith) (omega arith), r, c)
+    ∙ rw (padded-in 8 (exchanged (factorsOf t)) (suc (k / 8)) (suc (k % 8)) (omega arith) (omega arith), r, c)
 
 -- FACTORS ONE BEHIND THE OTHER: out of a table
 abbrev pub packedAt : ℕ → List Number → ℕ → Number
@@ -204,10 +204,6 @@ module _ (z : Number) where
   outside-some [] k h e = absurd (omega arith)
   outside-some (a ∷ L) zero h e = rw e
   outside-some (a ∷ L) (suc k) h e = rw (outside-some L k (omega arith) e) (or-true (not (inRange a)))
-    where
-      or-true : (t : Bool) → t || true ≡ true
-      or-true true = refl
-      or-true false = refl
 
 both-false : (t u : Bool) → (t ≡ false → u ≡ false) → (u ≡ false → t ≡ false) → t ≡ u
 both-false false u f g = sym (f refl)
@@ -251,5 +247,5 @@ module _ (n : ℕ) (b : Factors Number) (few : n ≤ 8) where
       outside-all zeroNumber (tableOf n b)
       (λ x h.
       let l : x < 8 * 8 = omega (arith, table-length n b) in
-      ap inRange (row-by-row-get zeroNumber 8 (omega arith) x l (within n b))
+      ap inRange (row-by-row-get zeroNumber 8 (omega arith) x l (padded n b))
       ∙ within-ranged (rows-ranged e) (suc (x / 8)) (suc (x % 8)) (omega arith) (omega arith) (leb (suc (x / 8)) n) (leb (suc (x % 8)) n) refl refl))

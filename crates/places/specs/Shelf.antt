@@ -8,7 +8,7 @@ use lib.Seq.{sets}
 use Rattle.number.specs.declared.Number.{Number}
 use Rattle.number.specs.Number.{zeroNumber, Stored}
 use Rattle.words.specs.Word.{Factors}
-use Rattle.factors.specs.Demand.{Each}
+use Rattle.words.specs.Sources.{Each}
 use Rattle.places.specs.declared.Shelf.{Shelf}
 use Rattle.walk.specs.Table.{factorsOf, tableOf}
 

@@ -5,7 +5,7 @@ ghost use lib.ListN.{take, replicate};
 ghost use Rattle.number.specs.Number.{zeroNumber};
 ghost use Rattle.words.specs.Word.{exchanged};
 ghost use Rattle.words.specs.Operation.{rowByRow};
-ghost use Rattle.walk.specs.Table.{factorsOf, within, tableOf};
+ghost use Rattle.walk.specs.Table.{factorsOf, padded, tableOf};
 ghost use Rattle.places.specs.Table.{squareOf, outside};
 use number::Number;
 
@@ -20,7 +20,7 @@ pub fn blank() -> [Number; 64]
 // What stands at k in the table of a matrix of n rows whose factors stand one behind the other, row by row.
 fn cell(numbers: [Number; 64], n: usize, k: usize) -> Number
     requires { ⌜ n ≤ 8 ⌝ }
-    ensures { λ r. ⌜ r ≡ within n (squareOf n numbers) (suc (k / 8)) (suc (k % 8)) ⌝ }
+    ensures { λ r. ⌜ r ≡ padded n (squareOf n numbers) (suc (k / 8)) (suc (k % 8)) ⌝ }
 {
     let i = k / 8;
     let j = k % 8;

@@ -12,7 +12,7 @@ use Rattle.words.specs.Walk.{minor}
 use Rattle.words.specs.Operation.{joinedWord}
 use Rattle.words.specs.Sources.{StoredSteps, runReach}
 use Rattle.walk.specs.Steps.{stepsOf}
-use Rattle.walk.specs.Table.{within}
+use Rattle.walk.specs.Table.{padded}
 use Rattle.rule.specs.declared.Chosen.{Chosen}
 
 -- how many rows are chosen
@@ -36,7 +36,7 @@ turnedBy false M I J = M I J
 
 -- the number at t of the factors of k rows in rows of eight
 abbrev pub cellAt : ℕ → Factors Number → ℕ → Number
-cellAt k b t = within k b (t / 8 + 1) (t % 8 + 1)
+cellAt k b t = padded k b (t / 8 + 1) (t % 8 + 1)
 
 -- no minor of k rows at sets with equally many members is zero
 pub record Regular (k : ℕ) (M : RowSet → RowSet → Number) : Type 0 where

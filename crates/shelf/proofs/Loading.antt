@@ -14,9 +14,9 @@ use Rattle.number.specs.declared.Number.{Number}
 use Rattle.number.specs.Number.{zeroNumber, Stored}
 use Rattle.words.specs.Word.{Factors}
 use Rattle.words.specs.Operation.{rowByRow}
-use Rattle.minors.specs.Matrix.{In}
-use Rattle.factors.specs.Demand.{Each}
-use Rattle.factors.proofs.Demanded.{rowByRow-length}
+use Rattle.words.specs.RowSet.{In}
+use Rattle.words.specs.Sources.{Each}
+use Rattle.words.proofs.RowByRow.{rowByRow-length}
 use Rattle.reader.specs.declared.Outcome.the-variants as outcome
 use Rattle.reader.specs.declared.Parsed.{Parsed}
 use Rattle.writer.specs.Encoding.{encoding, AllStored, Storable}

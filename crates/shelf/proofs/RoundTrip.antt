@@ -19,7 +19,7 @@ use Rattle.walk.specs.Table.{tableOf}
 use Rattle.writer.specs.Encoding.{encoding, Storable}
 use Rattle.reader.specs.Matrix.{Reading, matrix, fault, matrixOf}
 use Rattle.reader.proofs.RoundTrip.{matrix-written, matrix-read}
-use Rattle.factors.proofs.Demanded.{rowByRow-length}
+use Rattle.words.proofs.RowByRow.{rowByRow-length}
 use Rattle.places.specs.declared.Shelf.{Shelf}
 use Rattle.places.specs.declared.Verdict.{Verdict}
 use Rattle.places.specs.declared.Verdict.the-variants.{Accepted, Refused}

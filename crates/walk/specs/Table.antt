@@ -17,12 +17,12 @@ unfoldable pub factorsOf : List Number → Factors Number
 factorsOf t i j = getD t (cellOf i j) zeroNumber
 
 -- the factor of row i and column j of a matrix of n rows, zero past these
-abbrev pub within : ℕ → Factors Number → Factors Number
-within n b i j = cond (leb i n && leb j n) (b i j) zeroNumber
+abbrev pub padded : ℕ → Factors Number → Factors Number
+padded n b i j = cond (leb i n && leb j n) (b i j) zeroNumber
 
 -- the table of a matrix of n rows
 unfoldable pub tableOf : ℕ → Factors Number → List Number
-tableOf n b = rowByRow 8 (within n b)
+tableOf n b = rowByRow 8 (padded n b)
 
 -- what a read past the end of an array of numbers would give; none is made
 abbrev pub absent : Number

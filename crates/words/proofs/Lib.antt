@@ -12,3 +12,4 @@ pub mod Counts
 pub mod Formulas
 pub mod Exponents
 pub mod Examples
+pub mod RowByRow
