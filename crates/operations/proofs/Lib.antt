@@ -2,3 +2,4 @@
 pub mod Proposals
 pub mod Results
 pub mod MinorCalls
+pub mod Examples

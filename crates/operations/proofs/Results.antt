@@ -10,7 +10,7 @@ use Rattle.number.specs.Number.{rounded, Stored}
 use Rattle.number.proofs.Reach.{in-range-stored}
 use Rattle.words.specs.RowSet.{rows, count}
 use Rattle.words.specs.Operation.{Operation, product, inverse, converse, submatrix, steps, keptRows, keptColumns, size, bound, rowByRow, result}
-use Rattle.words.specs.Sources.{StoredSteps}
+use Rattle.words.specs.Sources.{Each, StoredSteps}
 use Rattle.words.proofs.Chosen.{count-all}
 use Rattle.rowset.proofs.Masks.{ofMask-length}
 use Rattle.rowset.proofs.Counts.{mask-count, count-to, countTo-le}
