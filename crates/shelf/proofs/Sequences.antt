@@ -1,4 +1,4 @@
--- WHATEVER IS CALLED, in whatever order, the shelf stays good (`calls-good`).
+-- WHATEVER IS CALLED, in whatever order, the shelf stays good (`call-good`, `calls-good`).
 use Prim.Native.Nat.{ℕ}
 use mathlib.Core.Path.{_≡_}
 use mathlib.Core.List.{List, [], _∷_}
@@ -14,7 +14,7 @@ use Rattle.shelf.specs.Sequence.{Call, load, drop, product, inverse, con
 use Rattle.shelf.proofs.Loading.{load-good}
 use Rattle.shelf.proofs.Dropping.{drop-good}
 
-call-good : (s : Shelf) → Good s → (c : Call) → Given c → Good (afterCall s c)
+pub call-good : (s : Shelf) → Good s → (c : Call) → Given c → Good (afterCall s c)
 unfolding afterCall
 call-good s g (load p bytes) h = load-good s p bytes g h
 call-good s g (drop p) h = drop-good s p g
