@@ -1,4 +1,4 @@
--- DEMAND 2 of the shelf: bytes written for a matrix read back as that matrix (`write-load`), and accepted bytes are the ones that the writer makes (`load-write`).
+-- DEMAND 2 of the shelf: bytes written for a matrix read back as that matrix (`write-load`), at most 449 of them (`write-short`), and accepted bytes are the ones that the writer makes (`load-write`).
 -- A matrix that is loaded and dropped leaves the shelf as it was (`load-drop`).
 use Prim.Native.Nat.{ℕ, _-_, _*_, _≤_, _<_}
 use native.Mathlib.Omega.{arith}
@@ -17,6 +17,7 @@ use Rattle.words.specs.Word.{Factors}
 use Rattle.words.specs.Operation.{rowByRow}
 use Rattle.walk.specs.Table.{tableOf}
 use Rattle.writer.specs.Encoding.{encoding, Storable}
+use Rattle.writer.proofs.Length.{encoding-short}
 use Rattle.reader.specs.Matrix.{Reading, matrix, fault, matrixOf}
 use Rattle.reader.proofs.RoundTrip.{matrix-written, matrix-read}
 use Rattle.words.proofs.RowByRow.{rowByRow-length}
@@ -47,6 +48,10 @@ module _ (s : Shelf) (good : Good s) (q : ℕ) (held : Source s q) where
   read-back : matrixOf (bytesAt s q) ≡ matrix (rowsAt s q) (rowByRow (rowsAt s q) (factorsAt s q)) (length (bytesAt s q))
   unfolding bytesAt
   read-back = ap matrixOf (sym (append-nil _)) ∙ matrix-written (rowsAt s q) (rowByRow (rowsAt s q) (factorsAt s q)) [] storable
+
+  pub write-short : length (bytesAt s q) ≤ 449
+  unfolding bytesAt
+  write-short = encoding-short (rowsAt s q) (rowByRow (rowsAt s q) (factorsAt s q)) storable
 
   pub write-load : (t : Shelf) (p : ℕ) → firstOf (targetTests t p) ≡ Accepted → changed Accepted t (holding t p (rowsAt s q) (factorsAt s q)) ≡ loadCall t p (bytesAt s q)
   write-load t p e =
