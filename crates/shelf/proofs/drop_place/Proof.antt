@@ -1,3 +1,4 @@
+use Prim.Native.Nat.{_<_}
 use native.Mathlib.Omega.{arith}
 use mathlib.Core.Path.{_≡_, sym, ap, _∙_}
 use Rattle.places.specs.declared.Verdict.the-variants.{Accepted}
@@ -18,6 +19,9 @@ use Rattle.shelf.proofs.unchanged.Reads as unchanged-reads
 
 accepted : (c : tie.After-enum-told) → firstOf (sourceTests (c .before .before .before .args .shelf) (c .before .before .before .args .place)) ≡ Accepted
 accepted c = sym (c .before .before .source .ensures) ∙ c .enum-told .given .1
+
+small : (c : tie.After-enum-told) → c .before .before .before .args .place < 8
+small c = source-accepted _ _ (accepted c) .small
 
 -- src/lib.rt:121:9
 source-requires : tie.Need-source-requires
@@ -47,7 +51,7 @@ blank-requires c κs = search needs
 
 -- src/lib.rt:126:16
 with-table-requires : tie.Need-with-table-requires
-with-table-requires c κs = (source-accepted _ _ (accepted (c .before)) .small, omega arith)
+with-table-requires c κs = (omega (arith, small (c .before)), omega arith)
 
 -- src/lib.rt:116:1
 returns-2 : tie.Need-returns-2
