@@ -49,7 +49,7 @@ fn unchanged(shelf: Shelf, why: Refusal) -> Changed
     ensures { λ r. ⌜ r ≡ changed (Verdict.Refused why) shelf shelf ⌝ }
 {
     Changed {
-        shelf,
+        shelf: shelf,
         verdict: Verdict::Refused(why),
     }
 }

@@ -54,7 +54,7 @@ rows-at-requires c κs = search needs
 
 -- src/lib.rt:132:31
 table-at-requires : tie.Need-table-at-requires
-table-at-requires c κs = source (c .before) .small
+table-at-requires c κs = let small = source (c .before) .small in omega arith
 
 -- src/lib.rt:132:9
 carry-requires : tie.Need-carry-requires

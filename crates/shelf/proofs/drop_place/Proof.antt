@@ -1,3 +1,4 @@
+use Prim.Native.Nat.{_<_}
 use mathlib.Core.Path.{_≡_, sym, ap, _∙_}
 use Rattle.places.specs.declared.Verdict.the-variants.{Accepted}
 use Rattle.places.specs.Shelf.{withTable}
@@ -19,6 +20,9 @@ use Rattle.shelf.proofs.unchanged.Reads as unchanged-reads
 
 accepted : (c : tie.After-enum-told) → firstOf (sourceTests (c .before .before .before .args .shelf) (c .before .before .before .args .place)) ≡ Accepted
 accepted c = sym (c .before .before .source .ensures) ∙ c .enum-told .given .1
+
+small : (c : tie.After-enum-told) → c .before .before .before .args .place < 8
+small c = source-accepted _ _ (accepted c) .small
 
 -- src/lib.rt:121:9
 source-requires : tie.Need-source-requires
@@ -50,7 +54,7 @@ blank-requires c κs = search needs
 with-table-requires : tie.Need-with-table-requires
 with-table-requires c κs =
     let told = c .before in
-    (told .before .before .before .pre, source-accepted _ _ (accepted told) .small, rw (c .blank .ensures ∙ sym (table-blank (λ i j. zeroNumber))) (fits-none (λ i j. zeroNumber)))
+    (told .before .before .before .pre, small told, rw (c .blank .ensures ∙ sym (table-blank (λ i j. zeroNumber))) (fits-none (λ i j. zeroNumber)))
 
 -- src/lib.rt:116:1
 returns-2 : tie.Need-returns-2

@@ -23,10 +23,10 @@ abbrev entry : tie.Else4 → tie.Start
 entry c = c .before .before .before .before .before
 
 row : (c : tie.Else4) → In (rowsAt (entry c .args .shelf) (entry c .args .place)) (entry c .args .i)
-row c = (c .before .before .before .if1 .left, rw (c .before .before .before .before .rows-at .ensures) at (c .before .if3 .left))
+row c = let rows = c .before .before .before .before .rows-at .ensures in (omega arith, omega arith)
 
 column : (c : tie.Else4) → In (rowsAt (entry c .args .shelf) (entry c .args .place)) (entry c .args .j)
-column c = (c .before .before .if2 .left, rw (c .before .before .before .before .rows-at .ensures) at (c .if4 .left))
+column c = let rows = c .before .before .before .before .rows-at .ensures in (omega arith, omega arith)
 
 small : (c : tie.Else4) → entry c .args .place < 8
 small c = let r = row c in place-small _ (entry c .pre) _ (omega arith)

@@ -36,12 +36,10 @@ array-copy-out-e c = search needs
 
 scale-requires : tie.Need-scale-requires Inv-loop μ-loop
 unfolding entriesOf
-scale-requires c κs =
-    let b = c .before .before .before .before .before in
-    let i = c .before .before .before .before .loop .i in (
-      ranged-more (omega arith) (c .before .before .before .before .loop .inv .1 .ranged),
-      b .pre .2 .stored (i + 1) (omega arith) (omega arith),
-    )
+scale-requires c κs = (
+  ranged-more (omega arith) (c .before .before .before .before .loop .inv .1 .ranged),
+  c .before .before .before .before .before .pre .2 .stored _ (omega arith) (omega arith),
+)
 
 add-i : tie.Need-add-i Inv-loop μ-loop
 add-i c = search needs

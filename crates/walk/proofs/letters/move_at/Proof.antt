@@ -11,6 +11,10 @@ use borrow.Author.Needs.{needs}
 use Rattle.walk.proofs.letters.move_at.Statement.{statement}
 use Rattle.walk.proofs.letters.move_at.Tie as tie
 
+-- a letter lies within
+within : (n : ℕ) (way : Way) (t : ℕ) (m : Move) → m ≡ moveAt n way t → 1 ≤ n → n ≤ 8 → t < 2 * middle n + 1 → (t ≡ middle n → ⊥) → MoveWithin n m
+within n way t m q ln hn l e = subst (MoveWithin n) (sym q) (move-within n way ln hn t l e)
+
 middle-requires : tie.Need-middle-requires
 middle-requires c κs = search needs
 
@@ -42,19 +46,13 @@ add-t11 : tie.Need-add-t11
 add-t11 c = search needs
 
 sub-t12 : tie.Need-sub-t12
-sub-t12 c =
-    let b = c .before .before .before .before .before in
-    let w = move-within (b .args .n) Plain (search needs) (search needs) (b .args .t) (search needs) (b .pre .3) in
-    omega (arith, ap (λ (m : Move). m .to) (c .before .plain-at3 .ensures), w .rows .to-high)
+sub-t12 c = omega (arith, within _ _ _ _ (c .before .plain-at3 .ensures) (search needs) (search needs) (search needs) (search needs) .rows .to-high)
 
 add-t13 : tie.Need-add-t13
 add-t13 c = search needs
 
 sub-t14 : tie.Need-sub-t14
-sub-t14 c =
-    let b = c .before .before .before .before .before .before in
-    let w = move-within (b .args .n) Plain (search needs) (search needs) (b .args .t) (search needs) (b .pre .3) in
-    omega (arith, ap (λ (m : Move). m .from) (c .before .before .plain-at3 .ensures), w .rows .from-high)
+sub-t14 c = omega (arith, within _ _ _ _ (c .before .before .plain-at3 .ensures) (search needs) (search needs) (search needs) (search needs) .rows .from-high)
 
 enum-told-4 : tie.Need-enum-told-4
 enum-told-4 c = search needs
@@ -67,7 +65,7 @@ plain-at-requires-5 c κs = search needs
 
 -- the letter is the one asked for, so it lies within
 answered : (n : ℕ) (way : Way) (t : ℕ) (m : Move) → 1 ≤ n → n ≤ 8 → t < 2 * middle n + 1 → (t ≡ middle n → ⊥) → m ≡ moveAt n way t → (m ≡ moveAt n way t) × MoveWithin n m
-answered n way t m ln hn l e q = (q, subst (MoveWithin n) (sym q) (move-within n way ln hn t l e))
+answered n way t m ln hn l e q = (q, within n way t m q ln hn l e)
 
 returns : tie.Need-returns
 returns c =
