@@ -64,15 +64,12 @@ value c =
 ranged : (c : tie.Else1) → inRange (c .before .before .minor .result) ≡ true
 ranged c = sym (c .before .in-range .ensures) ∙ not-false _ (c .if1 .left)
 
--- src/lib.rt:147:9
 source-requires : tie.Need-source-requires
 source-requires c κs = search needs
 
--- src/lib.rt:148:29
 enum-known-first : tie.Need-enum-known-first
 enum-known-first c = search needs
 
--- src/lib.rt:149:9
 returns : tie.Need-returns
 returns c =
     let a = c .before .before .before .before .args in
@@ -81,27 +78,21 @@ returns c =
 enum-told : tie.Need-enum-told
 enum-told c = search needs
 
--- src/lib.rt:151:9
 rows-at-requires : tie.Need-rows-at-requires
 rows-at-requires c κs = search needs
 
--- src/lib.rt:152:9
 wide-requires : tie.Need-wide-requires
 wide-requires c κs = search needs
 
--- src/lib.rt:153:9
 wide-requires-2 : tie.Need-wide-requires-2
 wide-requires-2 c κs = search needs
 
--- src/lib.rt:154:9
 sets-requires : tie.Need-sets-requires
 sets-requires c κs = (rw (c .before .before .rows-at .ensures) (entry (c .before .before .before) .pre .held _ (source (c .before .before .before) .small) .few), c .before .wide .ensures .1, c .wide2 .ensures .1)
 
--- src/lib.rt:155:29
 enum-known-second : tie.Need-enum-known-second
 enum-known-second c = search needs
 
--- src/lib.rt:156:9
 returns-2 : tie.Need-returns-2
 returns-2 c =
     let x = c .before .before .before in
@@ -111,11 +102,9 @@ returns-2 c =
 enum-told-2 : tie.Need-enum-told-2
 enum-told-2 c = search needs
 
--- src/lib.rt:158:26
 table-at-requires : tie.Need-table-at-requires
 table-at-requires c κs = source (told (judged c)) .small
 
--- src/lib.rt:158:9
 minor-requires : tie.Need-minor-requires
 minor-requires c κs =
     let x = judged (c .before) in
@@ -123,11 +112,9 @@ minor-requires c κs =
     minor-workable (a .shelf) (a .place) (a .rows) (a .columns) _ _ _ (x .before .before .before .rows-at .ensures) (x .before .before .wide .ensures .0) (x .before .wide2 .ensures .0)
     (entry (told x) .pre) (source (told x)) (sets-accepted _ _ _ (fit-passed (c .before))) _ (c .table-at .ensures)
 
--- src/lib.rt:159:9
 in-range-requires : tie.Need-in-range-requires
 in-range-requires c κs = search needs
 
--- src/lib.rt:160:9
 returns-3 : tie.Need-returns-3
 returns-3 c =
     let m = c .before .before in
@@ -135,11 +122,9 @@ returns-3 c =
     let a = entry (told x) .args in
     minor-outside (a .shelf) (a .place) (a .rows) (a .columns) (accepted (told x)) (fit-passed (m .before .before)) (sym (ap inRange (value m)) ∙ sym (c .before .in-range .ensures) ∙ not-true _ (c .if1 .taken))
 
--- src/lib.rt:167:19
 exponent-requires : tie.Need-exponent-requires
 exponent-requires c κs = in-range-small _ (ranged c)
 
--- src/lib.rt:143:1
 returns-4 : tie.Need-returns-4
 returns-4 c =
     let m = c .before .before .before in

@@ -7,15 +7,12 @@ use Rattle.operations.proofs.product.Lts as lts
 use Rattle.operations.proofs.work.keep.Reads as keep-reads
 use Rattle.operations.proofs.work.product.Reads as product-reads
 
--- src/lib.rt:54:31
 product-requires : tie.Need-product-requires
 product-requires c κs = c .pre
 
--- src/lib.rt:54:5
 keep-requires : tie.Need-keep-requires
 keep-requires c κs = (c .before .pre, c .product .ensures .1)
 
--- src/lib.rt:48:1
 returns : tie.Need-returns
 returns c =
     let begin = c .before .before in

@@ -8,23 +8,18 @@ use Rattle.operations.proofs.work.keep.Reads as keep-reads
 use Rattle.operations.proofs.work.submatrix.Reads as submatrix-reads
 use Rattle.rowset.proofs.wide.Reads as wide-reads
 
--- src/lib.rt:84:9
 wide-requires : tie.Need-wide-requires
 wide-requires c κs = search needs
 
--- src/lib.rt:85:9
 wide-requires-2 : tie.Need-wide-requires-2
 wide-requires-2 c κs = search needs
 
--- src/lib.rt:86:31
 submatrix-requires : tie.Need-submatrix-requires
 submatrix-requires c κs = (c .before .before .pre, c .before .wide .ensures .1, c .wide2 .ensures .1)
 
--- src/lib.rt:86:5
 keep-requires : tie.Need-keep-requires
 keep-requires c κs = (c .before .before .before .pre, c .submatrix .ensures .1)
 
--- src/lib.rt:78:1
 returns : tie.Need-returns
 returns c =
     let begin = c .before .before .before .before in

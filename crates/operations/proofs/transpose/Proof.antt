@@ -8,15 +8,12 @@ use Rattle.operations.proofs.transpose.Lts as lts
 use Rattle.operations.proofs.work.keep.Reads as keep-reads
 use Rattle.operations.proofs.work.transposed.Reads as transposed-reads
 
--- src/lib.rt:160:37
 transposed-requires : tie.Need-transposed-requires
 transposed-requires c κs = search needs
 
--- src/lib.rt:160:5
 keep-requires : tie.Need-keep-requires
 keep-requires c κs = (c .before .pre, c .transposed .ensures .1)
 
--- src/lib.rt:155:1
 returns : tie.Need-returns
 returns c =
     let a = c .before .before .args in

@@ -27,43 +27,33 @@ Inv-loop place n t left₀ k₀ left k = (k ≤ 64) × (left .numbers ≡ sets (
 abbrev μ-loop : tie.MeasureT-loop
 μ-loop place n t left₀ k₀ left k = 64 - k
 
--- src/places.rt:36:5
 loop-holds : tie.Need-loop-holds Inv-loop μ-loop
 loop-holds c = (search needs, refl, refl, search (needs, length-mapped))
 
--- src/places.rt:37:18
 mul-at : tie.Need-mul-at Inv-loop μ-loop
 mul-at c = search needs
 
--- src/places.rt:37:18
 add-at : tie.Need-add-at Inv-loop μ-loop
 add-at c = search needs
 
--- src/places.rt:38:17
 mul-x : tie.Need-mul-x Inv-loop μ-loop
 mul-x c = search needs
 
--- src/places.rt:38:17
 array-copy-out-x : tie.Need-array-copy-out-x Inv-loop μ-loop
 array-copy-out-x c = search needs
 
--- src/places.rt:39:9
 mul-x-2 : tie.Need-mul-x-2 Inv-loop μ-loop
 mul-x-2 c = search needs
 
--- src/places.rt:39:9
 element-set-from-x : tie.Need-element-set-from-x Inv-loop μ-loop
 element-set-from-x c = search needs
 
--- src/places.rt:36:9
 add-k : tie.Need-add-k Inv-loop μ-loop
 add-k c = search needs
 
--- src/places.rt:36:5
 loop-less : tie.Need-loop-less Inv-loop μ-loop
 loop-less c = search needs
 
--- src/places.rt:36:5
 loop-again : tie.Need-loop-again Inv-loop μ-loop
 loop-again c =
     let a = c .before .before .before .args in
@@ -75,15 +65,12 @@ loop-again c =
       l .inv .3,
     )
 
--- src/places.rt:41:25
 cast-left : tie.Need-cast-left Inv-loop μ-loop
 cast-left c = search needs
 
--- src/places.rt:41:5
 element-write-left : tie.Need-element-write-left Inv-loop μ-loop
 element-write-left c = search needs
 
--- src/places.rt:31:1
 returns : tie.Need-returns Inv-loop μ-loop
 unfolding withTable
 returns c =

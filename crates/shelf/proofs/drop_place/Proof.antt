@@ -21,22 +21,22 @@ use Rattle.shelf.proofs.unchanged.Reads as unchanged-reads
 accepted : (c : tie.After-enum-told) → firstOf (sourceTests (c .before .before .before .args .shelf) (c .before .before .before .args .place)) ≡ Accepted
 accepted c = sym (c .before .before .source .ensures) ∙ c .enum-told .given .1
 
+<<<<<<< HEAD
 small : (c : tie.After-enum-told) → c .before .before .before .args .place < 8
 small c = source-accepted _ _ (accepted c) .small
 
 -- src/lib.rt:121:9
+=======
+>>>>>>> 598c3111e09553dea5d9a62d1578fd1760698023
 source-requires : tie.Need-source-requires
 source-requires c κs = search needs
 
--- src/lib.rt:122:29
 enum-known-first : tie.Need-enum-known-first
 enum-known-first c = search needs
 
--- src/lib.rt:123:9
 unchanged-requires : tie.Need-unchanged-requires
 unchanged-requires c κs = search needs
 
--- src/lib.rt:123:9
 returns : tie.Need-returns
 returns c =
     let first = c .before .before in
@@ -46,17 +46,14 @@ returns c =
 enum-told : tie.Need-enum-told
 enum-told c = search needs
 
--- src/lib.rt:126:52
 blank-requires : tie.Need-blank-requires
 blank-requires c κs = search needs
 
--- src/lib.rt:126:16
 with-table-requires : tie.Need-with-table-requires
 with-table-requires c κs =
     let told = c .before in
     (told .before .before .before .pre, small told, rw (c .blank .ensures ∙ sym (table-blank (λ i j. zeroNumber))) (fits-none (λ i j. zeroNumber)))
 
--- src/lib.rt:116:1
 returns-2 : tie.Need-returns-2
 returns-2 c =
     let told = c .before .before in

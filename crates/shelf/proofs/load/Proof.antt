@@ -41,19 +41,15 @@ rows-few c =
     let h : OutcomeInside _ (Matrix (c .outcome .given .0 .0) (c .outcome .given .0 .1 .0)) = rw (c .outcome .given .1) at (c .before .before .read-matrix .ensures .1) in
     omega (arith, h .1)
 
--- src/lib.rt:88:9
 target-requires : tie.Need-target-requires
 target-requires c κs = search needs
 
--- src/lib.rt:89:29
 enum-known-first : tie.Need-enum-known-first
 enum-known-first c = search needs
 
--- src/lib.rt:90:9
 unchanged-requires : tie.Need-unchanged-requires
 unchanged-requires c κs = search needs
 
--- src/lib.rt:90:9
 returns : tie.Need-returns
 returns c =
     let first = c .before .before in
@@ -65,19 +61,15 @@ returns c =
 enum-told : tie.Need-enum-told
 enum-told c = search needs
 
--- src/lib.rt:92:9
 read-matrix-requires : tie.Need-read-matrix-requires
 read-matrix-requires c κs = search needs
 
--- src/lib.rt:95:34
 enum-known-outcome : tie.Need-enum-known-outcome
 enum-known-outcome c = search needs
 
--- src/lib.rt:97:17
 unchanged-requires-2 : tie.Need-unchanged-requires-2
 unchanged-requires-2 c κs = search needs
 
--- src/lib.rt:97:17
 returns-2 : tie.Need-returns-2
 returns-2 c =
     let read = c .before .before .before .before .before in
@@ -86,11 +78,9 @@ returns-2 c =
     load-answered (a .shelf) (a .place) (now (a .bytes)) (entry .before .pre) (bytes-in entry) _
     (c .unchanged2 .ensures ∙ load-behind (a .shelf) (a .place) (now (a .bytes)) (accepted (read .before)) _ _ _ (found (c .before .before .before)) (c .before .if1 .taken))
 
--- src/lib.rt:107:63
 spread-requires : tie.Need-spread-requires
 spread-requires c κs = rows-few (c .before .before .before)
 
--- src/lib.rt:107:24
 with-table-requires : tie.Need-with-table-requires
 with-table-requires c κs =
     let o = c .before .before .before .before in
@@ -99,15 +89,12 @@ with-table-requires c κs =
     let fits = read-fits _ (bytes-in entry) _ _ _ (found o) in
     (entry .before .pre, target-accepted _ _ (accepted told) .small, rw (c .spread .ensures ∙ square-taken _ _) fits)
 
--- src/lib.rt:111:33
 enum-known-outcome-2 : tie.Need-enum-known-outcome-2
 enum-known-outcome-2 c = search needs
 
--- src/lib.rt:111:53
 unchanged-requires-3 : tie.Need-unchanged-requires-3
 unchanged-requires-3 c κs = search needs
 
--- src/lib.rt:83:1
 returns-3 : tie.Need-returns-3
 returns-3 c =
     let o = c .before .before .before .before .before in
@@ -119,7 +106,6 @@ returns-3 c =
     (ap (changed Accepted (a .shelf)) (c .with-table .ensures .0 ∙ ap (withTable (a .shelf) (a .place) _) t)
     ∙ load-done (a .shelf) (a .place) (now (a .bytes)) (accepted (read .before)) _ _ _ (found o) (c .before .before .before .if1 .left))
 
--- src/lib.rt:83:1
 returns-4 : tie.Need-returns-4
 returns-4 c =
     let read = c .before .before .before .before in

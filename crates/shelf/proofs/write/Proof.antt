@@ -30,15 +30,12 @@ same : (c : tie.After-write-matrix) → encoding (c .before .before .before .bef
     ≡ bytesAt (c .before .before .before .before .before .before .before .before .before .args .shelf) (c .before .before .before .before .before .before .before .before .before .args .place)
 same c = bytes-packed _ _ _ _ _ (c .before .before .before .before .rows-at .ensures) (c .before .before .before .table-at .ensures) (c .before .before .packed .ensures)
 
--- src/lib.rt:137:9
 source-requires : tie.Need-source-requires
 source-requires c κs = search needs
 
--- src/lib.rt:138:29
 enum-known-first : tie.Need-enum-known-first
 enum-known-first c = search needs
 
--- src/lib.rt:139:9
 returns : tie.Need-returns
 returns c =
     let first = c .before in
@@ -48,37 +45,29 @@ returns c =
 enum-told : tie.Need-enum-told
 enum-told c = search needs
 
--- src/lib.rt:141:9
 rows-at-requires : tie.Need-rows-at-requires
 rows-at-requires c κs = search needs
 
--- src/lib.rt:142:34
 table-at-requires : tie.Need-table-at-requires
 table-at-requires c κs = source-accepted _ _ (accepted (c .before)) .small
 
--- src/lib.rt:142:9
 packed-requires : tie.Need-packed-requires
 packed-requires c κs =
     let told = c .before .before in
     rw (c .before .rows-at .ensures) (told .before .before .before .before .pre .held _ (source-accepted _ _ (accepted told) .small) .few)
 
--- src/lib.rt:143:9
 write-matrix-requires : tie.Need-write-matrix-requires
 write-matrix-requires c κs = search needs
 
--- src/lib.rt:145:31
 enum-known-written : tie.Need-enum-known-written
 enum-known-written c = search needs
 
--- src/lib.rt:146:54
 enum-told-2 : tie.Need-enum-told-2
 enum-told-2 c = search needs
 
--- src/lib.rt:132:1
 same-length : tie.Need-same-length
 same-length c = search needs
 
--- src/lib.rt:132:1
 returns-2 : tie.Need-returns-2
 returns-2 c =
     let m = c .before .before .before .before .before in
@@ -87,11 +76,9 @@ returns-2 c =
     let a = entry .args in
     write-wrote (a .shelf) (a .place) (now (a .out)) (accepted told) _ _ (same m) _ (m .write-matrix .ensures .0) (m .write-matrix .ensures .1) _ (c .before .written .given .1)
 
--- src/lib.rt:132:1
 same-length-2 : tie.Need-same-length-2
 same-length-2 c = search needs
 
--- src/lib.rt:132:1
 returns-3 : tie.Need-returns-3
 returns-3 c =
     let m = c .before .before .before .before in

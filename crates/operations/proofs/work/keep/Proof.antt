@@ -10,22 +10,18 @@ use Rattle.operations.proofs.work.keep.Reads as reads
 use Rattle.operations.proofs.work.keep.Lts as lts
 use Rattle.places.proofs.with_table.Reads as with-table-reads
 
--- src/operations.rt:34:24
 enum-known-answer : tie.Need-enum-known-answer
 enum-known-answer c = search needs
 
--- src/operations.rt:37:24
 with-table-requires : tie.Need-with-table-requires
 with-table-requires c κs =
     let begin = c .before .before .before .before in
     let h = begin .pre .1 _ (c .before .before .answer .given .1) in
     (begin .pre .0, h .0, h .1)
 
--- src/operations.rt:41:26
 enum-known-answer-2 : tie.Need-enum-known-answer-2
 enum-known-answer-2 c = search needs
 
--- src/operations.rt:28:1
 returns : tie.Need-returns
 returns c =
     let known = c .before .before .before in
@@ -35,7 +31,6 @@ returns c =
       c .with-table .ensures .1,
     )
 
--- src/operations.rt:28:1
 returns-2 : tie.Need-returns-2
 returns-2 c =
     let begin = c .before .before .before in

@@ -26,19 +26,15 @@ accepted c = sym (c .before .before .one-source .ensures) ∙ c .enum-told .give
 source-small : (c : tie.After-enum-told) → entry c .args .source < 8
 source-small c = one-accepted (entry c .args .shelf) _ (entry c .args .target) (accepted c) .0 .small
 
--- src/work.rt:104:9
 one-source-requires : tie.Need-one-source-requires
 one-source-requires c κs = search needs
 
--- src/work.rt:105:29
 enum-known-first : tie.Need-enum-known-first
 enum-known-first c = search needs
 
--- src/work.rt:106:9
 refusal-requires : tie.Need-refusal-requires
 refusal-requires c κs = search needs
 
--- src/work.rt:106:9
 returns : tie.Need-returns
 returns c =
     let first = c .before .before in
@@ -49,26 +45,21 @@ returns c =
 enum-told : tie.Need-enum-told
 enum-told c = search needs
 
--- src/work.rt:108:9
 rows-at-requires : tie.Need-rows-at-requires
 rows-at-requires c κs = search needs
 
--- src/work.rt:109:9
 table-at-requires : tie.Need-table-at-requires
 table-at-requires c κs = source-small (c .before)
 
--- src/work.rt:110:12
 of-whole-requires : tie.Need-of-whole-requires
 of-whole-requires c κs =
     let told = c .before .before in
     let a = entry told .args in
     rw (c .before .rows-at .ensures, c .table-at .ensures) (ready-workable (a .target) _ _ (whole-ready (a .shelf) (entry told .pre) (a .which) (a .source) (a .target) (accepted told)))
 
--- src/work.rt:110:5
 ranged-requires : tie.Need-ranged-requires
 ranged-requires c κs = search needs
 
--- src/work.rt:99:1
 returns-2 : tie.Need-returns-2
 returns-2 c =
     let told = c .before .before .before .before in

@@ -23,36 +23,29 @@ accepted c = sym (c .before .before .one-source .ensures) ∙ c .enum-told .give
 source-small : (c : tie.After-enum-told) → entry c .args .source < 8
 source-small c = one-accepted (entry c .args .shelf) _ (entry c .args .target) (accepted c) .0 .small
 
--- src/work.rt:132:9
 one-source-requires : tie.Need-one-source-requires
 one-source-requires c κs = search needs
 
--- src/work.rt:134:42
 enum-told : tie.Need-enum-told
 enum-told c = search needs
 
--- src/work.rt:134:42
 rows-at-requires : tie.Need-rows-at-requires
 rows-at-requires c κs = search needs
 
--- src/work.rt:134:30
 sets-requires : tie.Need-sets-requires
 sets-requires c κs =
     let h = entry (c .before) .pre in
     (rw (c .rows-at .ensures) (h .0 .held _ (source-small (c .before)) .few), h .1, h .2)
 
--- src/work.rt:135:26
 enum-known-first : tie.Need-enum-known-first
 enum-known-first c = search needs
 
--- src/work.rt:128:1
 returns : tie.Need-returns
 returns c =
     let told = c .before .before in
     let a = entry told .args in
     c .sets .ensures ∙ tests-fit (a .shelf) (a .source) (a .rows) (a .columns) (a .target) _ (accepted told) (c .before .rows-at .ensures)
 
--- src/work.rt:128:1
 returns-2 : tie.Need-returns-2
 returns-2 c =
     let first = c .before in

@@ -18,49 +18,38 @@ Inv-loop shelf k₀ k = Seen (soundAt shelf) 512 k
 abbrev μ-loop : tie.MeasureT-loop
 μ-loop shelf k₀ k = 512 - k
 
--- src/check.rt:65:5
 loop-holds : tie.Need-loop-holds Inv-loop μ-loop
 loop-holds c = seen-none _ 512
 
--- src/check.rt:66:17
 element-copy-out-n : tie.Need-element-copy-out-n Inv-loop μ-loop
 element-copy-out-n c = search needs
 
--- src/check.rt:66:17
 cast-n : tie.Need-cast-n Inv-loop μ-loop
 cast-n c = search needs
 
--- src/check.rt:67:17
 mul-a : tie.Need-mul-a Inv-loop μ-loop
 mul-a c = search needs
 
--- src/check.rt:67:17
 element-copy-out-a : tie.Need-element-copy-out-a Inv-loop μ-loop
 element-copy-out-a c = search needs
 
--- src/check.rt:68:13
 sound-requires : tie.Need-sound-requires Inv-loop μ-loop
 sound-requires c κs = search needs
 
--- src/check.rt:69:13
 returns : tie.Need-returns Inv-loop μ-loop
 unfolding soundNumbers rowsAt
 returns c = sym (all-fails _ 512 _ (search needs) (sym (c .before .sound .ensures) ∙ not-true _ (c .if1 .taken)))
 
--- src/check.rt:65:9
 add-k : tie.Need-add-k Inv-loop μ-loop
 add-k c = search needs
 
--- src/check.rt:65:5
 loop-less : tie.Need-loop-less Inv-loop μ-loop
 loop-less c = search needs
 
--- src/check.rt:65:5
 loop-again : tie.Need-loop-again Inv-loop μ-loop
 unfolding rowsAt
 loop-again c = seen-more _ (c .before .before .before .before .before .loop .inv) (search needs) (sym (c .before .sound .ensures) ∙ not-false _ (c .if1 .left))
 
--- src/check.rt:62:1
 returns-2 : tie.Need-returns-2 Inv-loop μ-loop
 unfolding soundNumbers
 returns-2 c = sym (seen-all _ (c .before .loop .inv) (c .loop-test .left))
