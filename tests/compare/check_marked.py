@@ -121,8 +121,13 @@ def console(rng, rounds):
             ("minor 0 1 1", "number 2147483648 -31"), ("minor 0 0 0", "refused 8 at 0"), ("drop 4294967295", "refused 1 at 0"),
             ("transpose 0 2", "bound 0"), ("drop 2", "dropped"), ("submatrix 0 3 3 2", "bound 27"), ("", "bad request"),
             ("load 0", "bad request"), ("load 0 0", "bad request"), ("show  0", "bad request"), ("drop -1", "bad request"),
-            ("minor 0 256 1", "bad request"), ("write 0 513", "bad request"), ("reversals 0,0", "bad request")]
+            ("minor 0 256 1", "bad request"), ("write 0 513", "bad request"), ("reversals 0,0", "bad request"),
+            ("reversals 1,-5,0", "refused 9 at 0"), ("reversals -9223372036854775808,9223372036854775807,0", "refused 9 at 0"),
+            ("carry 0 1 1,9223372036854775807,0", "refused 9 at 0 1,2147483648,0"), ("reversals 1,9223372036854775808,0", "bad request"),
+            ("reversals 1,2147483648,-9223372036854775809", "bad request")]
     for line, wanted in talk:
         same(session.answer(line), wanted)
     same([parse("rest " + "00" * k) is None for k in (2045, 2046)], [False, True])
-    same([doubtful(x) for x in ("show 00", "show 0", "reversals 1,2147483648,-0", "rest 00")], [True, False, True, False])
+    same([parse("reversals" + " 0,0,0" * k) is None for k in (16, 17)], [False, True])
+    same([doubtful(x) for x in ("show 00", "show 0", "reversals 1,2147483648,-0", "rest 00", "show 4294967296", "show -1")],
+         [True, False, True, False, True, False])

@@ -1,3 +1,4 @@
+#!/usr/bin/env python3
 """The console's model: for each request line its answer line, over one shelf. Run by itself it is such a console.
 
 Console.answer: the answer to a line, without its end. parse: the call and its arguments, or None for a bad request.
@@ -13,8 +14,9 @@ LONGEST_LINE = 4096
 MOST_PLACE, MOST_MASK, MOST_LENT, MOST_ITEMS = 2 ** 32 - 1, 255, 512, 16
 LENT_BYTE, LENT_ITEM = "a5", (1, 2 ** 31, 0)
 BAD_REQUEST = "bad request"
-# What is passed on whatever types the calls have, and what no machine type holds.
-SURE_ITEM = ((-128, 127), (0, 2 ** 32 - 1), (-2 ** 15, 2 ** 15 - 1))
+# The calls take an item as three whole numbers of 64 bits with a sign, so these are passed on.
+LEAST, LARGEST = -2 ** 63, 2 ** 63 - 1
+# A place that no machine type holds.
 BEYOND = 10 ** 25
 
 WHOLE = re.compile(r"[0-9]+\Z")
@@ -44,11 +46,10 @@ def data(text):
 
 def item(text):
     parts = text.split(",")
-    if len(parts) != 3 or not all(map(SIGNED.match, parts)) or parts[1].startswith("-"):
+    if len(parts) != 3 or not all(map(SIGNED.match, parts)):
         return None
     numbers = tuple(map(int, parts))
-    ranges = zip(numbers, SURE_ITEM)
-    return None if any(not low <= number <= high for number, (low, high) in ranges) else numbers
+    return numbers if all(LEAST <= number <= LARGEST for number in numbers) else None
 
 
 def items(texts):
@@ -80,17 +81,16 @@ def parse(line):
 
 
 def doubtful(line):
-    """Leading zeros, plus signs, minus zero, and numbers that only some types hold."""
+    """Leading zeros, plus signs, minus zero, and places that only some types hold."""
     call, *texts = line.split(" ")
     form = FORMS.get(call, "")
     for kind, text in zip(form.ljust(len(texts), form[-1:] or "?"), texts):
         if kind == "B":
             continue
-        for part, sure in zip(text.split(","), SURE_ITEM if kind == "I" else [(0, MOST_PLACE)] * 3):
-            if re.match(r"[-+]?0[0-9]|\+|-0", part):
-                return True
-            if SIGNED.match(part) and not sure[0] <= int(part) <= sure[1] and abs(int(part)) < BEYOND:
-                return True
+        if kind == "P" and WHOLE.match(text) and MOST_PLACE < int(text) < BEYOND:
+            return True
+        if any(re.match(r"[-+]?0[0-9]|\+|-0", part) for part in text.split(",")):
+            return True
     return False
 
 

@@ -1,5 +1,5 @@
 #!/usr/bin/env python3
-"""Writes a transcript of the console with the model's answers: frozen.stdin and frozen.stdout.
+"""Writes a transcript of the console with the model's answers: stdin and stdout of crates/tnb_console, which the gate runs.
 
 freeze.py [--seed S] [--count N] [--check]: about N requests, the same for the same seed. It covers every call, each refusal of
 each call, every pair of refusals that a call can meet at once, and each operation in all sizes, or it fails. With --check
@@ -10,11 +10,11 @@ import os
 import random
 import sys
 from collections import Counter
-from itertools import combinations
+from itertools import combinations, product
 
 import sweeps
 from comparison import Tally, batch
-from console_model import Console, call_words, doubtful, parse, text_of_bytes, text_of_items
+from console_model import LARGEST, LEAST, MOST_ITEMS, MOST_PLACE, Console, call_words, doubtful, parse, text_of_bytes, text_of_items
 from encoding import encode
 from garbage import ODD_LINES
 from model import ORDER, conditions
@@ -24,6 +24,7 @@ from sources import far_apart, good_masks, spread_number
 from words import Matrix
 
 HERE = os.path.dirname(os.path.abspath(__file__))
+FOLDER = os.path.join(os.path.dirname(os.path.dirname(HERE)), "crates", "tnb_console")
 OPERATIONS = ("product", "inverse", "converse", "transpose", "submatrix")
 COUNT = 5500
 TWO, THREE = (LOW, -30), (LOW + (1 << 30), -30)
@@ -84,11 +85,26 @@ def sums(maker):
         yield from (f"drop {place}" for place in range(5))
 
 
+def borders():
+    """Places above 7, lists about the longest and about the most that a call takes, numbers of an item at the ends and one beyond."""
+    yield from (f"show {place}" for place in (7, 8, MOST_PLACE))
+    yield load(0, 2, [ONE] * 4)
+    one = (1,) + ONE
+    lists = [[one] * count for count in (8, 9, MOST_ITEMS, MOST_ITEMS + 1)]
+    for place, number in product(range(3), (LEAST - 1, LEAST, -LOW, -1, LARGEST, LARGEST + 1)):
+        lists.append([one, one[:place] + (number,) + one[place + 1:]])
+    for listed in lists:
+        yield f"reversals {text_of_items(listed)}"
+        yield f"carry 0 2 {text_of_items(listed)}"
+    yield "drop 0"
+
+
 def lines(seed, shelf):
     maker = Stream(random.Random(f"frozen {seed}"), shelf)
     yield from marked()
     for part in (tour, limits, sums):
         yield from part(maker)
+    yield from borders()
     yield from sweeps.every_order(maker)
     yield from (line for line in ODD_LINES if not doubtful(line))
     for sweep in (sweeps.every_minor, sweeps.every_length, sweeps.every_cut, sweeps.every_flip, sweeps.every_gap):
@@ -145,8 +161,8 @@ def main():
         tally.count(line, answer)
     print("\n".join(tally.lines()))
     faults = [f"not covered: {case}" for case in missing(asked, wanted, tally)]
-    for name, content in (("frozen.stdin", asked), ("frozen.stdout", wanted)):
-        path, text = os.path.join(HERE, name), "".join(line + "\n" for line in content).encode("latin-1")
+    for name, content in (("stdin", asked), ("stdout", wanted)):
+        path, text = os.path.join(FOLDER, name), "".join(line + "\n" for line in content).encode("latin-1")
         if not chosen.check:
             with open(path, "wb") as file:
                 file.write(text)

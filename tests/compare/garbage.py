@@ -7,7 +7,7 @@ from console_model import doubtful
 SAMPLES = (
     "load 3 01ca0700", "write 0 13", "drop 2", "product 0 1 2", "inverse 0 1", "converse 2 3", "transpose 4 5", "submatrix 0 3 3 1",
     "minor 0 1 1", "carry 0 2 1,2147483648,-31 -1,2147483648,-31", "reversals 1,2147483648,0 0,0,0", "rest 01ca0700ff", "show 0",
-    "carry 1 4", "load 0 -", "rest -",
+    "carry 1 4", "load 0 -", "rest -", "reversals -9223372036854775808,9223372036854775807,-9223372036854775807",
 )
 ODD_LINES = (
     "", " ", "-", "0", "load", "load 0", "load 0 ", "load 0  -", "load 0 0", "load 0 0G", "load 0 CA", "load 0 ca0", "load 0 - -",
@@ -19,8 +19,12 @@ ODD_LINES = (
     "carry 0 2 0,0,0,0", "carry 0 2 0;0;0", "carry 0 2 ,,", "carry 0 2 1,,0", "carry 0 2 0,0,", "carry 0 2 -", "carry 0 2 0,0,0 ",
     "carry 0 2  0,0,0", "carry 0 2 1,-2147483648,0", "carry 0 2 a,0,0", "carry 0 2 1,2147483648,--1", "carry 0 2 1,2147483648,-",
     "reversals ", "reversals -", "reversals 0", "reversals 0,0,0,", "reversals 0,0,0  0,0,0", "show", "show 0 0", "show -1", "show show",
+    "show 8", "show 4294967295", "reversals 1,-5,0", "reversals -1,-2147483648,-31", "reversals 0,-1,0",
+    "carry 0 2 1,9223372036854775807,0", "reversals 9223372036854775808,0,0", "reversals 1,9223372036854775808,0",
+    "reversals 1,2147483648,-9223372036854775809",
     "show " + "9" * 30, "drop " + "1" * 4000, "write 0 " + "8" * 40, "minor 0 " + "1" * 30 + " 1", "quit", "help", "exit 0", "#",
     "bound 11", "refused 1 at 0", "\x00", "show 0\x00", "\xff\xfe", "show \xb2", "sh\xf6w 0", "reversals " + " ".join(["0,0,0"] * 17),
+    "reversals " + " ".join(["0,0,0"] * 16), "carry 0 2 " + " ".join(["1,2147483648,0"] * 16),
     "carry 0 2 " + " ".join(["1,2147483648,0"] * 17), "reversals 1," + "2" * 30 + ",0", "reversals 1,2147483648," + "9" * 30,
     "reversals -" + "9" * 30 + ",2147483648,0", "load 99 " + "00" * 2044, "load 9 " + "00" * 2045, "rest " + "01" * 2045, "rest " + "01" * 2046,
     "x" * 4096, "x" * 4097, "y" * 9000, "show 0" + " " * 4090, "show 0" + " " * 4091, "load 0 " + "ff" * 4000,

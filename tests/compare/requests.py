@@ -10,7 +10,7 @@ from console_model import text_of_bytes, text_of_items
 from encoding import encode, rest
 from garbage import garbled
 from model import ONE_SOURCE, PLACES
-from sources import aimed, bad_item, faulty, good_masks, listed, masks, matrix, overflowing, random_item
+from sources import aimed, faulty, good_masks, listed, masks, matrix, odd_item, overflowing, random_item
 
 SIZE_WEIGHTS = (12, 20, 20, 16, 11, 8, 6, 6)
 # How readily a matrix of each size is taken for an operation: large ones cost the model a twentieth of a second.
@@ -158,7 +158,7 @@ class Stream:
             if style < 0.08:
                 items = items[:-1] if rng.random() < 0.5 else items + [random_item(rng)] * rng.randint(1, 16 - len(items))
             elif style < 0.16:
-                items[rng.randrange(len(items))] = bad_item(rng)
+                items[rng.randrange(len(items))] = odd_item(rng)
             elif style < 0.24:
                 items = overflowing(rng, source)
             named = place if rng.random() < 0.95 else self.any_place()
@@ -173,7 +173,7 @@ class Stream:
         length = rng.randint(1, 8) if rng.random() < 0.9 else rng.randint(9, 16)
         items = [random_item(rng) for _ in range(length)]
         if rng.random() < 0.2:
-            items[rng.randrange(length)] = bad_item(rng)
+            items[rng.randrange(length)] = odd_item(rng)
         yield f"reversals {text_of_items(items)}"
 
     def bytes_judged(self, data):

@@ -1,7 +1,8 @@
 """Random matter for requests: numbers, matrices, lists of items, encodings with faults, row sets.
 
 matrix: one of the kinds in KINDS. aimed: sources whose result lies at the edge of the stored exponents. listed: items for a
-carry, with zeros and cancellation. faulty: bytes of a matrix with one fault or two. masks: good and bad sets.
+carry, with zeros and cancellation. odd_item: an item that is refused. faulty: bytes of a matrix with one fault or two. masks:
+good and bad sets.
 """
 from fractions import Fraction
 
@@ -10,6 +11,7 @@ from number import HIGH, ITEM_ZERO, LOW, divide, round_fraction, signed_add, sig
 from words import Matrix, interval, operate, rows_of, word
 
 EDGE = 1000
+TOO_LARGE = 2 ** 63
 NEVER_SHORTEST = ("80808080808080", "ffffffffff", "8080808080", "ffffffff1f", "8080808010", "ffffffff7f", "8080808000", "81808000")
 
 
@@ -176,8 +178,24 @@ def random_item(rng):
 def bad_item(rng):
     """An item not of the stated form, in a form that the console passes on."""
     m, e = spread_number(rng, 20)
+    limit = rng.choice((TOO_LARGE - 1, -TOO_LARGE))
+    narrowed = ((257, m, e), (2 ** 32 - 1, m, e), (1, m + 2 ** 32, e), (-1, m - 2 ** 32, e), (1, m, e + 2 ** 16), (-1, m, e - 2 ** 32))
     return rng.choice(((2, m, e), (-2, m, e), (127, m, e), (-128, m, e), (0, m, e), (0, 0, e), (0, m, 0), (1, 0, 0), (-1, 0, e),
-                       (1, LOW - 1, e), (1, rng.randrange(LOW), e), (-1, m, 1001), (1, m, -1001), (1, m, 32767), (-1, m, -32768)))
+                       (1, LOW - 1, e), (1, rng.randrange(LOW), e), (-1, m, 1001), (1, m, -1001), (1, m, 32767), (-1, m, -32768),
+                       (1, -m, e), (-1, -m, e), (1, -rng.randrange(1, LOW), e), (0, -m, 0),
+                       (limit, m, e), (1, limit, e), (-1, m, limit)) + narrowed)
+
+
+def beyond_item(rng):
+    """An item with a number that the console does not pass on: the nearest such, or a good one when cut to 64 bits."""
+    item = [rng.choice((-1, 1)), *spread_number(rng, 20)]
+    place = rng.randrange(3)
+    item[place] = rng.choice((TOO_LARGE, -TOO_LARGE - 1, item[place] + 2 * TOO_LARGE, item[place] - 2 * TOO_LARGE))
+    return tuple(item)
+
+
+def odd_item(rng):
+    return bad_item(rng) if rng.random() < 0.8 else beyond_item(rng)
 
 
 def tokens(source):

@@ -10,10 +10,6 @@ use shelf::Valued;
 use shelf::Verdict;
 use shelf::Written;
 
-pub fn put_index(out: &mut [u8], at: usize, n: usize) -> usize {
-    lines::put_whole(out, at, n as u64)
-}
-
 // A call that only changes the shelf: `done` where it was accepted.
 pub fn put_verdict(out: &mut [u8], at: usize, verdict: Verdict, done: &[u8]) -> usize {
     match verdict {
@@ -36,7 +32,7 @@ fn put_written(out: &mut [u8], at: usize, answer: Written) -> usize {
     match answer {
         Written::Length(n) => {
             let length = lines::put(out, at, b"wrote ");
-            put_index(out, length, n)
+            lines::put_whole(out, length, n as u64)
         }
         Written::Refused(why) => answers::put_refusal(out, at, why),
     }
@@ -172,7 +168,7 @@ fn put_matrix(out: &mut [u8], at: usize, shelf: Shelf, place: usize) -> usize
         return lines::put(out, at, b"empty");
     }
     let number = lines::put(out, at, b"matrix ");
-    let first = put_index(out, number, n);
+    let first = lines::put_whole(out, number, n as u64);
     put_factors(out, first, shelf, place, n)
 }
 

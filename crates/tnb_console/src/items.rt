@@ -1,11 +1,7 @@
 // List items, three numbers each: read from words of a line as `sign,mantissa,exponent`, and put as such.
 ghost use Prim.Native.Nat.{_-_, _≤_, _^_};
 use lines::Signed;
-use lines::Whole;
 use lists::whole;
-
-// A mantissa is passed on as a number of 64 bits with a sign.
-const LARGEST: u64 = 0x7fff_ffff_ffff_ffff;
 
 const MOST: usize = 16;
 
@@ -38,7 +34,7 @@ fn negative(size: u64) -> i64
     whole::minus(size)
 }
 
-// Reads a number with a sign, and puts it at an index of the list.
+// Reads a number of 64 bits with a sign, and puts it at an index of the list.
 fn read_signed(s: &[u8], list: &mut [i64], at: usize) -> bool {
     let read = lines::read_signed(s);
     match read {
@@ -48,16 +44,7 @@ fn read_signed(s: &[u8], list: &mut [i64], at: usize) -> bool {
     }
 }
 
-// The same of a number without one.
-fn read_whole(s: &[u8], list: &mut [i64], at: usize) -> bool {
-    let read = lines::read_whole(s, LARGEST);
-    match read {
-        Whole::Value(n) => store(list, at, positive(n)),
-        Whole::Malformed => false,
-    }
-}
-
-// Reads an item, and puts its three numbers from an index of the list on.
+// Reads an item, and puts its three numbers from an index of the list on. The call judges them: a negative mantissa is passed on too.
 fn read_item(word: &[u8], list: &mut [i64], at: usize) -> bool {
     let a = lines::before(word, b',');
     if word.len() <= a {
@@ -74,7 +61,7 @@ fn read_item(word: &[u8], list: &mut [i64], at: usize) -> bool {
     if !read_signed(&word[0..a], list, at) {
         return false;
     }
-    if !read_whole(&rest[0..b], list, at + 1) {
+    if !read_signed(&rest[0..b], list, at + 1) {
         return false;
     }
     read_signed(&rest[b + 1..], list, at + 2)

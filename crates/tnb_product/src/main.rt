@@ -84,15 +84,11 @@ fn load_file(shelf: Shelf, place: usize, path: &[u8]) -> Changed
     load_by(shelf, place, path, &mut buffer)
 }
 
-fn put_index(out: &mut [u8], at: usize, n: usize) -> usize {
-    lines::put_whole(out, at, n as u64)
-}
-
 // The line of a factor.
 fn put_factor(out: &mut [u8], at: usize, row: usize, column: usize, factor: Factor) -> usize {
-    let first = put_index(out, at, row);
+    let first = lines::put_whole(out, at, row as u64);
     let second = lines::put(out, first, b" ");
-    let third = put_index(out, second, column);
+    let third = lines::put_whole(out, second, column as u64);
     let fourth = lines::put(out, third, b" ");
     let end = answers::put_number(out, fourth, factor.mantissa, factor.exponent);
     lines::put(out, end, b"\n")
@@ -134,7 +130,7 @@ fn put_result(out: &mut [u8], shelf: Shelf) -> usize
     requires { ⌜ Good shelf ⌝ }
 {
     let n = shelf::rows_at(shelf, 2);
-    let end = put_index(out, 0, n);
+    let end = lines::put_whole(out, 0, n as u64);
     let next = lines::put(out, end, b"\n");
     put_factors(out, next, shelf, n)
 }
