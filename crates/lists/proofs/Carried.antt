@@ -22,7 +22,7 @@ use Rattle.words.proofs.Counts.{total-append}
 use Rattle.words.proofs.Related.{letterCost}
 use Rattle.words.proofs.Walks.{All, all-behind}
 use Rattle.lists.specs.Lists.{vectorOf}
-use Rattle.lists.specs.Carrying.{Agree, Carries, Working, letterReach, workingReach}
+use Rattle.lists.specs.Carrying.{Agree, Carries, Working, carryReach, workingReach}
 use Rattle.lists.proofs.LetterReach.{StoredLetter, reachOf, carry-reach}
 use Rattle.lists.proofs.Vectors.{vector-here, vector-other}
 
@@ -68,7 +68,7 @@ module _ (n : ℕ) (X : Word Signed) (s : All (StoredLetter n) X) where
 
   pub carries-working : (t r : ℕ) {v u : List Signed} → r + reachOf X ≤ workingReach → Working r n v → Carries n (drop t X) v u → Working (r + reachOf X) n u
   carries-working t r {v} {u} far w c =
-      let e : reachOf X ≡ reachOf (take t X) + reachOf (drop t X) = ap reachOf (sym (take-append-drop t X)) ∙ total-append (letterCost letterReach letterReach) (take t X) (drop t X) in
+      let e : reachOf X ≡ reachOf (take t X) + reachOf (drop t X) = ap reachOf (sym (take-append-drop t X)) ∙ total-append (letterCost carryReach carryReach) (take t X) (drop t X) in
       record {
         eight = c .eight;
         ranged = λ i p. subst (SignedRanged (r + reachOf X)) (sym (c .agrees i p))

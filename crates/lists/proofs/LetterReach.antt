@@ -23,13 +23,13 @@ use Rattle.words.proofs.Stages.{word-all}
 use Rattle.words.specs.Sources.{Each}
 use Rattle.words.proofs.Walks.{All}
 use Rattle.lists.specs.Lists.{signedWord, carried}
-use Rattle.lists.specs.Carrying.{letterReach, workingReach}
+use Rattle.lists.specs.Carrying.{carryReach, workingReach}
 
 module _ {r : ℕ} {y w : Signed} (far : r ≤ workingReach) (v : SignedRanged r y) (s : SignedRanged 1000 w) where
   pub product-reach : SignedRanged (r + 1033) (signedProduct y w)
   product-reach = signed-ranged-more (omega arith) (signed-ranged-product v s (omega arith))
 
-  pub added-reach : {x : Signed} → SignedRanged r x → SignedRanged (r + letterReach) (signedSum x (signedProduct y w))
+  pub added-reach : {x : Signed} → SignedRanged r x → SignedRanged (r + carryReach) (signedSum x (signedProduct y w))
   added-reach u = signed-ranged-more (omega arith) (signed-ranged-sum (signed-ranged-more (omega arith) u) product-reach (omega arith))
 
 -- a letter of n rows whose numbers are stored ones
@@ -43,14 +43,14 @@ abbrev pub Within : ℕ → ℕ → (ℕ → Signed) → Type 0
 Within r n v = (i : ℕ) → In n i → SignedRanged r (v i)
 
 module _ (n r : ℕ) (far : r ≤ workingReach) (v : ℕ → Signed) (h : Within r n v) where
-  moved-reach : (a o : ℕ) (w : Signed) → In n o → SignedRanged 1000 w → Within (r + letterReach) n (λ i. cond (eqb i a) (signedSum (v i) (signedProduct w (v o))) (v i))
+  moved-reach : (a o : ℕ) (w : Signed) → In n o → SignedRanged 1000 w → Within (r + carryReach) n (λ i. cond (eqb i a) (signedSum (v i) (signedProduct w (v o))) (v i))
   moved-reach a o w p s i l = go (eqb i a)
     where
-      go : (t : Bool) → SignedRanged (r + letterReach) (cond t (signedSum (v i) (signedProduct w (v o))) (v i))
-      go true = subst (λ z. SignedRanged (r + letterReach) (signedSum (v i) z)) (signed-product-comm (v o) w) (added-reach far (h o p) s (h i l))
+      go : (t : Bool) → SignedRanged (r + carryReach) (cond t (signedSum (v i) (signedProduct w (v o))) (v i))
+      go true = subst (λ z. SignedRanged (r + carryReach) (signedSum (v i) z)) (signed-product-comm (v o) w) (added-reach far (h o p) s (h i l))
       go false = signed-ranged-more (omega arith) (h i l)
 
-  letter-reach : (l : Letter Signed) → StoredLetter n l → Within (r + letterReach) n (carryLetter signedArithmetic l v)
+  letter-reach : (l : Letter Signed) → StoredLetter n l → Within (r + carryReach) n (carryLetter signedArithmetic l v)
   unfolding carryLetter
   letter-reach (E j w) s = moved-reach j (j - 1) w (omega (arith, s .0), omega (arith, s .1)) (s .2)
   letter-reach (Et j w) s = moved-reach (j - 1) j w (omega (arith, s .0), s .1) (s .2)
@@ -59,7 +59,7 @@ module _ (n r : ℕ) (far : r ≤ workingReach) (v : ℕ → Signed) (h : Within
 
 -- how far the letters of a word go
 abbrev pub reachOf : Word Signed → ℕ
-reachOf W = total (letterCost letterReach letterReach) W
+reachOf W = total (letterCost carryReach carryReach) W
 
 pub carry-reach : (n r : ℕ) (v : ℕ → Signed) → Within r n v → (W : Word Signed) → All (StoredLetter n) W → r + reachOf W ≤ workingReach → Within (r + reachOf W) n (carry signedArithmetic W v)
 unfolding carry total
@@ -67,7 +67,7 @@ carry-reach n r v h [] s far i l = signed-ranged-more (omega arith) (h i l)
 carry-reach n r v h (x ∷ W) s far i l =
     signed-ranged-more (cost x) (letter-reach n (r + reachOf W) (omega arith) (carry signedArithmetic W v) (carry-reach n r v h W (s .1) (omega arith)) x (s .0) i l)
   where
-    cost : (x : Letter Signed) → r + reachOf W + letterReach ≤ r + (letterCost letterReach letterReach x + reachOf W)
+    cost : (x : Letter Signed) → r + reachOf W + carryReach ≤ r + (letterCost carryReach carryReach x + reachOf W)
     cost (E j w) = omega arith
     cost (Et j w) = omega arith
     cost (D e) = omega arith
@@ -83,9 +83,9 @@ module _ (n : ℕ) (b : Factors Number) where
       stored : (i j : ℕ) → In n i → In n j → SignedRanged 1000 (plain (b i j))
       stored i j p q = signed-ranged-plain (ranged-stored (s i j p q))
 
-  pub word-reach : 1 ≤ n → n ≤ 8 → reachOf (signedWord n b) ≤ 64 * letterReach
+  pub word-reach : 1 ≤ n → n ≤ 8 → reachOf (signedWord n b) ≤ 64 * carryReach
   word-reach low high =
-      let cost : reachOf (signedWord n b) ≡ letterReach * (n * n - n) + letterReach = word-cost letterReach letterReach n (λ i j. plain (b i j)) low in
+      let cost : reachOf (signedWord n b) ≡ carryReach * (n * n - n) + carryReach = word-cost carryReach carryReach n (λ i j. plain (b i j)) low in
       let few : n * n ≤ 8 * 8 = mul-le-mul high high in
       omega arith
 

@@ -37,8 +37,8 @@ pub record Working (r n : ℕ) (v : List Signed) : Type 0 where
   pub ranged : (i : ℕ) → In n i → SignedRanged r (vectorOf v i)
 
 -- a letter takes exponents at most that far: a product by a stored number 1033, and a sum 31
-abbrev pub letterReach : ℕ
-letterReach = 1064
+abbrev pub carryReach : ℕ
+carryReach = 1064
 
 -- the letters of eight rows, fewer than 64, stay below that
 abbrev pub workingReach : ℕ

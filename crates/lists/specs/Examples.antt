@@ -15,22 +15,22 @@ plusOne = pos 1 ∷ pos (2 ^ 31) ∷ negsuc 30 ∷ []
 abbrev pub minusOne : List ℤ
 minusOne = negsuc 0 ∷ pos (2 ^ 31) ∷ negsuc 30 ∷ []
 
-abbrev pub nothing : List ℤ
-nothing = pos 0 ∷ pos 0 ∷ pos 0 ∷ []
+abbrev pub zeroItem : List ℤ
+zeroItem = pos 0 ∷ pos 0 ∷ pos 0 ∷ []
 
 -- a lent output of six numbers and one more
 abbrev pub lent : List ℤ
-lent = nothing ++ nothing ++ (pos 7 ∷ [])
+lent = zeroItem ++ zeroItem ++ (pos 7 ∷ [])
 
 unfoldable pub listTable : List Row
 listTable =
-    row (carryOf 2 ones (plusOne ++ minusOne) lent) (record { answer = Done; out = nothing ++ minusOne ++ (pos 7 ∷ []) })  -- P12: 1, -1 is carried to 0, -1
-    ∷ row (carryOf 2 ones (plusOne ++ minusOne) nothing) (record { answer = Refused 10; out = nothing })  -- room for one item
+    row (carryOf 2 ones (plusOne ++ minusOne) lent) (record { answer = Done; out = zeroItem ++ minusOne ++ (pos 7 ∷ []) })  -- P12: 1, -1 is carried to 0, -1
+    ∷ row (carryOf 2 ones (plusOne ++ minusOne) zeroItem) (record { answer = Refused 10; out = zeroItem })  -- room for one item
     ∷ row (carryOf 2 ones plusOne lent) (record { answer = Refused 9; out = lent })  -- one item for two rows
-    ∷ row (carryOf 1 ones (negsuc 0 ∷ nothing) lent) (record { answer = Refused 9; out = lent })  -- four numbers
+    ∷ row (carryOf 1 ones (negsuc 0 ∷ zeroItem) lent) (record { answer = Refused 9; out = lent })  -- four numbers
     ∷ row (carryOf 1 ones (negsuc 0 ∷ pos 0 ∷ pos 0 ∷ []) lent) (record { answer = Refused 9; out = lent })  -- a negative zero
     ∷ row (carryOf 1 (λ i j. up (2 ^ 31) 1000) (pos 1 ∷ pos (2 ^ 31) ∷ pos 0 ∷ []) []) (record { answer = Refused 14; out = [] })  -- carried to exponent 1031, with no room either
     ∷ row (reversalsOf (plusOne ++ minusOne ++ plusOne)) (counted.Reversals 2)
-    ∷ row (reversalsOf (plusOne ++ nothing ++ minusOne)) (counted.Reversals 0)  -- neighbours only
+    ∷ row (reversalsOf (plusOne ++ zeroItem ++ minusOne)) (counted.Reversals 0)  -- neighbours only
     ∷ row (reversalsOf []) (counted.Refused 9)
     ∷ []

@@ -3,7 +3,6 @@
 ghost use mathlib.Core.Path.{_≡_};
 ghost use mathlib.Core.Bool.{false};
 ghost use Prim.Native.Nat.{_+_, _-_, _*_, _^_, _≤_, _<_};
-ghost use lib.Dec.{eqb};
 ghost use Rattle.number.specs.Number.{zeroNumber, oneNumber, carried, round, sumOf, productOf, quotientOf, Ranged, reach, inRange};
 ghost use Rattle.number.specs.Signed.{below, differenceOf};
 
@@ -139,12 +138,6 @@ impl Number {
             m: 0x8000_0000,
             x: BIAS - 31,
         }
-    }
-
-    pub fn is_zero(self) -> bool
-        ensures { λ r. ⌜ r ≡ eqb (self .m) 0 ⌝ }
-    {
-        self.m == 0
     }
 
     // Whether the exponent may be stored: from -1000 to 1000.

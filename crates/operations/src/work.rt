@@ -17,7 +17,7 @@ use places::tables;
 use rule::Refactored;
 use rule::Whole;
 
-// No result.
+// What is proposed where a call is turned down: no rows.
 fn refusal(why: Refusal) -> Proposed
     ensures { λ r. ⌜ r ≡ refusal why ⌝ }
 {

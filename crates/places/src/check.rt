@@ -9,7 +9,7 @@ use number::Number;
 // The exponent 0.
 const BIAS: u64 = 4194304;
 
-// A stored number.
+// A mantissa of 32 bits, and an exponent from -1000 to 1000.
 fn stored(a: Number) -> bool
     ensures { λ r. ⌜ r ≡ isStored a ⌝ }
 {
@@ -22,7 +22,7 @@ fn stored(a: Number) -> bool
     a.in_range()
 }
 
-// Zero.
+// Zero has mantissa 0 at exponent 0.
 fn zero(a: Number) -> bool
     ensures { λ r. ⌜ r ≡ isZero a ⌝ }
 {
@@ -72,7 +72,7 @@ fn sound_numbers(shelf: Shelf) -> bool
     true
 }
 
-// Both.
+// A good shelf: its sizes and its numbers are.
 pub fn is_good(shelf: Shelf) -> bool
     ensures { λ r. ⌜ r ≡ isGood shelf ⌝ }
     ensures { λ r. ⌜ (r ≡ true → Good shelf) ⌝ }

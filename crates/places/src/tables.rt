@@ -33,7 +33,7 @@ fn cell(numbers: [Number; 64], n: usize, k: usize) -> Number
     numbers[i * n + j]
 }
 
-// That table.
+// The table of such a matrix.
 pub fn spread(numbers: [Number; 64], n: usize) -> [Number; 64]
     requires { ⌜ n ≤ 8 ⌝ }
     ensures { λ r. ⌜ r ≡ tableOf n (squareOf n numbers) ⌝ }

@@ -62,8 +62,8 @@ unfoldable pub bytesAfter : Shelf → ℕ → List ℕ → List ℕ
 bytesAfter s p out = after (firstOf (writeTests s p out)) out (sets out 0 (bytesAt s p))
 
 -- A FACTOR of a place; zero, with mantissa and exponent 0, where the place holds none
-abbrev pub factorOr0 : Shelf → ℕ → ℕ → ℕ → Number
-factorOr0 s p i j = cond ((leb 1 i && leb 1 j) && (leb i (rowsAt s p) && leb j (rowsAt s p))) (factorsAt s p i j) zeroNumber
+abbrev pub factorOrZero : Shelf → ℕ → ℕ → ℕ → Number
+factorOrZero s p i j = cond ((leb 1 i && leb 1 j) && (leb i (rowsAt s p) && leb j (rowsAt s p))) (factorsAt s p i j) zeroNumber
 
 unfoldable pub factorCall : Shelf → ℕ → ℕ → ℕ → Factor
-factorCall s p i j = record { mantissa = factorOr0 s p i j .m; exponent = exponentOf (factorOr0 s p i j) }
+factorCall s p i j = record { mantissa = factorOrZero s p i j .m; exponent = exponentOf (factorOrZero s p i j) }

@@ -1,5 +1,5 @@
 -- The letters of the words of n rows by their numbers, as the code finds them: one computed test each over all n up to 8 and all letters.
--- The factor of a letter and of its fellow in the other half (cell-right), the ways by the plain word (inverse-move, converse-move, transpose-move), and rows and places (move-within).
+-- What letter t is (letter-diagonal, letter-move), the letters of a way by those of the plain word (move-by), and their rows and places (move-within).
 use mathlib.Core.Path.{_≡_, refl, sym, ap, ap₂, _∙_, subst}
 use mathlib.Core.Bool.{Bool, true, false, not, _&&_, _||_}
 use mathlib.Core.List.{List, [], _∷_, _++_}

@@ -60,7 +60,7 @@ pub struct Cell {
     pub column: usize,
 }
 
-// The factor of letter t of the first half, E_row; its fellow in the second half, Et_row, has that of `column` and `row`.
+// The factor of letter t of the first half, E_row; its counterpart in the second half, Et_row, has that of `column` and `row`.
 fn cell_at(n: usize, t: usize) -> Cell
     requires { ⌜ (1 ≤ n) × (n ≤ 8) × (t < middle n) ⌝ }
     ensures { λ r. ⌜ CellAt n t r ⌝ }

@@ -28,15 +28,12 @@ plain c = toZ-pos w64 (omega (arith, c .pre))
 fits : (c : tie.Start) → SFits w64 (toZ w64 (c .args .x) -ℤ pos bias)
 fits c = rw (plain c) (less-fits _ (c .pre))
 
--- src/value.rt:23:5
 cast-result : tie.Need-cast-result
 cast-result c = search needs
 
--- src/value.rt:23:5
 sub-result : tie.Need-sub-result
 sub-result c = fits c
 
--- src/value.rt:19:1
 returns : tie.Need-returns
 returns c = toZ-ofZ (fits c) ∙ ap (λ (z : ℤ). z -ℤ pos bias) (plain c)
 

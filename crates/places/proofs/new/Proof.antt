@@ -17,11 +17,9 @@ use Rattle.number.proofs.Number.zero.Reads as zero-reads
 abbrev filled : Number → Shelf
 filled z = record { numbers = replicate 512 z; sizes = replicate 8 0 }
 
--- src/lib.rt:65:9
 zero-requires : tie.Need-zero-requires
 zero-requires c κs = search needs
 
--- src/lib.rt:61:1
 returns : tie.Need-returns
 unfolding emptyShelf
 returns c =

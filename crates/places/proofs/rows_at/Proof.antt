@@ -8,7 +8,6 @@ use Rattle.places.proofs.rows_at.Tie as tie
 use Rattle.places.proofs.rows_at.Reads as reads
 use Rattle.places.proofs.rows_at.Lts as lts
 
--- src/lib.rt:49:9
 returns : tie.Need-returns
 unfolding rowsAt
 returns c =
@@ -16,15 +15,12 @@ returns c =
     let l : length (a .t1 .sizes) ≡ 8 = search needs in
     sym (List·getD-eq-default (a .t1 .sizes) 0 (omega (arith, c .if1 .taken)))
 
--- src/lib.rt:51:5
 element-copy-out-result : tie.Need-element-copy-out-result
 element-copy-out-result c = search needs
 
--- src/lib.rt:51:5
 cast-result : tie.Need-cast-result
 cast-result c = search needs
 
--- src/lib.rt:45:1
 returns-2 : tie.Need-returns-2
 unfolding rowsAt
 returns-2 c = search needs

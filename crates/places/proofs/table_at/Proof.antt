@@ -18,51 +18,39 @@ Inv-loop place shelf t₀ k₀ t k = Filled absent (λ i. getD (shelf .numbers) 
 abbrev μ-loop : tie.MeasureT-loop
 μ-loop place shelf t₀ k₀ t k = 64 - k
 
--- src/places.rt:21:9
 zero-requires : tie.Need-zero-requires Inv-loop μ-loop
 zero-requires c κs = search needs
 
--- src/places.rt:23:5
 loop-holds : tie.Need-loop-holds Inv-loop μ-loop
 loop-holds c = filled-none absent _ 64 _ refl
 
--- src/places.rt:24:18
 mul-at : tie.Need-mul-at Inv-loop μ-loop
 mul-at c = search needs
 
--- src/places.rt:24:18
 add-at : tie.Need-add-at Inv-loop μ-loop
 add-at c = search needs
 
--- src/places.rt:25:16
 mul-t : tie.Need-mul-t Inv-loop μ-loop
 mul-t c = search needs
 
--- src/places.rt:25:16
 element-copy-out-t : tie.Need-element-copy-out-t Inv-loop μ-loop
 element-copy-out-t c = search needs
 
--- src/places.rt:25:9
 mul-t-2 : tie.Need-mul-t-2 Inv-loop μ-loop
 mul-t-2 c = search needs
 
--- src/places.rt:25:9
 array-set-from-t : tie.Need-array-set-from-t Inv-loop μ-loop
 array-set-from-t c = search needs
 
--- src/places.rt:23:9
 add-k : tie.Need-add-k Inv-loop μ-loop
 add-k c = search needs
 
--- src/places.rt:23:5
 loop-less : tie.Need-loop-less Inv-loop μ-loop
 loop-less c = search needs
 
--- src/places.rt:23:5
 loop-again : tie.Need-loop-again Inv-loop μ-loop
 loop-again c = filled-more absent _ 64 (c .before .before .loop .inv) (c .before .loop-test .taken) _ refl
 
--- src/places.rt:17:1
 returns : tie.Need-returns Inv-loop μ-loop
 returns c = table-read _ _ (c .before .before .before .pre) (search (needs, length-mapped)) (c .before .loop .inv) (c .loop-test .left)
 

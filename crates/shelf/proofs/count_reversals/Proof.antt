@@ -8,28 +8,22 @@ use Rattle.shelf.proofs.count_reversals.Reads as reads
 use Rattle.shelf.proofs.count_reversals.Lts as lts
 use Rattle.lists.proofs.reversals.Reads as reversals-reads
 
--- src/lib.rt:143:9
 reversals-requires : tie.Need-reversals-requires
 reversals-requires c κs = search needs
 
--- src/lib.rt:145:35
 enum-known-answer : tie.Need-enum-known-answer
 enum-known-answer c = search needs
 
--- src/lib.rt:146:33
 enum-known-answer-2 : tie.Need-enum-known-answer-2
 enum-known-answer-2 c = search needs
 
--- src/lib.rt:147:21
 cast-t6 : tie.Need-cast-t6
 cast-t6 c = record { fits = reversals-number _ _ (sym (c .before .before .before .reversals .ensures) ∙ c .before .answer2 .given .1) }
 
--- src/lib.rt:140:1
 returns : tie.Need-returns
 unfolding reversalsCall
 returns c = ap countedOf (sym (c .before .answer .given .1) ∙ c .before .before .before .reversals .ensures)
 
--- src/lib.rt:140:1
 returns-2 : tie.Need-returns-2
 unfolding reversalsCall
 returns-2 c = ap countedOf (sym (c .before .answer2 .given .1) ∙ c .before .before .before .reversals .ensures)

@@ -25,7 +25,6 @@ accepted c = sym (c .before .before .source .ensures) ∙ c .enum-told .given .1
 small : (c : tie.After-enum-told) → c .before .before .before .args .place < 8
 small c = source-accepted _ _ (accepted c) .small
 
--- src/lib.rt:121:9
 =======
 >>>>>>> 598c3111e09553dea5d9a62d1578fd1760698023
 source-requires : tie.Need-source-requires

@@ -12,27 +12,21 @@ use Rattle.shelf.proofs.load.Reads as load-reads
 use Rattle.tnb_c.proofs.answers.changed.Reads as changed-reads
 use Rattle.tnb_c.proofs.answers.foreign.Reads as foreign-reads
 
--- src/lib.rt:141:8
 is-good-requires : tie.Need-is-good-requires
 is-good-requires c κs = search needs
 
--- src/lib.rt:142:24
 load-requires : tie.Need-load-requires
 load-requires c κs = c .before .is-good .ensures .1 (c .if1 .taken)
 
--- src/lib.rt:142:9
 changed-requires : tie.Need-changed-requires
 changed-requires c κs = search needs
 
--- src/lib.rt:142:9
 returns : tie.Need-returns
 returns c = answered _ (c .before .before .before .is-good .ensures .0) _ _ (c .before .before .if1 .taken) (c .changed .ensures ∙ ap ofChanged (c .before .load .ensures .0))
 
--- src/lib.rt:144:5
 foreign-requires : tie.Need-foreign-requires
 foreign-requires c κs = search needs
 
--- src/lib.rt:137:1
 returns-2 : tie.Need-returns-2
 returns-2 c = turned-away _ (c .before .before .is-good .ensures .0) _ _ (c .before .if1 .left) (c .foreign .ensures)
 

@@ -11,23 +11,18 @@ use Rattle.places.proofs.check.is_good.Reads as is-good-reads
 use Rattle.operations.proofs.minor.Reads as minor-reads
 use Rattle.tnb_c.proofs.answers.valued.Reads as valued-reads
 
--- src/lib.rt:190:8
 is-good-requires : tie.Need-is-good-requires
 is-good-requires c κs = search needs
 
--- src/lib.rt:191:23
 minor-requires : tie.Need-minor-requires
 minor-requires c κs = c .before .is-good .ensures .1 (c .if1 .taken)
 
--- src/lib.rt:191:9
 valued-requires : tie.Need-valued-requires
 valued-requires c κs = search needs
 
--- src/lib.rt:191:9
 returns : tie.Need-returns
 returns c = answered _ (c .before .before .before .is-good .ensures .0) _ _ (c .before .before .if1 .taken) (c .valued .ensures ∙ ap ofValued (c .before .minor .ensures))
 
--- src/lib.rt:186:1
 returns-2 : tie.Need-returns-2
 returns-2 c = turned-away _ (c .before .is-good .ensures .0) _ _ (c .if1 .left) refl
 

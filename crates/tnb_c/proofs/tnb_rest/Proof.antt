@@ -8,11 +8,9 @@ use Rattle.tnb_c.proofs.tnb_rest.Reads as reads
 use Rattle.tnb_c.proofs.tnb_rest.Lts as lts
 use Rattle.reader.proofs.behind.Reads as behind-reads
 
--- src/lib.rt:206:9
 behind-requires : tie.Need-behind-requires
 behind-requires c κs = search needs
 
--- src/lib.rt:202:1
 returns : tie.Need-returns
 returns c = ap length (c .behind .ensures)
 

@@ -9,15 +9,12 @@ use Rattle.tnb_c.proofs.tnb_reversals.Lts as lts
 use Rattle.shelf.proofs.count_reversals.Reads as count-reversals-reads
 use Rattle.tnb_c.proofs.answers.counted.Reads as counted-reads
 
--- src/lib.rt:164:22
 count-reversals-requires : tie.Need-count-reversals-requires
 count-reversals-requires c κs = search needs
 
--- src/lib.rt:164:5
 counted-requires : tie.Need-counted-requires
 counted-requires c κs = search needs
 
--- src/lib.rt:160:1
 returns : tie.Need-returns
 returns c = c .counted .ensures ∙ ap ofCounted (c .before .count-reversals .ensures)
 

@@ -11,23 +11,18 @@ use Rattle.places.proofs.check.is_good.Reads as is-good-reads
 use Rattle.shelf.proofs.write.Reads as write-reads
 use Rattle.tnb_c.proofs.answers.written.Reads as written-reads
 
--- src/lib.rt:164:8
 is-good-requires : tie.Need-is-good-requires
 is-good-requires c κs = search needs
 
--- src/lib.rt:165:24
 write-requires : tie.Need-write-requires
 write-requires c κs = c .before .before .is-good .ensures .1 (c .before .if1 .taken)
 
--- src/lib.rt:165:9
 written-requires : tie.Need-written-requires
 written-requires c κs = search needs
 
--- src/lib.rt:165:9
 same-length : tie.Need-same-length
 same-length c = search needs
 
--- src/lib.rt:165:9
 returns : tie.Need-returns
 returns c =
     let wrote = c .before .before .before in
@@ -35,7 +30,6 @@ returns c =
     let good = wrote .before .before .if1 .taken in
     (answered _ tested _ _ good (c .written .ensures ∙ ap ofWritten (wrote .write .ensures .0)), answered _ tested _ _ good (wrote .write .ensures .1))
 
--- src/lib.rt:159:1
 returns-2 : tie.Need-returns-2
 returns-2 c =
     let tested = c .before .is-good .ensures .0 in

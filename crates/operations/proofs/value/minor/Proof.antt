@@ -6,11 +6,9 @@ use Rattle.operations.proofs.value.minor.Reads as reads
 use Rattle.operations.proofs.value.minor.Lts as lts
 use Rattle.walk.proofs.Joined.minor.Reads as minor-reads
 
--- src/value.rt:41:5
 minor-requires : tie.Need-minor-requires
 minor-requires c κs = search needs
 
--- src/value.rt:27:1
 returns : tie.Need-returns
 unfolding joinedWord
 returns c = c .minor .ensures

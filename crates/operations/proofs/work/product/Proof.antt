@@ -29,19 +29,15 @@ left-small c = let a = entry c .args in two-accepted (a .shelf) (a .left) (a .ri
 right-small : (c : tie.After-enum-told) → entry c .args .right < 8
 right-small c = let a = entry c .args in two-accepted (a .shelf) (a .left) (a .right) (a .target) (accepted c) .1 .small
 
--- src/work.rt:89:9
 two-sources-requires : tie.Need-two-sources-requires
 two-sources-requires c κs = search needs
 
--- src/work.rt:90:29
 enum-known-first : tie.Need-enum-known-first
 enum-known-first c = search needs
 
--- src/work.rt:91:9
 refusal-requires : tie.Need-refusal-requires
 refusal-requires c κs = search needs
 
--- src/work.rt:91:9
 returns : tie.Need-returns
 returns c =
     let first = c .before .before in
@@ -52,19 +48,15 @@ returns c =
 enum-told : tie.Need-enum-told
 enum-told c = search needs
 
--- src/work.rt:93:9
 rows-at-requires : tie.Need-rows-at-requires
 rows-at-requires c κs = search needs
 
--- src/work.rt:94:9
 table-at-requires : tie.Need-table-at-requires
 table-at-requires c κs = left-small (c .before)
 
--- src/work.rt:95:9
 table-at-requires-2 : tie.Need-table-at-requires-2
 table-at-requires-2 c κs = right-small (c .before .before)
 
--- src/work.rt:96:12
 product-requires : tie.Need-product-requires
 product-requires c κs =
     let told = c .before .before .before in
@@ -72,11 +64,9 @@ product-requires c κs =
     rw (c .before .before .rows-at .ensures, c .before .table-at .ensures, c .table-at2 .ensures)
     (ready-workable (a .target) _ _ (product-ready (a .shelf) (entry told .pre) (a .left) (a .right) (a .target) (accepted told)))
 
--- src/work.rt:96:5
 ranged-requires : tie.Need-ranged-requires
 ranged-requires c κs = search needs
 
--- src/work.rt:84:1
 returns-2 : tie.Need-returns-2
 returns-2 c =
     let told = c .before .before .before .before .before in

@@ -9,20 +9,16 @@ use Rattle.operations.proofs.work.ranged.Lts as lts
 use Rattle.operations.proofs.work.refusal.Reads as refusal-reads
 use Rattle.places.proofs.tables.outside.Reads as outside-reads
 
--- src/work.rt:71:8
 outside-requires : tie.Need-outside-requires
 outside-requires c κs = search needs
 
--- src/work.rt:72:9
 refusal-requires : tie.Need-refusal-requires
 refusal-requires c κs = search needs
 
--- src/work.rt:72:9
 returns : tie.Need-returns
 unfolding rangedOf
 returns c = c .refusal .ensures ∙ simp (sym (c .before .before .outside .ensures) ∙ c .before .if1 .taken)
 
--- src/work.rt:67:1
 returns-2 : tie.Need-returns-2
 unfolding rangedOf
 returns-2 c = simp (sym (c .before .outside .ensures) ∙ c .if1 .left)

@@ -10,11 +10,9 @@ use Rattle.operations.proofs.work.refusal.Reads as reads
 use Rattle.operations.proofs.work.refusal.Lts as lts
 use Rattle.places.proofs.tables.blank.Reads as blank-reads
 
--- src/operations.rt:19:9
 blank-requires : tie.Need-blank-requires
 blank-requires c κs = search needs
 
--- src/operations.rt:16:1
 returns : tie.Need-returns
 returns c =
     ap (λ (l : List Number). let r : Proposed = record { answer = Refused (c .before .args .why); rows = 0; factors = l } in r) (c .blank .ensures)

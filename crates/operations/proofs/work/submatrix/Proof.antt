@@ -28,19 +28,15 @@ accepted c = sym (c .before .before .submatrix-tests .ensures) ∙ c .enum-told 
 fit : (c : tie.After-enum-told) → (let a = entry c .args in (a .source < 8) × Fit (rowsAt (a .shelf) (a .source)) (a .rows) (a .columns))
 fit c = let a = entry c .args in submatrix-fit (a .shelf) (a .source) (a .rows) (a .columns) (a .target) (accepted c)
 
--- src/work.rt:145:9
 submatrix-tests-requires : tie.Need-submatrix-tests-requires
 submatrix-tests-requires c κs = c .pre
 
--- src/work.rt:146:29
 enum-known-first : tie.Need-enum-known-first
 enum-known-first c = search needs
 
--- src/work.rt:147:9
 refusal-requires : tie.Need-refusal-requires
 refusal-requires c κs = search needs
 
--- src/work.rt:147:9
 returns : tie.Need-returns
 returns c =
     let first = c .before .before in
@@ -52,15 +48,12 @@ returns c =
 enum-told : tie.Need-enum-told
 enum-told c = search needs
 
--- src/work.rt:149:9
 rows-at-requires : tie.Need-rows-at-requires
 rows-at-requires c κs = search needs
 
--- src/work.rt:150:9
 table-at-requires : tie.Need-table-at-requires
 table-at-requires c κs = fit (c .before) .0
 
--- src/work.rt:151:12
 submatrix-requires : tie.Need-submatrix-requires
 submatrix-requires c κs =
     let told = c .before .before in
@@ -69,11 +62,9 @@ submatrix-requires c κs =
     rw (c .before .rows-at .ensures, c .table-at .ensures)
     ((f .rows, f .columns), ready-workable (a .target) _ _ (submatrix-ready (a .shelf) (entry told .pre .0) (a .source) (a .rows) (a .columns) (a .target) (accepted told)))
 
--- src/work.rt:151:5
 ranged-requires : tie.Need-ranged-requires
 ranged-requires c κs = search needs
 
--- src/work.rt:140:1
 returns-2 : tie.Need-returns-2
 returns-2 c =
     let told = c .before .before .before .before in

@@ -23,19 +23,15 @@ accepted c = sym (c .before .before .one-source .ensures) ∙ c .enum-told .give
 source-small : (c : tie.After-enum-told) → c .before .before .before .args .source < 8
 source-small c = one-accepted (c .before .before .before .args .shelf) _ (c .before .before .before .args .target) (accepted c) .0 .small
 
--- src/operations.rt:54:9
 one-source-requires : tie.Need-one-source-requires
 one-source-requires c κs = search needs
 
--- src/operations.rt:55:29
 enum-known-first : tie.Need-enum-known-first
 enum-known-first c = search needs
 
--- src/operations.rt:56:9
 refusal-requires : tie.Need-refusal-requires
 refusal-requires c κs = search needs
 
--- src/operations.rt:56:9
 returns : tie.Need-returns
 returns c =
     let first = c .before .before in
@@ -45,19 +41,15 @@ returns c =
 enum-told : tie.Need-enum-told
 enum-told c = search needs
 
--- src/operations.rt:58:9
 rows-at-requires : tie.Need-rows-at-requires
 rows-at-requires c κs = search needs
 
--- src/operations.rt:59:37
 table-at-requires : tie.Need-table-at-requires
 table-at-requires c κs = source-small (c .before)
 
--- src/operations.rt:59:9
 exchanged-requires : tie.Need-exchanged-requires
 exchanged-requires c κs = search needs
 
--- src/operations.rt:49:1
 returns-2 : tie.Need-returns-2
 returns-2 c =
     let told = c .before .before .before in

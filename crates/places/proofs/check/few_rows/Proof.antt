@@ -18,33 +18,26 @@ Inv-loop shelf p₀ p = Seen (λ i. leb (rowsAt shelf i) 8) 8 p
 abbrev μ-loop : tie.MeasureT-loop
 μ-loop shelf p₀ p = 8 - p
 
--- src/check.rt:52:5
 loop-holds : tie.Need-loop-holds Inv-loop μ-loop
 loop-holds c = seen-none _ 8
 
--- src/check.rt:53:17
 element-copy-out-n : tie.Need-element-copy-out-n Inv-loop μ-loop
 element-copy-out-n c = search needs
 
--- src/check.rt:55:13
 returns : tie.Need-returns Inv-loop μ-loop
 unfolding fewRows rowsAt
 returns c = sym (all-fails _ 8 _ (search needs) (lt-leb _ 8 (c .if1 .taken)))
 
--- src/check.rt:52:9
 add-p : tie.Need-add-p Inv-loop μ-loop
 add-p c = search needs
 
--- src/check.rt:52:5
 loop-less : tie.Need-loop-less Inv-loop μ-loop
 loop-less c = search needs
 
--- src/check.rt:52:5
 loop-again : tie.Need-loop-again Inv-loop μ-loop
 unfolding rowsAt
 loop-again c = seen-more _ (c .before .before .before .loop .inv) (c .before .before .loop-test .taken) (le-leb _ 8 (c .if1 .left))
 
--- src/check.rt:49:1
 returns-2 : tie.Need-returns-2 Inv-loop μ-loop
 unfolding fewRows
 returns-2 c = sym (seen-all _ (c .before .loop .inv) (c .loop-test .left))

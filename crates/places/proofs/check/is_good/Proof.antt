@@ -13,15 +13,12 @@ use Rattle.places.proofs.check.is_good.Lts as lts
 use Rattle.places.proofs.check.few_rows.Reads as few-rows-reads
 use Rattle.places.proofs.check.sound_numbers.Reads as sound-numbers-reads
 
--- src/check.rt:80:8
 few-rows-requires : tie.Need-few-rows-requires
 few-rows-requires c κs = search needs
 
--- src/check.rt:81:9
 sound-numbers-requires : tie.Need-sound-numbers-requires
 sound-numbers-requires c κs = search needs
 
--- src/check.rt:81:9
 returns : tie.Need-returns
 unfolding isGood
 returns c =
@@ -29,7 +26,6 @@ returns c =
     let e = c .sound-numbers .ensures ∙ ap (λ (t : Bool). t && soundNumbers s) (sym (c .before .if1 .taken) ∙ c .before .before .few-rows .ensures) in
     (e, λ h. tested-good s (search (needs, length-mapped)) (search (needs, length-mapped)) (sym e ∙ h))
 
--- src/check.rt:76:1
 returns-2 : tie.Need-returns-2
 unfolding isGood
 returns-2 c =

@@ -15,11 +15,9 @@ use Rattle.places.proofs.check.sound.Lts as lts
 use Rattle.places.proofs.check.stored.Reads as stored-reads
 use Rattle.places.proofs.check.zero.Reads as zero-reads
 
--- src/check.rt:40:9
 zero-requires : tie.Need-zero-requires
 zero-requires c κs = search needs
 
--- src/check.rt:40:9
 returns : tie.Need-returns
 unfolding sound
 returns c =
@@ -27,11 +25,9 @@ returns c =
     let out : leb (suc (a .k / 8)) (a .n) ≡ false = lt-leb (suc (a .k / 8)) (a .n) (omega (arith, c .before .if1 .taken)) in
     c .zero .ensures ∙ simp out
 
--- src/check.rt:43:9
 zero-requires-2 : tie.Need-zero-requires-2
 zero-requires-2 c κs = search needs
 
--- src/check.rt:43:9
 returns-2 : tie.Need-returns-2
 unfolding sound
 returns-2 c =
@@ -40,11 +36,9 @@ returns-2 c =
     let out : leb (suc (a .k % 8)) (a .n) ≡ false = lt-leb (suc (a .k % 8)) (a .n) (omega (arith, c .before .if2 .taken)) in
     c .zero2 .ensures ∙ simp (row, out)
 
--- src/check.rt:45:5
 stored-requires : tie.Need-stored-requires
 stored-requires c κs = search needs
 
--- src/check.rt:36:1
 returns-3 : tie.Need-returns-3
 unfolding sound
 returns-3 c =

@@ -10,21 +10,17 @@ use Rattle.places.proofs.check.stored.Reads as reads
 use Rattle.places.proofs.check.stored.Lts as lts
 use Rattle.number.proofs.Number.in_range.Reads as in-range-reads
 
--- src/check.rt:17:9
 returns : tie.Need-returns
 unfolding isStored
 returns c = simp (lt-leb (2 ^ 31) _ (c .if1 .taken))
 
--- src/check.rt:20:9
 returns-2 : tie.Need-returns-2
 unfolding isStored
 returns-2 c = simp (le-leb (2 ^ 31) _ (c .before .before .if1 .left), le-ltb _ (2 ^ 32) (c .if2 .taken))
 
--- src/check.rt:22:5
 in-range-requires : tie.Need-in-range-requires
 in-range-requires c κs = search needs
 
--- src/check.rt:13:1
 returns-3 : tie.Need-returns-3
 unfolding isStored
 returns-3 c = c .in-range .ensures ∙ simp (le-leb (2 ^ 31) _ (c .before .before .before .if1 .left), lt-ltb _ (2 ^ 32) (c .before .if2 .left))

@@ -7,12 +7,10 @@ use Rattle.places.proofs.check.zero.Tie as tie
 use Rattle.places.proofs.check.zero.Reads as reads
 use Rattle.places.proofs.check.zero.Lts as lts
 
--- src/check.rt:30:9
 returns : tie.Need-returns
 unfolding isZero
 returns c = simp (eq-eqb _ 0 (c .before .if1 .taken))
 
--- src/check.rt:26:1
 returns-2 : tie.Need-returns-2
 unfolding isZero
 returns-2 c = simp (ne-eqb _ 0 (c .if1 .left))

@@ -9,51 +9,40 @@ use Rattle.places.proofs.judge.one_source.Lts as lts
 use Rattle.places.proofs.judge.refused.Reads as refused-reads
 use Rattle.places.proofs.rows_at.Reads as rows-at-reads
 
--- src/judge.rt:47:9
 refused-requires : tie.Need-refused-requires
 refused-requires c κs = search needs
 
--- src/judge.rt:47:9
 returns : tie.Need-returns
 unfolding firstOf
 returns c = c .refused .ensures ∙ simp (lt-ltb _ _ (c .before .if1 .taken))
 
--- src/judge.rt:50:9
 refused-requires-2 : tie.Need-refused-requires-2
 refused-requires-2 c κs = search needs
 
--- src/judge.rt:50:9
 returns-2 : tie.Need-returns-2
 unfolding firstOf
 returns-2 c = c .refused2 .ensures ∙ simp (le-ltb _ _ (c .before .before .if1 .left), lt-ltb _ _ (c .before .if2 .taken))
 
--- src/judge.rt:52:8
 rows-at-requires : tie.Need-rows-at-requires
 rows-at-requires c κs = search needs
 
--- src/judge.rt:53:9
 refused-requires-3 : tie.Need-refused-requires-3
 refused-requires-3 c κs = search needs
 
--- src/judge.rt:53:9
 returns-3 : tie.Need-returns-3
 unfolding firstOf
 returns-3 c = c .refused3 .ensures ∙ simp (le-ltb _ _ (c .before .before .before .before .if1 .left), le-ltb _ _ (c .before .before .before .if2 .left), eq-eqb _ _ (sym (c .before .before .rows-at .ensures) ∙ c .before .if3 .taken))
 
--- src/judge.rt:55:8
 rows-at-requires-2 : tie.Need-rows-at-requires-2
 rows-at-requires-2 c κs = search needs
 
--- src/judge.rt:56:9
 refused-requires-4 : tie.Need-refused-requires-4
 refused-requires-4 c κs = search needs
 
--- src/judge.rt:56:9
 returns-4 : tie.Need-returns-4
 unfolding firstOf
 returns-4 c = c .refused4 .ensures ∙ simp (le-ltb _ _ (c .before .before .before .before .before .before .if1 .left), le-ltb _ _ (c .before .before .before .before .before .if2 .left), ne-eqb _ _ (λ e. c .before .before .before .if3 .left (c .before .before .before .before .rows-at .ensures ∙ e)), ne-eqb _ _ (λ e. c .before .if4 .taken (c .before .before .rows-at2 .ensures ∙ e)))
 
--- src/judge.rt:43:1
 returns-5 : tie.Need-returns-5
 unfolding firstOf
 returns-5 c = simp (le-ltb _ _ (c .before .before .before .before .before .if1 .left), le-ltb _ _ (c .before .before .before .before .if2 .left), ne-eqb _ _ (λ e. c .before .before .if3 .left (c .before .before .before .rows-at .ensures ∙ e)), eq-eqb _ _ (sym (c .before .rows-at2 .ensures) ∙ c .if4 .left))

@@ -9,29 +9,23 @@ use Rattle.places.proofs.judge.source.Lts as lts
 use Rattle.places.proofs.judge.refused.Reads as refused-reads
 use Rattle.places.proofs.rows_at.Reads as rows-at-reads
 
--- src/judge.rt:21:9
 refused-requires : tie.Need-refused-requires
 refused-requires c κs = search needs
 
--- src/judge.rt:21:9
 returns : tie.Need-returns
 unfolding firstOf
 returns c = c .refused .ensures ∙ simp (lt-ltb _ _ (c .before .if1 .taken))
 
--- src/judge.rt:23:8
 rows-at-requires : tie.Need-rows-at-requires
 rows-at-requires c κs = search needs
 
--- src/judge.rt:24:9
 refused-requires-2 : tie.Need-refused-requires-2
 refused-requires-2 c κs = search needs
 
--- src/judge.rt:24:9
 returns-2 : tie.Need-returns-2
 unfolding firstOf
 returns-2 c = c .refused2 .ensures ∙ simp (le-ltb _ _ (c .before .before .before .if1 .left), eq-eqb _ _ (sym (c .before .before .rows-at .ensures) ∙ c .before .if2 .taken))
 
--- src/judge.rt:17:1
 returns-3 : tie.Need-returns-3
 unfolding firstOf
 returns-3 c = simp (le-ltb _ _ (c .before .before .if1 .left), ne-eqb _ _ (λ e. c .if2 .left (c .before .rows-at .ensures ∙ e)))

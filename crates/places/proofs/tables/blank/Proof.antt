@@ -8,11 +8,9 @@ use Rattle.places.proofs.tables.blank.Reads as reads
 use Rattle.places.proofs.tables.blank.Lts as lts
 use Rattle.number.proofs.Number.zero.Reads as zero-reads
 
--- src/tables.rt:15:9
 zero-requires : tie.Need-zero-requires
 zero-requires c κs = search needs
 
--- src/tables.rt:12:1
 returns : tie.Need-returns
 returns c = ap (λ (z : Number). replicate 64 z) (c .zero .ensures)
 

@@ -14,39 +14,30 @@ use Rattle.number.proofs.Number.zero.Reads as zero-reads
 below : (c : tie.Else2) → c .before .before .args .k / 8 * c .before .before .args .n + c .before .before .args .k % 8 < 64
 below c = square-cell-below _ (c .before .before .args .t1) _ (c .before .before .pre) (c .before .if1 .left) (c .if2 .left)
 
--- src/tables.rt:18:9
 zero-requires : tie.Need-zero-requires
 zero-requires c κs = search needs
 
--- src/tables.rt:18:9
 returns : tie.Need-returns
 returns c = c .zero .ensures ∙ square-rows-end _ (c .before .before .args .t1) _ (c .before .if1 .taken)
 
--- src/tables.rt:21:9
 zero-requires-2 : tie.Need-zero-requires-2
 zero-requires-2 c κs = search needs
 
--- src/tables.rt:21:9
 returns-2 : tie.Need-returns-2
 returns-2 c = c .zero2 .ensures ∙ square-columns-end _ (c .before .before .before .args .t1) _ (c .before .before .if1 .left) (c .before .if2 .taken)
 
--- src/tables.rt:23:13
 mul-result : tie.Need-mul-result
 mul-result c = record { fits = omega (arith, below c) }
 
--- src/tables.rt:23:13
 add-result : tie.Need-add-result
 add-result c = record { fits = omega (arith, below c) }
 
--- src/tables.rt:23:5
 mul-result-2 : tie.Need-mul-result-2
 mul-result-2 c = record { fits = omega (arith, below c) }
 
--- src/tables.rt:23:5
 array-copy-out-result : tie.Need-array-copy-out-result
 array-copy-out-result c = below c
 
--- src/tables.rt:11:1
 returns-3 : tie.Need-returns-3
 returns-3 c = square-cell _ (c .before .before .before .args .t1) _ (c .before .before .before .pre) (c .before .before .if1 .left) (c .before .if2 .left) (search needs)
 

@@ -18,51 +18,39 @@ Inv-loop t r₀ k₀ r k = Filled zeroNumber (cellAt 8 (exchanged (factorsOf t))
 abbrev μ-loop : tie.MeasureT-loop
 μ-loop t r₀ k₀ r k = 64 - k
 
--- src/tables.rt:55:9
 zero-requires : tie.Need-zero-requires Inv-loop μ-loop
 zero-requires c κs = search needs
 
--- src/tables.rt:57:5
 loop-holds : tie.Need-loop-holds Inv-loop μ-loop
 loop-holds c = filled-none zeroNumber _ 64 _ refl
 
--- src/tables.rt:58:18
 mul-r : tie.Need-mul-r Inv-loop μ-loop
 mul-r c = search needs
 
--- src/tables.rt:58:18
 add-r : tie.Need-add-r Inv-loop μ-loop
 add-r c = search needs
 
--- src/tables.rt:58:16
 mul-r-2 : tie.Need-mul-r-2 Inv-loop μ-loop
 mul-r-2 c = search needs
 
--- src/tables.rt:58:16
 array-copy-out-r : tie.Need-array-copy-out-r Inv-loop μ-loop
 array-copy-out-r c = search needs
 
--- src/tables.rt:58:9
 mul-r-3 : tie.Need-mul-r-3 Inv-loop μ-loop
 mul-r-3 c = search needs
 
--- src/tables.rt:58:9
 array-set-from-r : tie.Need-array-set-from-r Inv-loop μ-loop
 array-set-from-r c = search needs
 
--- src/tables.rt:57:9
 add-k : tie.Need-add-k Inv-loop μ-loop
 add-k c = search needs
 
--- src/tables.rt:57:5
 loop-less : tie.Need-loop-less Inv-loop μ-loop
 loop-less c = search needs
 
--- src/tables.rt:57:5
 loop-again : tie.Need-loop-again Inv-loop μ-loop
 loop-again c = filled-more zeroNumber _ 64 (c .before .before .loop .inv) (c .before .loop-test .taken) _ (exchanged-cell _ _ (search needs) (c .before .loop-test .taken))
 
--- src/tables.rt:52:1
 returns : tie.Need-returns Inv-loop μ-loop
 returns c = table-filled 8 _ (c .before .loop .inv) (c .loop-test .left)
 

@@ -23,35 +23,27 @@ Inv-loop t k₀ k = (k ≤ 64) × ((i : ℕ) → i < k → inRange (getD t i abs
 abbrev μ-loop : tie.MeasureT-loop
 μ-loop t k₀ k = 64 - k
 
--- src/tables.rt:67:5
 loop-holds : tie.Need-loop-holds Inv-loop μ-loop
 loop-holds c = (search needs, λ i h. absurd (omega arith))
 
--- src/tables.rt:68:17
 mul-a : tie.Need-mul-a Inv-loop μ-loop
 mul-a c = search needs
 
--- src/tables.rt:68:17
 array-copy-out-a : tie.Need-array-copy-out-a Inv-loop μ-loop
 array-copy-out-a c = search needs
 
--- src/tables.rt:69:13
 in-range-requires : tie.Need-in-range-requires Inv-loop μ-loop
 in-range-requires c κs = search needs
 
--- src/tables.rt:70:13
 returns : tie.Need-returns Inv-loop μ-loop
 returns c = sym (outside-some absent (c .before .before .before .before .before .args .t1) _ (search needs) (sym (c .before .in-range .ensures) ∙ not-true _ (c .if1 .taken)))
 
--- src/tables.rt:67:9
 add-k : tie.Need-add-k Inv-loop μ-loop
 add-k c = search needs
 
--- src/tables.rt:67:5
 loop-less : tie.Need-loop-less Inv-loop μ-loop
 loop-less c = search needs
 
--- src/tables.rt:67:5
 loop-again : tie.Need-loop-again Inv-loop μ-loop
 loop-again c =
     let l = c .before .before .before .before .loop in (
@@ -63,7 +55,6 @@ loop-again c =
           ],
     )
 
--- src/tables.rt:64:1
 returns-2 : tie.Need-returns-2 Inv-loop μ-loop
 returns-2 c = sym (outside-all absent (c .before .before .args .t1) (λ i h. c .before .loop .inv .1 i (omega (arith, c .loop-test .left))))
 

@@ -23,66 +23,51 @@ abbrev μ-loop : tie.MeasureT-loop
 inside : (c : tie.In-loop Inv-loop μ-loop) → (c .before .loop .k < 64) × (c .before .loop .k / c .before .before .before .args .n < 8) × (c .before .loop .k % c .before .before .before .args .n < 8)
 inside c = packed-below _ (c .before .before .before .args .t1) (c .before .before .before .pre) _ (c .loop-test .taken)
 
--- src/tables.rt:43:9
 zero-requires : tie.Need-zero-requires Inv-loop μ-loop
 zero-requires c κs = search needs
 
--- src/tables.rt:45:17
 mul-k-end : tie.Need-mul-k-end Inv-loop μ-loop
 mul-k-end c = record { fits = omega (arith, mul-le-mul (c .before .pre) (c .before .pre)) }
 
--- src/tables.rt:45:5
 loop-holds : tie.Need-loop-holds Inv-loop μ-loop
 loop-holds c = (omega arith, filled-none zeroNumber _ 64 _ refl)
 
--- src/tables.rt:46:18
 div-r : tie.Need-div-r Inv-loop μ-loop
 div-r c = some-rows _ _ (c .loop-test .taken)
 
--- src/tables.rt:46:18
 mul-r : tie.Need-mul-r Inv-loop μ-loop
 mul-r c = record { fits = omega (arith, inside c .0, inside c .1, inside c .2) }
 
--- src/tables.rt:46:30
 rem-r : tie.Need-rem-r Inv-loop μ-loop
 rem-r c = some-rows _ _ (c .loop-test .taken)
 
--- src/tables.rt:46:18
 add-r : tie.Need-add-r Inv-loop μ-loop
 add-r c = record { fits = omega (arith, inside c .0, inside c .1, inside c .2) }
 
--- src/tables.rt:46:16
 mul-r-2 : tie.Need-mul-r-2 Inv-loop μ-loop
 mul-r-2 c = record { fits = omega (arith, inside c .0, inside c .1, inside c .2) }
 
--- src/tables.rt:46:16
 array-copy-out-r : tie.Need-array-copy-out-r Inv-loop μ-loop
 array-copy-out-r c = omega (arith, inside c .1, inside c .2)
 
--- src/tables.rt:46:9
 mul-r-3 : tie.Need-mul-r-3 Inv-loop μ-loop
 mul-r-3 c = record { fits = omega (arith, inside (c .before) .0) }
 
--- src/tables.rt:46:9
 array-set-from-r : tie.Need-array-set-from-r Inv-loop μ-loop
 array-set-from-r c = inside (c .before) .0
 
--- src/tables.rt:45:9
 add-k : tie.Need-add-k Inv-loop μ-loop
 add-k c = record { fits = omega (arith, inside (c .before) .0) }
 
--- src/tables.rt:45:5
 loop-less : tie.Need-loop-less Inv-loop μ-loop
 loop-less c = omega (arith, c .before .loop-test .taken)
 
--- src/tables.rt:45:5
 loop-again : tie.Need-loop-again Inv-loop μ-loop
 loop-again c =
     let l = c .before .before .loop in
     let h = c .before .loop-test .taken in
     (omega arith, filled-more zeroNumber _ 64 (l .inv .1) (inside (c .before) .0) _ (packed-cell _ _ (c .before .before .before .before .pre) _ h (search needs)))
 
--- src/tables.rt:39:1
 returns : tie.Need-returns Inv-loop μ-loop
 returns c = packed-filled _ _ (c .before .before .before .pre) (c .before .loop .inv .1) (c .before .loop .inv .0) (c .loop-test .left)
 

@@ -18,39 +18,30 @@ Inv-loop numbers n t₀ k₀ t k = Filled zeroNumber (cellAt n (squareOf n numbe
 abbrev μ-loop : tie.MeasureT-loop
 μ-loop numbers n t₀ k₀ t k = 64 - k
 
--- src/tables.rt:30:9
 zero-requires : tie.Need-zero-requires Inv-loop μ-loop
 zero-requires c κs = search needs
 
--- src/tables.rt:32:5
 loop-holds : tie.Need-loop-holds Inv-loop μ-loop
 loop-holds c = filled-none zeroNumber _ 64 _ refl
 
--- src/tables.rt:33:16
 cell-requires : tie.Need-cell-requires Inv-loop μ-loop
 cell-requires c κs = search needs
 
--- src/tables.rt:33:9
 mul-t : tie.Need-mul-t Inv-loop μ-loop
 mul-t c = search needs
 
--- src/tables.rt:33:9
 array-set-from-t : tie.Need-array-set-from-t Inv-loop μ-loop
 array-set-from-t c = search needs
 
--- src/tables.rt:32:9
 add-k : tie.Need-add-k Inv-loop μ-loop
 add-k c = search needs
 
--- src/tables.rt:32:5
 loop-less : tie.Need-loop-less Inv-loop μ-loop
 loop-less c = search needs
 
--- src/tables.rt:32:5
 loop-again : tie.Need-loop-again Inv-loop μ-loop
 loop-again c = filled-more zeroNumber _ 64 (c .before .before .loop .inv) (c .before .loop-test .taken) _ (c .cell .ensures)
 
--- src/tables.rt:26:1
 returns : tie.Need-returns Inv-loop μ-loop
 returns c = table-filled _ _ (c .before .loop .inv) (c .loop-test .left)
 

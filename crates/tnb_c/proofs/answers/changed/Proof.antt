@@ -7,19 +7,15 @@ use Rattle.tnb_c.proofs.answers.changed.Tie as tie
 use Rattle.tnb_c.proofs.answers.changed.Reads as reads
 use Rattle.tnb_c.proofs.answers.changed.Lts as lts
 
--- src/lib.rt:56:30
 enum-told : tie.Need-enum-told
 enum-told c = search needs
 
--- src/lib.rt:62:26
 enum-known-verdict : tie.Need-enum-known-verdict
 enum-known-verdict c = search needs
 
--- src/lib.rt:50:1
 returns : tie.Need-returns
 returns c = sym (ap (ofVerdict _) (c .enum-told .given .1))
 
--- src/lib.rt:50:1
 returns-2 : tie.Need-returns-2
 returns-2 c = sym (ap (ofVerdict _) (c .before .verdict .given .1))
 

@@ -7,19 +7,15 @@ use Rattle.tnb_c.proofs.answers.operated.Tie as tie
 use Rattle.tnb_c.proofs.answers.operated.Reads as reads
 use Rattle.tnb_c.proofs.answers.operated.Lts as lts
 
--- src/lib.rt:77:24
 enum-known-answer : tie.Need-enum-known-answer
 enum-known-answer c = search needs
 
--- src/lib.rt:83:26
 enum-known-answer-2 : tie.Need-enum-known-answer-2
 enum-known-answer-2 c = search needs
 
--- src/lib.rt:71:1
 returns : tie.Need-returns
 returns c = sym (ap (ofBounded _) (c .before .answer .given .1))
 
--- src/lib.rt:71:1
 returns-2 : tie.Need-returns-2
 returns-2 c = sym (ap (ofBounded _) (c .before .answer2 .given .1))
 

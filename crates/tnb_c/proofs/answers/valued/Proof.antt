@@ -12,22 +12,18 @@ use Rattle.tnb_c.proofs.answers.valued.Tie as tie
 use Rattle.tnb_c.proofs.answers.valued.Reads as reads
 use Rattle.tnb_c.proofs.answers.valued.Lts as lts
 
--- src/lib.rt:113:25
 enum-known-x : tie.Need-enum-known-x
 enum-known-x c = search needs
 
--- src/lib.rt:119:25
 enum-known-x-2 : tie.Need-enum-known-x-2
 enum-known-x-2 c = search needs
 
--- src/lib.rt:109:1
 returns : tie.Need-returns
 returns c =
     let v = c .before .x .given .0 in
     let e : SFits w64 (v .1 .0) = search needs in
     ap (λ (z : ℤ). let r : Minor = record { number = 0; offset = 0; mantissa = v .0; exponent = z } in r) (toZ-ofZ e) ∙ sym (ap ofValued (c .before .x .given .1))
 
--- src/lib.rt:109:1
 returns-2 : tie.Need-returns-2
 returns-2 c = sym (ap ofValued (c .before .x2 .given .1))
 

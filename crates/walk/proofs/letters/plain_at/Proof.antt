@@ -1,4 +1,4 @@
--- `plain_at` meets its contract: a letter of the second half is the fellow of one in the first.
+-- `plain_at` meets its contract: a letter of the second half is the counterpart of one in the first.
 use mathlib.Core.Path.{_≡_, sym, ap, _∙_}
 use Prim.Native.Nat.{_-_, _*_}
 use native.Mathlib.Omega.{arith}
