@@ -1,4 +1,5 @@
 use Prim.Native.Nat.{_<_}
+use native.Mathlib.Omega.{arith}
 use mathlib.Core.Path.{_≡_, sym, ap, _∙_}
 use Rattle.places.specs.declared.Verdict.the-variants.{Accepted}
 use Rattle.places.specs.Shelf.{withTable}
@@ -21,12 +22,9 @@ use Rattle.shelf.proofs.unchanged.Reads as unchanged-reads
 accepted : (c : tie.After-enum-told) → firstOf (sourceTests (c .before .before .before .args .shelf) (c .before .before .before .args .place)) ≡ Accepted
 accepted c = sym (c .before .before .source .ensures) ∙ c .enum-told .given .1
 
-<<<<<<< HEAD
 small : (c : tie.After-enum-told) → c .before .before .before .args .place < 8
 small c = source-accepted _ _ (accepted c) .small
 
-=======
->>>>>>> 598c3111e09553dea5d9a62d1578fd1760698023
 source-requires : tie.Need-source-requires
 source-requires c κs = search needs
 
@@ -51,7 +49,7 @@ blank-requires c κs = search needs
 with-table-requires : tie.Need-with-table-requires
 with-table-requires c κs =
     let told = c .before in
-    (told .before .before .before .pre, small told, rw (c .blank .ensures ∙ sym (table-blank (λ i j. zeroNumber))) (fits-none (λ i j. zeroNumber)))
+    (told .before .before .before .pre, omega (arith, small told), rw (c .blank .ensures ∙ sym (table-blank (λ i j. zeroNumber))) (fits-none (λ i j. zeroNumber)))
 
 returns-2 : tie.Need-returns-2
 returns-2 c =
