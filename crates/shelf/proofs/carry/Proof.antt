@@ -30,15 +30,12 @@ accepted c = sym (c .before .before .source .ensures) ∙ c .enum-told .given .1
 source : (c : tie.After-enum-told) → Source (entry c .args .shelf) (entry c .args .place)
 source c = source-accepted _ _ (accepted c)
 
--- src/lib.rt:127:9
 source-requires : tie.Need-source-requires
 source-requires c κs = search needs
 
--- src/lib.rt:128:29
 enum-known-first : tie.Need-enum-known-first
 enum-known-first c = search needs
 
--- src/lib.rt:129:9
 returns : tie.Need-returns
 returns c =
     let first = c .before in
@@ -48,30 +45,24 @@ returns c =
 enum-told : tie.Need-enum-told
 enum-told c = search needs
 
--- src/lib.rt:131:9
 rows-at-requires : tie.Need-rows-at-requires
 rows-at-requires c κs = search needs
 
--- src/lib.rt:132:31
 table-at-requires : tie.Need-table-at-requires
 table-at-requires c κs = let small = source (c .before) .small in omega arith
 
--- src/lib.rt:132:9
 carry-requires : tie.Need-carry-requires
 carry-requires c κs =
     let told = c .before .before .before in
     let o = source told in
     rw (c .before .before .rows-at .ensures, c .before .table-at .ensures) (o .some, entry told .pre .few _ (o .small), entry told .pre .stored _ (o .small))
 
--- src/lib.rt:134:32
 enum-told-2 : tie.Need-enum-told-2
 enum-told-2 c = search needs
 
--- src/lib.rt:135:32
 enum-known-answer : tie.Need-enum-known-answer
 enum-known-answer c = search needs
 
--- src/lib.rt:135:58
 cast-refused : tie.Need-cast-refused
 cast-refused c =
     let m = c .before .before .before .before in
@@ -81,15 +72,12 @@ cast-refused c =
           (m .carry .ensures .0) (m .carry .ensures .1) _ (c .before .answer .given .1);
     }
 
--- src/lib.rt:135:43
 refused-requires : tie.Need-refused-requires
 refused-requires c κs = search needs
 
--- src/lib.rt:122:1
 same-length : tie.Need-same-length
 same-length c = search needs
 
--- src/lib.rt:122:1
 returns-2 : tie.Need-returns-2
 returns-2 c =
     let m = c .before .before .before in
@@ -97,11 +85,9 @@ returns-2 c =
     carry-done (a .shelf) (a .place) (now (a .items)) (now (a .out)) (accepted (told m)) _ _ (m .before .before .before .rows-at .ensures) (m .before .before .table-at .ensures) _ _
     (m .carry .ensures .0) (m .carry .ensures .1) (c .enum-told2 .given .1)
 
--- src/lib.rt:122:1
 same-length-2 : tie.Need-same-length-2
 same-length-2 c = search needs
 
--- src/lib.rt:122:1
 returns-3 : tie.Need-returns-3
 returns-3 c =
     let m = c .before .before .before .before .before in

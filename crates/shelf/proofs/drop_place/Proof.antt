@@ -23,19 +23,15 @@ accepted c = sym (c .before .before .source .ensures) ∙ c .enum-told .given .1
 small : (c : tie.After-enum-told) → c .before .before .before .args .place < 8
 small c = source-accepted _ _ (accepted c) .small
 
--- src/lib.rt:121:9
 source-requires : tie.Need-source-requires
 source-requires c κs = search needs
 
--- src/lib.rt:122:29
 enum-known-first : tie.Need-enum-known-first
 enum-known-first c = search needs
 
--- src/lib.rt:123:9
 unchanged-requires : tie.Need-unchanged-requires
 unchanged-requires c κs = search needs
 
--- src/lib.rt:123:9
 returns : tie.Need-returns
 returns c =
     let first = c .before .before in
@@ -45,15 +41,12 @@ returns c =
 enum-told : tie.Need-enum-told
 enum-told c = search needs
 
--- src/lib.rt:126:52
 blank-requires : tie.Need-blank-requires
 blank-requires c κs = search needs
 
--- src/lib.rt:126:16
 with-table-requires : tie.Need-with-table-requires
 with-table-requires c κs = (omega (arith, small (c .before)), omega arith)
 
--- src/lib.rt:116:1
 returns-2 : tie.Need-returns-2
 returns-2 c =
     let told = c .before .before in

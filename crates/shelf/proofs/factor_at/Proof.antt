@@ -34,57 +34,45 @@ small c = let r = row c in place-small _ (entry c .pre) _ (omega arith)
 below : (c : tie.Else4) → (entry c .args .i - 1) * 8 + (entry c .args .j - 1) < 64
 below c = factor-below _ (entry c .pre) _ _ _ (row c) (column c)
 
--- src/lib.rt:169:9
 rows-at-requires : tie.Need-rows-at-requires
 rows-at-requires c κs = search needs
 
--- src/lib.rt:171:9
 returns : tie.Need-returns
 unfolding factorCall
 returns c = simp (lt-leb 1 _ (c .if1 .taken))
 
--- src/lib.rt:174:9
 returns-2 : tie.Need-returns-2
 unfolding factorCall
 returns-2 c = simp (le-leb 1 _ (c .before .if1 .left), lt-leb 1 _ (c .if2 .taken))
 
--- src/lib.rt:177:9
 returns-3 : tie.Need-returns-3
 unfolding factorCall
 returns-3 c = simp (le-leb 1 _ (c .before .before .if1 .left), le-leb 1 _ (c .before .if2 .left), lt-leb _ _ (rw (c .before .before .before .rows-at .ensures) at (c .if3 .taken)))
 
--- src/lib.rt:180:9
 returns-4 : tie.Need-returns-4
 unfolding factorCall
 returns-4 c = simp (le-leb 1 _ (c .before .before .before .if1 .left), le-leb 1 _ (c .before .before .if2 .left), le-leb _ _ (rw (c .before .before .before .before .rows-at .ensures) at (c .before .if3 .left)), lt-leb _ _ (rw (c .before .before .before .before .rows-at .ensures) at (c .if4 .taken)))
 
--- src/lib.rt:182:13
 table-at-requires : tie.Need-table-at-requires
 table-at-requires c κs = small c
 
--- src/lib.rt:183:15
 mul-a : tie.Need-mul-a
 mul-a c = record { fits = omega (arith, below (c .before)) }
 
--- src/lib.rt:183:15
 add-a : tie.Need-add-a
 add-a c = record { fits = omega (arith, below (c .before)) }
 
--- src/lib.rt:183:13
 mul-a-2 : tie.Need-mul-a-2
 mul-a-2 c = record { fits = omega (arith, below (c .before)) }
 
--- src/lib.rt:183:13
 array-copy-out-a : tie.Need-array-copy-out-a
 array-copy-out-a c = below (c .before)
 
--- src/lib.rt:186:19
 exponent-requires : tie.Need-exponent-requires
 exponent-requires c κs =
     let q = c .before .before in
     factor-exponent _ (entry q .pre) _ _ _ (row q) (column q) _ (c .before .table-at .ensures)
 
--- src/lib.rt:161:1
 returns-5 : tie.Need-returns-5
 returns-5 c =
     let q = c .before .before .before in
