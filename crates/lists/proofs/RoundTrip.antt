@@ -10,20 +10,20 @@ use borrow.Author.Tests.{ne-eqb, not-false}
 use lib.IntN.{ℤ, pos, negsuc, natAbs}
 use lib.ListN.{length, getD, take}
 use lib.Seq.{sets, sets-eq, take-append-le, take-all}
-use Rattle.number.specs.Number.{Stored, inRange}
+use Rattle.number.specs.Number.{Stored, inRange, exponentOf}
 use Rattle.number.specs.Signed.{zeroSigned, SignedRanged}
 use Rattle.number.specs.declared.Number.{Number}
 use Rattle.number.specs.declared.signed.Signed.{Signed}
 use Rattle.number.proofs.Reach.{in-range-stored}
 use Rattle.words.specs.Word.{Factors}
 use Rattle.words.specs.Sources.{Each}
-use Rattle.lists.specs.Items.{isNegative, unbiased, itemOf, joined, listOf, signOf, listNumbers}
+use Rattle.lists.specs.Items.{isNegative, itemOf, joined, listOf, signOf, listNumbers}
 use Rattle.lists.specs.Lists.{vectorOf, carried, carriedList, outside, anyOutside, itemsOf, carryOf, Outcome}
 use Rattle.lists.specs.Carrying.{workingReach}
 use Rattle.lists.specs.declared.Answer.the-variants.{Done}
 use Rattle.lists.specs.declared.items.Item.{Item}
 use Rattle.lists.specs.declared.items.Item.the-variants.{Value}
-use Rattle.lists.proofs.Wholes.{biased-unbiased, unbiased-near}
+use Rattle.lists.proofs.Wholes.{biased-exponent, exponent-near}
 use Rattle.lists.proofs.ItemForms.{item-zero, item-value}
 use Rattle.lists.proofs.Reading.{RangedItems, list-ranged}
 use Rattle.lists.proofs.FirstItems.{first-length, first-at}
@@ -36,7 +36,7 @@ Formed a = (a ≡ zeroSigned) ⊎ Stored (a .size)
 
 -- the item of an item's numbers
 abbrev pub itemAgain : Signed → Item
-itemAgain a = itemOf (signOf a) (pos (a .size .m)) (unbiased (a .size .x))
+itemAgain a = itemOf (signOf a) (pos (a .size .m)) (exponentOf (a .size))
 
 module _ (a : Signed) (s : Stored (a .size)) where
   sign-is : signOf a ≡ cond (a .negative) (negsuc 0) (pos 1)
@@ -44,15 +44,15 @@ module _ (a : Signed) (s : Stored (a .size)) where
 
   stored-back : itemAgain a ≡ Value a
   stored-back =
-      item-value (signOf a) (pos (a .size .m)) (unbiased (a .size .x))
+      item-value (signOf a) (pos (a .size .m)) (exponentOf (a .size))
       (record {
         sign = ap natAbs sign-is ∙ one (a .negative);
         plain = refl;
         low = s .low;
         high = s .high;
-        near = unbiased-near (a .size .x) (s .start) (s .stop);
+        near = exponent-near (a .size .x) (s .start) (s .stop);
       })
-      (a .negative) (a .size .m) (a .size .x) (sym (ap isNegative sign-is ∙ same (a .negative))) refl (sym (biased-unbiased (a .size .x)))
+      (a .negative) (a .size .m) (a .size .x) (sym (ap isNegative sign-is ∙ same (a .negative))) refl (sym (biased-exponent (a .size .x)))
     where
       one : (t : Bool) → natAbs (cond t (negsuc 0) (pos 1)) ≡ 1
       one true = refl

@@ -1,6 +1,6 @@
 -- Laws of whole numbers with a sign, as the code steps through them: their signs (`below-zero`, `not-negative`), a negative number without its sign (`Flipped`,
 -- `flipped`), a sign put on (`minus-fits`, `minus-is`), and kept exponents (`biased-negative`, `biased-plain`, `biased-near`,
--- `unbiased-below`, `unbiased-above`, `unbiased-near`, `biased-unbiased`).
+-- `exponent-near`, `biased-exponent`).
 use mathlib.Core.Path.{_≡_, refl, ap, _∙_}
 use mathlib.Core.Bool.{true, false, true≢false, false≢true}
 use mathlib.Core.List.{List}
@@ -9,14 +9,14 @@ use native.Mathlib.Decide.{decLt}
 use native.Mathlib.Omega.{arith}
 use borrow.Author.Tests.{le-ltb, lt-ltb}
 use lib.Dec.{T}
-use lib.IntN.{ℤ, pos, negsuc, natAbs, negℤ, _+ℤ_, _-ℤ_, +ℤ-one, +ℤ-idl}
+use lib.IntN.{ℤ, pos, negsuc, natAbs, subℕ, negℤ, _+ℤ_, _-ℤ_, +ℤ-one, +ℤ-idl}
 use lib.ListN.{getD}
 use lib.Signed.{mag, ltZ, nonNeg}
 use mir.Syntax.{w64}
 use mir.Val.{SFits, toZ, ofZ}
 use mir.Facts.{toZ-ofZ}
 use Rattle.number.specs.Number.{bias}
-use Rattle.lists.specs.Items.{isNegative, biased, unbiased}
+use Rattle.lists.specs.Items.{isNegative, biased}
 
 -- what a local holds that was given a number
 pub held-is : {x y : ℤ} → SFits w64 x → x ≡ y → toZ w64 (ofZ w64 x) ≡ y
@@ -75,24 +75,16 @@ pub biased-near : (e : ℤ) → natAbs e ≤ 1000 → (bias ≤ biased e + 1000)
 biased-near (pos n) h = (omega arith, omega arith)
 biased-near (negsuc n) h = (omega arith, omega arith)
 
-pub unbiased-below : (x : ℕ) → x < bias → negℤ (pos (bias - x)) ≡ unbiased x
-unbiased-below x h =
-    let e : bias - x ≡ suc (bias - suc x) = omega arith in
-    simp (lt-ltb x bias h) (ap (λ (k : ℕ). negℤ (pos k)) e)
-
-pub unbiased-above : (x : ℕ) → bias ≤ x → pos (x - bias) ≡ unbiased x
-unbiased-above x h = simp (le-ltb x bias h)
-
-pub biased-unbiased : (x : ℕ) → biased (unbiased x) ≡ x
-biased-unbiased x = go (decLt x bias)
+pub biased-exponent : (x : ℕ) → biased (subℕ x bias) ≡ x
+biased-exponent x = go (decLt x bias)
   where
-    go : Dec (x < bias) → biased (unbiased x) ≡ x
+    go : Dec (x < bias) → biased (subℕ x bias) ≡ x
     go (yes h) = simp (lt-ltb x bias h) (omega arith)
     go (no h) = let l : bias ≤ x = omega arith in simp (le-ltb x bias l) (omega arith)
 
-pub unbiased-near : (x : ℕ) → bias ≤ x + 1000 → x ≤ bias + 1000 → natAbs (unbiased x) ≤ 1000
-unbiased-near x p q = go (decLt x bias)
+pub exponent-near : (x : ℕ) → bias ≤ x + 1000 → x ≤ bias + 1000 → natAbs (subℕ x bias) ≤ 1000
+exponent-near x p q = go (decLt x bias)
   where
-    go : Dec (x < bias) → natAbs (unbiased x) ≤ 1000
+    go : Dec (x < bias) → natAbs (subℕ x bias) ≤ 1000
     go (yes h) = simp (lt-ltb x bias h) (omega arith)
     go (no h) = let l : bias ≤ x = omega arith in simp (le-ltb x bias l) (omega arith)

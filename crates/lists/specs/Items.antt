@@ -5,10 +5,10 @@ use mathlib.Core.List.{List, [], _∷_, _++_}
 use mathlib.Core.Option.{Option, none, some}
 use Prim.Native.Nat.{ℕ, suc, _+_, _-_, _^_}
 use lib.Dec.{eqb, leb, ltb}
-use lib.IntN.{ℤ, pos, negsuc, natAbs, subℕ}
+use lib.IntN.{ℤ, pos, negsuc, natAbs}
 use lib.ListN.{length, replicate}
 use lib.Seq.{sets}
-use Rattle.number.specs.Number.{bias}
+use Rattle.number.specs.Number.{bias, exponentOf}
 use Rattle.number.specs.Signed.{zeroSigned}
 use Rattle.number.specs.declared.signed.Signed.{Signed}
 use Rattle.lists.specs.declared.items.Item.{Item}
@@ -19,13 +19,10 @@ abbrev pub isNegative : ℤ → Bool
 isNegative (pos n) = false
 isNegative (negsuc n) = true
 
--- an exponent e as it is kept, e + bias, and the exponent of a kept one
+-- an exponent e as it is kept, e + bias
 abbrev pub biased : ℤ → ℕ
 biased (pos n) = bias + n
 biased (negsuc n) = bias - suc n
-
-abbrev pub unbiased : ℕ → ℤ
-unbiased x = subℕ x bias
 
 -- a sign of 1 or -1, with a mantissa from 2 ^ 31 to 2 ^ 32 - 1 and an exponent from -1000 to 1000
 unfoldable pub storable : ℤ → ℤ → ℤ → Bool
@@ -58,7 +55,7 @@ abbrev pub signOf : Signed → ℤ
 signOf a = cond (isZero a) (pos 0) (cond (a .negative) (negsuc 0) (pos 1))
 
 abbrev pub itemNumbers : Signed → List ℤ
-itemNumbers a = signOf a ∷ pos (a .size .m) ∷ unbiased (a .size .x) ∷ []
+itemNumbers a = signOf a ∷ pos (a .size .m) ∷ exponentOf (a .size) ∷ []
 
 unfoldable pub listNumbers : List Signed → List ℤ
 listNumbers [] = []

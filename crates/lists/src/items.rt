@@ -7,13 +7,12 @@ ghost use lib.ListN.{length, getD, take};
 ghost use lib.Seq.{sets};
 ghost use Rattle.number.specs.Number.{reach};
 ghost use Rattle.number.specs.Signed.{SignedRanged};
-ghost use Rattle.lists.specs.Items.{biased, unbiased, blank, itemOf, listOf, listed, listedFrom, signOf, itemNumbers, listNumbers};
+ghost use Rattle.lists.specs.Items.{biased, blank, itemOf, listOf, listed, listedFrom, signOf, itemNumbers, listNumbers};
 ghost use Rattle.lists.specs.Carrying.{Working};
 use crate::whole;
+use number::BIAS;
 use number::Number;
 use number::signed::Signed;
-
-const BIAS: u64 = 4194304;
 
 // What three whole numbers are.
 pub enum Item {
@@ -28,6 +27,7 @@ pub struct Listed {
     pub items: [Signed; 8],
 }
 
+// An exponent as it is kept.
 fn biased(e: i64) -> u64
     requires { ⌜ natAbs e ≤ 1000 ⌝ }
     ensures { λ r. ⌜ r ≡ biased e ⌝ }
@@ -37,16 +37,6 @@ fn biased(e: i64) -> u64
         return BIAS - far;
     }
     BIAS + far
-}
-
-fn unbiased(x: u64) -> i64
-    requires { ⌜ x < 2 ^ 23 ⌝ }
-    ensures { λ r. ⌜ r ≡ unbiased x ⌝ }
-{
-    if x < BIAS {
-        return whole::minus(BIAS - x);
-    }
-    whole::plus(x - BIAS)
 }
 
 // The item of sign s, mantissa m and exponent e.
@@ -180,7 +170,7 @@ fn put(a: Signed, out: &mut [i64], at: usize)
     let s = sign(a);
     let size = a.size;
     let m = whole::plus(size.m);
-    let e = unbiased(size.x);
+    let e = size.exponent();
     out[at] = s;
     out[at + 1] = m;
     out[at + 2] = e;

@@ -4,6 +4,7 @@ use Prim.Native.Nat.{ℕ, _+_, _-_, _*_, _/_, _^_, _≤_, _<_, min}
 use mathlib.Core.Path.{_≡_}
 use mathlib.Core.Bool.{Bool, cond, _&&_}
 use lib.Dec.{eqb, leb}
+use lib.IntN.{ℤ, subℕ}
 use lib.Pow.{pow-pos}
 use lib.Ieee.{size}
 use lib.Ieee.Nearest.{closest}
@@ -49,6 +50,10 @@ quotientOf a b = round (a .m) (b .m) (a .x + bias - b .x)
 -- the rounded rule's arithmetic
 abbrev pub rounded : Arithmetic
 rounded = record { Num = Number; zero = zeroNumber; one = oneNumber; add = sumOf; mul = productOf; div = quotientOf }
+
+-- the exponent e, which is kept as e + bias
+abbrev pub exponentOf : Number → ℤ
+exponentOf a = subℕ (a .x) bias
 
 -- the fraction m × 2 ^ e that a number stands for
 unfoldable pub value : Number → Fraction

@@ -3,13 +3,13 @@
 ghost use mathlib.Core.Path.{_≡_};
 ghost use mathlib.Core.Bool.{false};
 ghost use Prim.Native.Nat.{_+_, _-_, _*_, _^_, _≤_, _<_};
-ghost use Rattle.number.specs.Number.{zeroNumber, oneNumber, carried, round, sumOf, productOf, quotientOf, Ranged, reach, inRange};
+ghost use Rattle.number.specs.Number.{zeroNumber, oneNumber, carried, round, sumOf, productOf, quotientOf, Ranged, reach, exponentOf, inRange};
 ghost use Rattle.number.specs.Signed.{below, differenceOf};
 
 pub mod signed; // signed.rt: numbers with a sign
 
 // The exponent 0.
-const BIAS: u64 = 4194304;
+pub const BIAS: u64 = 4194304;
 
 // m times 2 to the power x - BIAS. Zero has m 0 and x BIAS.
 #[repr(C)]
@@ -138,6 +138,14 @@ impl Number {
             m: 0x8000_0000,
             x: BIAS - 31,
         }
+    }
+
+    // The exponent, as it is answered.
+    pub fn exponent(self) -> i64
+        requires { ⌜ self .x < 2 ^ 32 ⌝ }
+        ensures { λ r. ⌜ r ≡ exponentOf self ⌝ }
+    {
+        self.x as i64 - BIAS as i64
     }
 
     // Whether the exponent may be stored: from -1000 to 1000.

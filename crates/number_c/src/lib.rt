@@ -2,12 +2,11 @@
 ghost use mathlib.Core.Path.{_≡_};
 ghost use mathlib.Core.Bool.{_&&_};
 ghost use Rattle.number_c.specs.Answer.{usable, refused, numberOf, signedOf, itemOf, addAnswer, mulAnswer, divAnswer};
+use number::BIAS;
 use number::Number;
 use number::signed::Signed;
 
-// The exponent 0, and how far the operands' exponents may lie from it.
-const BIAS: u64 = 4194304;
-
+// How far the operands' exponents may lie from 0.
 const REACH: u64 = 2097088;
 
 // m times 2 to the power x - BIAS, with a sign. Zero has m 0 and x BIAS, and is not negative.

@@ -7,7 +7,7 @@ use lib.Dec.{leb}
 use borrow.Author.Tests.{leb-true}
 use mathlib.Core.List.{List, [], _∷_, _++_}
 use Rattle.number.specs.declared.Number.{Number}
-use Rattle.number.specs.Number.{bias, rounded, inRange, Stored}
+use Rattle.number.specs.Number.{bias, rounded, inRange, Stored, exponentOf}
 use Rattle.rowset.specs.Mask.{maskCount}
 use Rattle.words.specs.Sources.{Each}
 use Rattle.words.specs.RowSet.{ofMask}
@@ -18,7 +18,6 @@ use Rattle.places.specs.declared.Shelf.{Shelf}
 use Rattle.places.specs.declared.Refusal.{Refusal}
 use Rattle.places.specs.declared.Verdict.{Verdict}
 use Rattle.places.specs.declared.Verdict.the-variants.{Accepted, Refused}
-use Rattle.places.specs.Table.{exponentOf}
 use Rattle.places.specs.Shelf.{rowsAt, tableAt, Good}
 use Rattle.places.specs.Refusal.{firstOf, orElse, when, refused, unfit, sourceTests}
 use Rattle.places.proofs.Verdicts.{first-append, first-last, Source, Fit}

@@ -2,13 +2,12 @@
 use mathlib.Core.List.{List, [], _∷_}
 use Prim.Native.Nat.{ℕ}
 use Rattle.number.specs.declared.Number.{Number}
-use Rattle.number.specs.Number.{oneNumber}
+use Rattle.number.specs.Number.{oneNumber, exponentOf}
 use Rattle.number.specs.Examples.{Row, row}
 use Rattle.words.specs.Word.{Factors}
 use Rattle.words.specs.Operation.{rowByRow}
 use Rattle.words.specs.Examples.{ones, half, threeHalves, two, five, large}
 use Rattle.places.specs.declared.Shelf.{Shelf}
-use Rattle.places.specs.Table.{exponentOf}
 use Rattle.places.specs.Shelf.{factorsAt, holding, emptyShelf}
 use Rattle.operations.specs.declared.Bounded.{Bounded}
 use Rattle.operations.specs.declared.Bounded.the-variants.{Bound, Refused}

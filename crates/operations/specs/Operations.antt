@@ -5,7 +5,7 @@ use mathlib.Core.Bool.{not, cond}
 use mathlib.Core.List.{List, [], _∷_, _++_}
 use lib.ListN.{replicate}
 use Rattle.number.specs.declared.Number.{Number}
-use Rattle.number.specs.Number.{zeroNumber, rounded, inRange}
+use Rattle.number.specs.Number.{zeroNumber, rounded, inRange, exponentOf}
 use Rattle.words.specs.RowSet.{ofMask}
 use Rattle.words.specs.Word.{Factors, word, exchanged}
 use Rattle.words.specs.Walk.{minor}
@@ -16,7 +16,7 @@ use Rattle.places.specs.declared.Refusal.{Refusal}
 use Rattle.places.specs.declared.Verdict.{Verdict}
 use Rattle.places.specs.declared.Verdict.the-variants.{Accepted, Refused}
 use Rattle.walk.specs.Table.{tableOf}
-use Rattle.places.specs.Table.{outside, exponentOf}
+use Rattle.places.specs.Table.{outside}
 use Rattle.places.specs.Shelf.{rowsAt, factorsAt, withTable, Fits}
 use Rattle.places.specs.Refusal.{firstOf, when, unfit, sourceTests, oneSource, twoSources}
 use Rattle.operations.specs.declared.Bounded.{Bounded}

@@ -127,6 +127,6 @@ pub fn minor(shelf: Shelf, place: usize, rows: u8, columns: u8) -> Valued
     }
     Valued::Value {
         mantissa: a.m,
-        exponent: places::exponent(a.x),
+        exponent: a.exponent(),
     }
 }

@@ -1,11 +1,10 @@
--- Tables beside those of the walk: factors that stand one behind the other (`squareOf`), exponents outside the stored range (`outside`), and as they are answered (`exponentOf`).
+-- Tables beside those of the walk: factors that stand one behind the other (`squareOf`), and exponents outside the stored range (`outside`).
 use Prim.Native.Nat.{ℕ, _+_, _-_, _*_}
 use mathlib.Core.Bool.{Bool, false, not, _||_}
 use mathlib.Core.List.{List, [], _∷_}
-use lib.IntN.{ℤ, subℕ}
 use lib.ListN.{getD}
 use Rattle.number.specs.declared.Number.{Number}
-use Rattle.number.specs.Number.{bias, zeroNumber, inRange}
+use Rattle.number.specs.Number.{zeroNumber, inRange}
 use Rattle.words.specs.Word.{Factors}
 
 -- the factors of a matrix of n rows that stand one behind the other, row by row
@@ -16,7 +15,3 @@ squareOf n L i j = getD L ((i - 1) * n + (j - 1)) zeroNumber
 unfoldable pub outside : List Number → Bool
 outside [] = false
 outside (a ∷ L) = not (inRange a) || outside L
-
--- an exponent e, which is kept as e + bias
-abbrev pub exponentOf : Number → ℤ
-exponentOf a = subℕ (a .x) bias

@@ -4,10 +4,8 @@ ghost use mathlib.Core.Bool.{true};
 ghost use Rattle.places.specs.Shelf.{Good};
 ghost use Rattle.places.specs.Check.{isStored, isZero, sound, fewRows, soundNumbers, isGood};
 use crate::Shelf;
+use number::BIAS;
 use number::Number;
-
-// The exponent 0.
-const BIAS: u64 = 4194304;
 
 // A mantissa of 32 bits, and an exponent from -1000 to 1000.
 fn stored(a: Number) -> bool

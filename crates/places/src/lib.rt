@@ -1,17 +1,12 @@
 // The shelf: eight places, each empty or holding a matrix. It goes in by value and comes back; what a place holds is read and put here.
 ghost use mathlib.Core.Path.{_≡_};
-ghost use Prim.Native.Nat.{_^_, _<_};
-ghost use lib.IntN.{subℕ};
-ghost use Rattle.number.specs.Number.{bias};
+ghost use Prim.Native.Nat.{_<_};
 ghost use Rattle.places.specs.Shelf.{rowsAt, tableAt, withTable, emptyShelf, Fits, Good};
 use number::Number;
 
 pub mod check; // check.rt: the test of a shelf that nothing vouches for
 pub mod judge; // judge.rt: the tests of the calls
 pub mod tables; // tables.rt: the 64 numbers of a place
-
-// The exponent 0, as it is kept.
-const BIAS: i64 = 4194304;
 
 // Eight places of 64 numbers each, and the rows of the matrix at each, 0 where the place is empty.
 #[repr(C)]
@@ -81,12 +76,4 @@ pub fn with_table(shelf: Shelf, place: usize, n: usize, t: [Number; 64]) -> Shel
     }
     left.sizes[place] = n as u8;
     left
-}
-
-// The exponent of a number that keeps it as x.
-pub fn exponent(x: u64) -> i64
-    requires { ⌜ x < 2 ^ 32 ⌝ }
-    ensures { λ r. ⌜ r ≡ subℕ x bias ⌝ }
-{
-    x as i64 - BIAS
 }

@@ -5,11 +5,9 @@ ghost use mathlib.Core.List.{[]};
 ghost use Prim.Native.Nat.{_*_, _^_, _≤_, _<_};
 ghost use lib.ListN.{length, take};
 ghost use Rattle.reader.specs.Matrix.{Reading, itemAt, ItemInside, mantissaAt, judged, factorAt, FactorInside, factorsFrom, parsed, matrixOf, OutcomeInside, behindOf};
+use number::BIAS;
 use number::Number;
 use writer::CODE_ZERO;
-
-// The exponent 0, as it is kept.
-const BIAS: u64 = 4194304;
 
 // A group number of the input, with the offset behind it.
 enum Item {

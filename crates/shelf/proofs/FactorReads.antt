@@ -10,11 +10,10 @@ use lib.IntN.{ℤ}
 use lib.ListN.{length, getD, List·getD-eq-default}
 use borrow.Author.Tests.{le-leb}
 use Rattle.number.specs.declared.Number.{Number}
-use Rattle.number.specs.Number.{zeroNumber, Stored}
+use Rattle.number.specs.Number.{zeroNumber, Stored, exponentOf}
 use Rattle.words.specs.RowSet.{In}
 use Rattle.walk.specs.Table.{absent, factorsOf}
 use Rattle.places.specs.declared.Shelf.{Shelf}
-use Rattle.places.specs.Table.{exponentOf}
 use Rattle.places.specs.Shelf.{rowsAt, tableAt, factorsAt, Good}
 use Rattle.places.proofs.Filled.{read-any}
 use Rattle.places.proofs.Table.{table-length}

@@ -6,7 +6,7 @@ use lib.Dec.{ltb, leb}
 use lib.ListN.{length}
 use lib.Seq.{sets}
 use Rattle.number.specs.declared.Number.{Number}
-use Rattle.number.specs.Number.{zeroNumber}
+use Rattle.number.specs.Number.{zeroNumber, exponentOf}
 use Rattle.words.specs.Operation.{rowByRow}
 use Rattle.writer.specs.Encoding.{encoding}
 use Rattle.reader.specs.Matrix.{Reading, matrix, fault, matrixOf}
@@ -17,7 +17,7 @@ use Rattle.shelf.specs.declared.Changed.{Changed}
 use Rattle.shelf.specs.declared.Factor.{Factor}
 use Rattle.shelf.specs.declared.Written.{Written}
 use Rattle.shelf.specs.declared.Written.the-variants as write
-use Rattle.places.specs.Table.{squareOf, exponentOf}
+use Rattle.places.specs.Table.{squareOf}
 use Rattle.places.specs.Shelf.{rowsAt, factorsAt, holding, without}
 use Rattle.places.specs.Refusal.{firstOf, after, when, refused, sourceTests, targetTests}
 

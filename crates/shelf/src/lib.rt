@@ -183,6 +183,6 @@ pub fn factor_at(shelf: Shelf, place: usize, i: usize, j: usize) -> Factor
     let a = t[(i - 1) * 8 + (j - 1)];
     Factor {
         mantissa: a.m,
-        exponent: places::exponent(a.x),
+        exponent: a.exponent(),
     }
 }

@@ -6,9 +6,8 @@ use mathlib.Core.Path.{_≡_, sym, ap, ap₂, _∙_}
 use mathlib.Core.Bool.{true}
 use lib.IntN.{ℤ}
 use Rattle.number.specs.declared.Number.{Number}
-use Rattle.number.specs.Number.{inRange}
+use Rattle.number.specs.Number.{inRange, exponentOf}
 use Rattle.places.specs.declared.Verdict.the-variants.{Accepted}
-use Rattle.places.specs.Table.{exponentOf}
 use Rattle.places.specs.Shelf.{rowsAt, Good}
 use Rattle.places.specs.Refusal.{firstOf, when, unfit, sourceTests}
 use Rattle.places.proofs.Verdicts.{Source, Fit, source-accepted, sets-accepted}
@@ -27,7 +26,7 @@ use Rattle.places.proofs.judge.source.Reads as source-reads
 use Rattle.places.proofs.rows_at.Reads as rows-at-reads
 use Rattle.places.proofs.table_at.Reads as table-at-reads
 use Rattle.rowset.proofs.wide.Reads as wide-reads
-use Rattle.places.proofs.exponent.Reads as exponent-reads
+use Rattle.number.proofs.Number.exponent.Reads as exponent-reads
 use Rattle.operations.proofs.value.minor.Reads as minor-reads
 
 -- the places on the way: entry, the source accepted, the sets judged, the sets accepted

@@ -14,7 +14,7 @@ use Rattle.shelf.proofs.factor_at.Statement.{statement}
 use Rattle.shelf.proofs.factor_at.Tie as tie
 use Rattle.shelf.proofs.factor_at.Reads as reads
 use Rattle.shelf.proofs.factor_at.Lts as lts
-use Rattle.places.proofs.exponent.Reads as exponent-reads
+use Rattle.number.proofs.Number.exponent.Reads as exponent-reads
 use Rattle.places.proofs.rows_at.Reads as rows-at-reads
 use Rattle.places.proofs.table_at.Reads as table-at-reads
 

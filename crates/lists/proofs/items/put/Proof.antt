@@ -14,8 +14,8 @@ sign-requires c κs = search needs
 plus-requires : tie.Need-plus-requires
 plus-requires c κs = search needs
 
-unbiased-requires : tie.Need-unbiased-requires
-unbiased-requires c κs = search needs
+exponent-requires : tie.Need-exponent-requires
+exponent-requires c κs = search needs
 
 mul-s : tie.Need-mul-s
 mul-s c = search needs
@@ -50,7 +50,7 @@ returns c =
     put-is (now (b .args .out)) (b .args .at) _ _ _ _ _ _
     (held-is (record { sfits = c .before .before .before .sign .ok }) (c .before .before .before .sign .ensures))
     (held-is (record { sfits = c .before .plus .ok }) (c .before .plus .ensures))
-    (held-is (record { sfits = c .unbiased .ok }) (c .unbiased .ensures))
+    (held-is (record { sfits = c .exponent .ok }) (c .exponent .ensures))
 
 pub put-spec : {M : Type 1} → statement M
 put-spec =
@@ -58,7 +58,7 @@ put-spec =
     (tie.spec
     sign-requires
     plus-requires
-    unbiased-requires
+    exponent-requires
     mul-s
     slice-set-from-s
     add-m
