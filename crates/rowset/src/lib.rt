@@ -1,6 +1,7 @@
 // Row sets as masks of eight bits, bit 0 for row 1, by shifts and masks.
 pub mod sets; // sets.rt: the sets of k rows, one after the other
-mod table; // table.rt: positions and sets
+mod set_table; // set_table.rt: the tables of these sets
+mod table; // table.rt: positions
 
 use table::POSITION;
 ghost use mathlib.Core.Path.{_≡_};

@@ -4,9 +4,9 @@ ghost use mathlib.Core.Bool.{true};
 ghost use Prim.Native.Nat.{_-_, _^_, _≤_, _<_, min};
 ghost use Rattle.rowset.specs.Mask.{countBelow};
 ghost use Rattle.rowset.specs.Sets.{adjacent, partedOf, SetAt, ChangedAt};
-use crate::table::FIRST;
-use crate::table::SETS;
-use crate::table::SETS_OF;
+use crate::set_table::FIRST;
+use crate::set_table::SETS;
+use crate::set_table::SETS_OF;
 use crate::wide;
 
 // How many sets of k rows there are of n rows.
