@@ -1,5 +1,7 @@
 // The answer to a line: the call that it asks for, or that it is no request.
+ghost use Rattle.lines.specs.Text.{Puts};
 ghost use Rattle.places.specs.Shelf.{Good};
+ghost use Rattle.answers.specs.Answers.{badText};
 use crate::calls;
 use crate::request;
 use crate::request::Call;
@@ -32,8 +34,10 @@ fn mask(n: u64) -> u8 {
     (n % 256) as u8
 }
 
-pub fn bad(out: &mut [u8], at: usize) -> usize {
-    lines::put(out, at, b"bad request")
+pub fn bad(out: &mut [u8], at: usize) -> usize
+    ensures { λ r. ⌜ Puts (now (out .entry)) at badText (now (out .exit)) r ⌝ }
+{
+    answers::put_bad(out, at)
 }
 
 fn changed(now: Changed, done: &[u8], out: &mut [u8], at: usize) -> Answered
@@ -42,7 +46,7 @@ fn changed(now: Changed, done: &[u8], out: &mut [u8], at: usize) -> Answered
 {
     let shelf = now.shelf;
     let verdict = now.verdict;
-    after(shelf, calls::put_verdict(out, at, verdict, done))
+    after(shelf, answers::put_verdict(out, at, verdict, done))
 }
 
 fn load(shelf: Shelf, place: usize, bytes: &[u8], out: &mut [u8], at: usize) -> Answered
@@ -83,7 +87,7 @@ fn operated(shelf: Shelf, operation: Operation, v: [u64; 4], out: &mut [u8], at:
     let now = operate(shelf, operation, v);
     let kept = now.shelf;
     let answer = now.answer;
-    after(kept, calls::put_bounded(out, at, answer))
+    after(kept, answers::put_bounded(out, at, answer))
 }
 
 // The first bytes of a buffer, and the first items of a list.
