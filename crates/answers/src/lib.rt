@@ -14,6 +14,7 @@ mod items; // items.rt: list items
 mod matrix; // matrix.rt: what a place holds
 
 pub use items::put_items;
+pub use matrix::put_factor;
 pub use matrix::put_place;
 
 // A whole number with its sign.

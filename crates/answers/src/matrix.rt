@@ -8,7 +8,7 @@ use shelf::Factor;
 use shelf::Shelf;
 
 // A factor, behind a space.
-fn put_factor(out: &mut [u8], at: usize, factor: Factor) -> usize
+pub fn put_factor(out: &mut [u8], at: usize, factor: Factor) -> usize
     ensures { λ r. ⌜ Puts (now (out .entry)) at (factorText factor) (now (out .exit)) r ⌝ }
 {
     let number = lines::put(out, at, b" ");
