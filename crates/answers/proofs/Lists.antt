@@ -10,11 +10,7 @@ use lib.Seq.{drop-cons}
 use Rattle.lines.specs.Ascii.{ascii}
 use Rattle.lines.specs.Text.{Puts}
 use Rattle.lines.proofs.Text.{Left, left-all, left-none, left-behind}
-use Rattle.answers.specs.Items.{itemText, moreItems, itemsText}
-
--- the item whose numbers stand from index k on
-abbrev pub itemAt : List ℤ → ℕ → List ℕ
-itemAt L k = itemText (getD L k (pos 0)) (getD L (k + 1) (pos 0)) (getD L (k + 2) (pos 0))
+use Rattle.answers.specs.Items.{itemAt, moreItems, itemsText}
 
 pub items-none : (L : List ℤ) → length L < 3 → itemsText L ≡ ascii "-"
 unfolding itemsText
