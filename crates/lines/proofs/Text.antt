@@ -1,4 +1,4 @@
--- Text put one piece behind the other (`puts-behind`), and a byte at a time (`Put`).
+-- Text put one piece behind the other (`puts-behind`, and in a loop `Left`), and a byte at a time (`Put`).
 use Prim.Native.Nat.{ℕ, suc, _+_, _-_, _≤_, _<_, min}
 use native.Mathlib.Numerals.{add-one}
 use native.Mathlib.Decide.{decLe}
@@ -8,6 +8,7 @@ use mathlib.Core.Path.{_≡_, refl, sym, _∙_}
 use mathlib.Core.List.{List, [], _∷_, _++_}
 use lib.ListN.{length, getD, drop, set, length-append, length-set, drop-of-length-le}
 use lib.Seq.{drop-cons, sets, set-out, length-sets}
+use Rattle.lines.specs.Ascii.{ascii}
 use Rattle.lines.specs.Text.{indexAfter, Puts, pairText, pairsText, bytesText}
 
 pub sets-out : (vs l : List ℕ) (i : ℕ) → length l ≤ i → sets l i vs ≡ l
@@ -42,7 +43,26 @@ pub puts-behind : {a b out out′ out″ : List ℕ} {at to to′ : ℕ} → Put
 puts-behind {a} {b} {out} {at = at} p q =
     record { index = q .index ∙ rw (p .index, p .bytes) (index-behind a b out at); bytes = q .bytes ∙ rw (p .index, p .bytes) (sets-behind a b out at) }
 
-pub bytes-none : (s : List ℕ) → length s ≡ 0 → bytesText s ≡ 45 ∷ []
+-- what is left to be put of a text: behind what was put, it completes the text
+pub record Left (out₀ : List ℕ) (at : ℕ) (text out : List ℕ) (to : ℕ) (rest : List ℕ) : Type 0 where
+  pub kept : length out ≡ length out₀
+  pub completes : {out′ : List ℕ} {to′ : ℕ} → Puts out to rest out′ to′ → Puts out₀ at text out′ to′
+
+pub left-all : (out : List ℕ) (at : ℕ) (text : List ℕ) → Left out at text out at text
+left-all out at text = record { kept = refl; completes = λ q. q }
+
+puts-none : (out : List ℕ) (at : ℕ) → Puts out at [] out at
+unfolding indexAfter
+puts-none out at = record { index = omega arith; bytes = refl }
+
+module _ {out₀ : List ℕ} {at : ℕ} {text out : List ℕ} {to : ℕ} where
+  pub left-none : Left out₀ at text out to [] → Puts out₀ at text out to
+  left-none p = p .completes (puts-none out to)
+
+  pub left-behind : {a b out′ : List ℕ} {to′ : ℕ} → Left out₀ at text out to (a ++ b) → Puts out to a out′ to′ → Left out₀ at text out′ to′ b
+  left-behind p q = record { kept = rw (q .bytes, length-sets) (p .kept); completes = λ r. p .completes (puts-behind q r) }
+
+pub bytes-none : (s : List ℕ) → length s ≡ 0 → bytesText s ≡ ascii "-"
 bytes-none [] e = refl
 bytes-none (b ∷ s) e = absurd (omega arith)
 
@@ -90,27 +110,14 @@ pairs-none = refl
 
 pub record Spelt (out₀ : List ℕ) (at : ℕ) (s out : List ℕ) (to i : ℕ) : Type 0 where
   pub within : i ≤ length s
-  pub kept : length out ≡ length out₀
-  pub index : indexAfter out₀ at (pairsText s) ≡ indexAfter out to (pairsText (drop i s))
-  pub same : sets out₀ at (pairsText s) ≡ sets out to (pairsText (drop i s))
+  pub left : Left out₀ at (pairsText s) out to (pairsText (drop i s))
 
 pub spelt-none : (out : List ℕ) (at : ℕ) (s : List ℕ) → Spelt out at s out at 0
-spelt-none out at s = record { within = omega arith; kept = refl; index = refl; same = refl }
-
-index-none : (out : List ℕ) (at : ℕ) → indexAfter out at [] ≡ at
-unfolding indexAfter
-index-none out at = omega arith
+spelt-none out at s = record { within = omega arith; left = left-all out at (pairsText s) }
 
 module _ {out₀ : List ℕ} {at : ℕ} {s out : List ℕ} {to i : ℕ} (p : Spelt out₀ at s out to i) where
   pub spelt-end : length s ≤ i → Puts out₀ at (pairsText s) out to
-  spelt-end h =
-      record { index = sym (p .index ∙ rw (drop-of-length-le s h, pairs-none, index-none)); bytes = sym (p .same ∙ rw (drop-of-length-le s h, pairs-none)) }
+  spelt-end h = left-none (rw (drop-of-length-le s h, pairs-none) at (p .left))
 
   pub spelt-more : (h : i < length s) (out′ : List ℕ) (to′ : ℕ) → Puts out to (pairText (getD s i 0)) out′ to′ → Spelt out₀ at s out′ to′ (i + 1)
-  spelt-more h out′ to′ q =
-      record {
-        within = omega arith;
-        kept = rw (q .bytes, length-sets) (p .kept);
-        index = p .index ∙ rw (pairs-at s i h, q .index, q .bytes) (sym (index-behind (pairText (getD s i 0)) (pairsText (drop (i + 1) s)) out to));
-        same = p .same ∙ rw (pairs-at s i h, q .index, q .bytes) (sym (sets-behind (pairText (getD s i 0)) (pairsText (drop (i + 1) s)) out to));
-      }
+  spelt-more h out′ to′ q = record { within = omega arith; left = left-behind (rw (pairs-at s i h) at (p .left)) q }

@@ -1,4 +1,5 @@
 pub mod Words
 pub mod Decimal
 pub mod Hexadecimal
+pub mod Ascii
 pub mod Text

@@ -7,6 +7,7 @@ use lib.Dec.{ltb}
 use lib.ListN.{length}
 use lib.Seq.{sets}
 use Rattle.io.specs.Digits.{glyph}
+use Rattle.lines.specs.Ascii.{ascii}
 
 -- the index behind text that was put at an index: what has no room is left out
 unfoldable pub indexAfter : List ℕ → ℕ → List ℕ → ℕ
@@ -27,7 +28,7 @@ abbrev pub decimal : ℕ → List ℕ
 decimal n = decimalIn 20 n
 
 abbrev pub signedText : Bool → ℕ → List ℕ
-signedText true n = 45 ∷ decimal n
+signedText true n = ascii "-" ++ decimal n
 signedText false n = decimal n
 
 -- a byte's two digits
@@ -40,5 +41,5 @@ pairsText (b ∷ s) = pairText b ++ pairsText s
 
 -- bytes in hexadecimal, `-` for none
 abbrev pub bytesText : List ℕ → List ℕ
-bytesText [] = 45 ∷ []
+bytesText [] = ascii "-"
 bytesText (b ∷ s) = pairsText (b ∷ s)

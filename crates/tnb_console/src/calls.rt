@@ -1,81 +1,65 @@
 // Each call that a request asks for, with its answer put into the output.
+ghost use mathlib.Core.Path.{_≡_};
+ghost use Prim.Native.Nat.{min};
+ghost use Rattle.lines.specs.Text.{Puts};
+ghost use Rattle.reader.specs.Matrix.{behindOf};
 ghost use Rattle.places.specs.Shelf.{Good};
+ghost use Rattle.operations.specs.Operations.{minorCall};
+ghost use Rattle.shelf.specs.ListCalls.{reversalsCall};
+ghost use Rattle.answers.specs.Answers.{valuedText, reversalsText, restText};
+ghost use Rattle.tnb_console.specs.Calls.{lent, lentBytes, lentItems, writeText, carryText, showText};
 use crate::items;
-use shelf::Bounded;
-use shelf::Factor;
 use shelf::Refusal;
-use shelf::Reversals;
 use shelf::Shelf;
-use shelf::Valued;
-use shelf::Verdict;
-use shelf::Written;
 
-// A call that only changes the shelf: `done` where it was accepted.
-pub fn put_verdict(out: &mut [u8], at: usize, verdict: Verdict, done: &[u8]) -> usize {
-    match verdict {
-        Verdict::Accepted => lines::put(out, at, done),
-        Verdict::Refused(why) => answers::put_refusal(out, at, why),
+// How many bytes or items are lent where so many were asked for.
+fn lent(count: usize) -> usize
+    ensures { λ r. ⌜ r ≡ lent count ⌝ }
+{
+    if 512 < count {
+        return 512;
     }
-}
-
-pub fn put_bounded(out: &mut [u8], at: usize, answer: Bounded) -> usize {
-    match answer {
-        Bounded::Bound(k) => {
-            let number = lines::put(out, at, b"bound ");
-            lines::put_whole(out, number, k as u64)
-        }
-        Bounded::Refused(why) => answers::put_refusal(out, at, why),
-    }
-}
-
-fn put_written(out: &mut [u8], at: usize, answer: Written) -> usize {
-    match answer {
-        Written::Length(n) => {
-            let length = lines::put(out, at, b"wrote ");
-            lines::put_whole(out, length, n as u64)
-        }
-        Written::Refused(why) => answers::put_refusal(out, at, why),
-    }
+    count
 }
 
 // Writes a place to lent bytes, which the answer ends with.
-fn write_to(shelf: Shelf, place: usize, lent: &mut [u8], out: &mut [u8], at: usize) -> usize
+fn write_to(shelf: Shelf, place: usize, bytes: &mut [u8], out: &mut [u8], at: usize) -> usize
     requires { ⌜ Good shelf ⌝ }
+    ensures { λ r. ⌜ Puts (now (out .entry)) at (writeText shelf place (now (bytes .entry))) (now (out .exit)) r ⌝ }
 {
-    let written = shelf::write(shelf, place, lent);
-    let space = put_written(out, at, written);
+    let written = shelf::write(shelf, place, bytes);
+    let space = answers::put_written(out, at, written);
     let buffer = lines::put(out, space, b" ");
-    lines::put_bytes(out, buffer, lent)
+    lines::put_bytes(out, buffer, bytes)
 }
 
 // Lends so many bytes, each a5.
 pub fn write(shelf: Shelf, place: usize, count: usize, out: &mut [u8], at: usize) -> usize
     requires { ⌜ Good shelf ⌝ }
+    ensures { λ r. ⌜ Puts (now (out .entry)) at (writeText shelf place (lentBytes (lent count))) (now (out .exit)) r ⌝ }
 {
-    let mut bytes = [0xa5u8; 512];
-    let lent: &mut [u8] = &mut bytes;
-    if lent.len() < count {
-        return at;
-    }
-    write_to(shelf, place, &mut lent[0..count], out, at)
+    let mut memory = [0xa5u8; 512];
+    let bytes: &mut [u8] = &mut memory;
+    let n = lent(count);
+    write_to(shelf, place, &mut bytes[0..n], out, at)
 }
 
-// Carries a list into a lent one, which the answer ends with.
+// Carries a list into lent items, which the answer ends with.
 fn carry_to(
     shelf: Shelf,
     place: usize,
     list: &[i64],
-    lent: &mut [i64],
+    items: &mut [i64],
     out: &mut [u8],
     at: usize,
 ) -> usize
     requires { ⌜ Good shelf ⌝ }
+    ensures { λ r. ⌜ Puts (now (out .entry)) at (carryText shelf place (now (list .entry)) (now (items .entry))) (now (out .exit)) r ⌝ }
 {
-    items::fill(lent);
-    let verdict = shelf::carry(shelf, place, list, lent);
-    let space = put_verdict(out, at, verdict, b"carried");
+    let verdict = shelf::carry(shelf, place, list, items);
+    let space = answers::put_verdict(out, at, verdict, b"carried");
     let buffer = lines::put(out, space, b" ");
-    items::put(out, buffer, lent)
+    answers::put_items(out, buffer, items)
 }
 
 // Lends so many items.
@@ -88,93 +72,40 @@ pub fn carry(
     at: usize,
 ) -> usize
     requires { ⌜ Good shelf ⌝ }
+    ensures { λ r. ⌜ Puts (now (out .entry)) at (carryText shelf place (now (list .entry)) (lentItems (lent count))) (now (out .exit)) r ⌝ }
 {
-    let mut numbers = [0i64; 1536];
-    let lent: &mut [i64] = &mut numbers;
-    if lent.len() / 3 < count {
-        return at;
-    }
-    carry_to(shelf, place, list, &mut lent[0..count * 3], out, at)
-}
-
-fn put_value(out: &mut [u8], at: usize, mantissa: u64, exponent: i64) -> usize {
-    let number = lines::put(out, at, b"number ");
-    answers::put_number(out, number, mantissa, exponent)
+    let mut memory = [0i64; 1536];
+    let numbers: &mut [i64] = &mut memory;
+    items::fill(numbers);
+    let n = lent(count);
+    carry_to(shelf, place, list, &mut numbers[0..n * 3], out, at)
 }
 
 pub fn minor(shelf: Shelf, place: usize, rows: u8, columns: u8, out: &mut [u8], at: usize) -> usize
     requires { ⌜ Good shelf ⌝ }
+    ensures { λ r. ⌜ Puts (now (out .entry)) at (valuedText (minorCall shelf place rows columns)) (now (out .exit)) r ⌝ }
 {
     let answer = shelf::minor(shelf, place, rows, columns);
-    match answer {
-        Valued::Value { mantissa, exponent } => put_value(out, at, mantissa, exponent),
-        Valued::Refused(why) => answers::put_refusal(out, at, why),
-    }
+    answers::put_valued(out, at, answer)
 }
 
-pub fn reversals(list: &[i64], out: &mut [u8], at: usize) -> usize {
+pub fn reversals(list: &[i64], out: &mut [u8], at: usize) -> usize
+    ensures { λ r. ⌜ Puts (now (out .entry)) at (reversalsText (reversalsCall (now (list .entry)))) (now (out .exit)) r ⌝ }
+{
     let answer = shelf::count_reversals(list);
-    match answer {
-        Reversals::Count(n) => {
-            let number = lines::put(out, at, b"reversals ");
-            lines::put_whole(out, number, n)
-        }
-        Reversals::Refused(why) => answers::put_refusal(out, at, why),
-    }
+    answers::put_reversals(out, at, answer)
 }
 
-pub fn rest(bytes: &[u8], out: &mut [u8], at: usize) -> usize {
-    let part = lines::put(out, at, b"rest ");
-    lines::put_bytes(out, part, shelf::behind(bytes))
-}
-
-// A factor, behind a space.
-fn put_factor(out: &mut [u8], at: usize, factor: Factor) -> usize {
-    let number = lines::put(out, at, b" ");
-    answers::put_number(out, number, factor.mantissa, factor.exponent)
-}
-
-// The factor at a cell of eight rows of eight, if n rows have it.
-fn put_cell(out: &mut [u8], at: usize, shelf: Shelf, place: usize, n: usize, k: usize) -> usize
-    requires { ⌜ Good shelf ⌝ }
+pub fn rest(bytes: &[u8], out: &mut [u8], at: usize) -> usize
+    ensures { λ r. ⌜ Puts (now (out .entry)) at (restText (behindOf (now (bytes .entry)))) (now (out .exit)) r ⌝ }
 {
-    let i = k / 8;
-    let j = k % 8;
-    if n <= i {
-        return at;
-    }
-    if n <= j {
-        return at;
-    }
-    put_factor(out, at, shelf::factor_at(shelf, place, i + 1, j + 1))
-}
-
-// The factors of n rows, row by row.
-fn put_factors(out: &mut [u8], at: usize, shelf: Shelf, place: usize, n: usize) -> usize
-    requires { ⌜ Good shelf ⌝ }
-{
-    let mut to = at;
-    for k in 0..64usize {
-        to = put_cell(out, to, shelf, place, n, k);
-    }
-    to
-}
-
-fn put_matrix(out: &mut [u8], at: usize, shelf: Shelf, place: usize) -> usize
-    requires { ⌜ Good shelf ⌝ }
-{
-    let n = shelf::rows_at(shelf, place);
-    if n == 0 {
-        return lines::put(out, at, b"empty");
-    }
-    let number = lines::put(out, at, b"matrix ");
-    let first = lines::put_whole(out, number, n as u64);
-    put_factors(out, first, shelf, place, n)
+    answers::put_rest(out, at, shelf::behind(bytes))
 }
 
 // The console's own word: what a place holds.
 pub fn show(shelf: Shelf, place: usize, out: &mut [u8], at: usize) -> usize
     requires { ⌜ Good shelf ⌝ }
+    ensures { λ r. ⌜ Puts (now (out .entry)) at (showText shelf place) (now (out .exit)) r ⌝ }
 {
     if 7 < place {
         let why = Refusal {
@@ -183,5 +114,5 @@ pub fn show(shelf: Shelf, place: usize, out: &mut [u8], at: usize) -> usize
         };
         return answers::put_refusal(out, at, why);
     }
-    put_matrix(out, at, shelf, place)
+    answers::put_place(out, at, shelf, place)
 }

@@ -1,5 +1,9 @@
-// List items, three numbers each: read from words of a line as `sign,mantissa,exponent`, and put as such.
-ghost use Prim.Native.Nat.{_-_, _≤_, _^_};
+// List items, three numbers each: read from words of a line as `sign,mantissa,exponent`, and lent.
+ghost use mathlib.Core.Path.{_≡_};
+ghost use Prim.Native.Nat.{_-_, _/_, _≤_, _^_};
+ghost use lib.ListN.{length};
+ghost use lib.Seq.{sets};
+ghost use Rattle.tnb_console.specs.Calls.{lentItems};
 use lines::Signed;
 use lists::whole;
 
@@ -84,54 +88,15 @@ pub fn read(line: &[u8], at: usize, list: &mut [i64]) -> Items {
     Items::Count(count)
 }
 
-// Puts the item whose numbers stand from an index of the list on.
-fn put_item(out: &mut [u8], at: usize, list: &[i64], k: usize) -> usize {
-    if list.len() <= k {
-        return at;
-    }
-    if list.len() - k < 3 {
-        return at;
-    }
-    let sign = answers::put_integer(out, at, list[k]);
-    let comma = lines::put(out, sign, b",");
-    let mantissa = answers::put_integer(out, comma, list[k + 1]);
-    let second = lines::put(out, mantissa, b",");
-    answers::put_integer(out, second, list[k + 2])
-}
-
-// A space in front of an item that is not the first.
-fn put_space(out: &mut [u8], at: usize, k: usize) -> usize {
-    if k == 0 {
-        return at;
-    }
-    lines::put(out, at, b" ")
-}
-
-// Puts the items of a list, `-` for none.
-pub fn put(out: &mut [u8], at: usize, list: &[i64]) -> usize {
-    if list.len() == 0 {
-        return lines::put(out, at, b"-");
-    }
-    let mut to = at;
-    for item in 0..list.len() / 3 {
-        to = put_space(out, to, item);
-        to = put_item(out, to, list, item * 3);
-    }
-    to
-}
-
-// Sets the item whose numbers stand from an index of the list on to one, times 2^31.
-fn set_item(list: &mut [i64], k: usize) {
-    if k < list.len() {
-        store(list, k, 1);
-        store(list, k + 1, 2147483648);
-        store(list, k + 2, 0);
-    }
-}
-
-// Fills a list with that item, as it is lent.
-pub fn fill(list: &mut [i64]) {
-    for item in 0..list.len() / 3 {
-        set_item(list, item * 3);
+// Fills a list with the item 1,2147483648,0, as it is lent.
+pub fn fill(list: &mut [i64])
+    ensures { λ r. ⌜ now (list .exit) ≡ sets (now (list .entry)) 0 (lentItems (length (now (list .entry)) / 3)) ⌝ }
+{
+    let mut k: usize = 0;
+    while 3 <= list.len() - k {
+        list[k] = 1;
+        list[k + 1] = 2147483648;
+        list[k + 2] = 0;
+        k += 3;
     }
 }

@@ -6,7 +6,7 @@ use shelf::Shelf;
 
 mod answer; // answer.rt: the answer to a line
 mod calls; // calls.rt: the calls, with their answers
-mod items; // items.rt: list items, read and put
+mod items; // items.rt: list items, read and lent
 mod request; // request.rt: what a line asks
 
 // A line of more bytes is no request.

@@ -1,6 +1,9 @@
 // Loads left.tnb and right.tnb to places 0 and 1, multiplies them into place 2, and prints n, then row, column, mantissa and exponent of
 // each factor; at the first refusal only that.
+ghost use Rattle.lines.specs.Text.{Puts};
 ghost use Rattle.places.specs.Shelf.{Good};
+ghost use Rattle.operations.specs.Operations.{productCall};
+ghost use Rattle.tnb_product.specs.Printed.{factorLine, rowLines, factorLines, resultText, refusalLine, printed};
 use libc::STDOUT_FILENO;
 use shelf::Bounded;
 use shelf::Changed;
@@ -85,42 +88,40 @@ fn load_file(shelf: Shelf, place: usize, path: &[u8]) -> Changed
 }
 
 // The line of a factor.
-fn put_factor(out: &mut [u8], at: usize, row: usize, column: usize, factor: Factor) -> usize {
-    let first = lines::put_whole(out, at, row as u64);
+fn put_factor(out: &mut [u8], at: usize, i: usize, j: usize, factor: Factor) -> usize
+    ensures { λ r. ⌜ Puts (now (out .entry)) at (factorLine i j factor) (now (out .exit)) r ⌝ }
+{
+    let first = lines::put_whole(out, at, i as u64);
     let second = lines::put(out, first, b" ");
-    let third = lines::put_whole(out, second, column as u64);
-    let fourth = lines::put(out, third, b" ");
-    let end = answers::put_number(out, fourth, factor.mantissa, factor.exponent);
+    let third = lines::put_whole(out, second, j as u64);
+    let end = answers::put_factor(out, third, factor);
     lines::put(out, end, b"\n")
 }
 
-// The line of the factor at a cell of eight rows of eight, if n rows have it.
-fn put_cell(out: &mut [u8], at: usize, shelf: Shelf, n: usize, k: usize) -> usize
+// The lines of row i of place 2, which has n factors.
+fn put_row(out: &mut [u8], at: usize, shelf: Shelf, n: usize, i: usize) -> usize
     requires { ⌜ Good shelf ⌝ }
-{
-    let i = k / 8;
-    let j = k % 8;
-    if n <= i {
-        return at;
-    }
-    if n <= j {
-        return at;
-    }
-    put_factor(
-        out,
-        at,
-        i + 1,
-        j + 1,
-        shelf::factor_at(shelf, 2, i + 1, j + 1),
-    )
-}
-
-fn put_factors(out: &mut [u8], at: usize, shelf: Shelf, n: usize) -> usize
-    requires { ⌜ Good shelf ⌝ }
+    ensures { λ r. ⌜ Puts (now (out .entry)) at (rowLines shelf n i) (now (out .exit)) r ⌝ }
 {
     let mut to = at;
-    for k in 0..64usize {
-        to = put_cell(out, to, shelf, n, k);
+    let mut j: usize = 0;
+    while j < n {
+        j += 1;
+        to = put_factor(out, to, i, j, shelf::factor_at(shelf, 2, i, j));
+    }
+    to
+}
+
+// The lines of n rows.
+fn put_factors(out: &mut [u8], at: usize, shelf: Shelf, n: usize) -> usize
+    requires { ⌜ Good shelf ⌝ }
+    ensures { λ r. ⌜ Puts (now (out .entry)) at (factorLines shelf n) (now (out .exit)) r ⌝ }
+{
+    let mut to = at;
+    let mut i: usize = 0;
+    while i < n {
+        i += 1;
+        to = put_row(out, to, shelf, n, i);
     }
     to
 }
@@ -128,6 +129,7 @@ fn put_factors(out: &mut [u8], at: usize, shelf: Shelf, n: usize) -> usize
 // n, and a line for each factor of place 2.
 fn put_result(out: &mut [u8], shelf: Shelf) -> usize
     requires { ⌜ Good shelf ⌝ }
+    ensures { λ r. ⌜ Puts (now (out .entry)) 0 (resultText shelf) (now (out .exit)) r ⌝ }
 {
     let n = shelf::rows_at(shelf, 2);
     let end = lines::put_whole(out, 0, n as u64);
@@ -135,7 +137,9 @@ fn put_result(out: &mut [u8], shelf: Shelf) -> usize
     put_factors(out, next, shelf, n)
 }
 
-fn put_refused(out: &mut [u8], why: Refusal) -> usize {
+fn put_refused(out: &mut [u8], why: Refusal) -> usize
+    ensures { λ r. ⌜ Puts (now (out .entry)) 0 (refusalLine why) (now (out .exit)) r ⌝ }
+{
     let end = answers::put_refusal(out, 0, why);
     lines::put(out, end, b"\n")
 }
@@ -143,6 +147,7 @@ fn put_refused(out: &mut [u8], why: Refusal) -> usize {
 // Multiplies, and puts what is to be printed.
 fn multiply(shelf: Shelf, out: &mut [u8]) -> usize
     requires { ⌜ Good shelf ⌝ }
+    ensures { λ r. ⌜ Puts (now (out .entry)) 0 (printed (productCall shelf 0 1 2)) (now (out .exit)) r ⌝ }
 {
     let product = shelf::product(shelf, 0, 1, 2);
     let result = product.shelf;

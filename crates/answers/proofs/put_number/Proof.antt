@@ -1,6 +1,6 @@
 -- `answers::put_number` meets its contract.
-use mathlib.Core.List.{[], _∷_}
 use mir.Facts.{toZ-ofZ}
+use Rattle.lines.specs.Ascii.{ascii}
 use Rattle.lines.proofs.Text.{puts-behind}
 use Rattle.answers.specs.Answers.{numberText}
 use borrow.Author.Needs.{needs}
@@ -26,7 +26,7 @@ returns : tie.Need-returns
 unfolding numberText
 returns c =
     let e = toZ-ofZ (c .before .before .before .before .before .before .before .before .before .before .before .before .before .before .fits .exponent) in
-    puts-behind (c .before .before .before .before .before .before .before .before .before .before .before .put-whole .ensures) (puts-behind {a = 32 ∷ []} (c .before .before .before .before .before .before .put .ensures) (rw e at (c .before .before .put-integer .ensures)))
+    puts-behind (c .before .before .before .before .before .before .before .before .before .before .before .put-whole .ensures) (puts-behind {a = ascii " "} (c .before .before .before .before .before .before .put .ensures) (rw e at (c .before .before .put-integer .ensures)))
 
 pub put-number-spec : {M : Type 1} → statement M
 put-number-spec =

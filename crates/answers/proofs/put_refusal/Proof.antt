@@ -1,6 +1,7 @@
 -- `answers::put_refusal` meets its contract.
+use Rattle.lines.specs.Ascii.{ascii}
 use Rattle.lines.proofs.Text.{puts-behind}
-use Rattle.answers.specs.Answers.{refusedWord, atWord, refusalText}
+use Rattle.answers.specs.Answers.{refusalText}
 use borrow.Author.Needs.{needs}
 use Rattle.answers.proofs.put_refusal.Statement.{statement}
 use Rattle.answers.proofs.put_refusal.Tie as tie
@@ -32,8 +33,8 @@ same-length c = search needs
 returns : tie.Need-returns
 unfolding refusalText
 returns c =
-    puts-behind {a = refusedWord} (c .before .before .before .before .before .before .before .before .before .before .before .before .before .before .before .before .put .ensures)
-    (puts-behind (c .before .before .before .before .before .before .before .before .before .before .before .put-whole .ensures) (puts-behind {a = atWord} (c .before .before .before .before .before .before .put2 .ensures) (c .before .before .put-whole2 .ensures)))
+    puts-behind {a = ascii "refused "} (c .before .before .before .before .before .before .before .before .before .before .before .before .before .before .before .before .put .ensures)
+    (puts-behind (c .before .before .before .before .before .before .before .before .before .before .before .put-whole .ensures) (puts-behind {a = ascii " at "} (c .before .before .before .before .before .before .put2 .ensures) (c .before .before .put-whole2 .ensures)))
 
 pub put-refusal-spec : {M : Type 1} → statement M
 put-refusal-spec =

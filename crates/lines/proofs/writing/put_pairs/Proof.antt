@@ -33,7 +33,7 @@ loop-again c =
     spelt-more (c .before .before .before .before .before .before .loop .inv) (omega arith) _ _ (c .before .before .put-pair .ensures)
 
 same-length : tie.Need-same-length Inv-loop μ-loop
-same-length c = c .before .loop .inv .kept
+same-length c = c .before .loop .inv .left .kept
 
 returns : tie.Need-returns Inv-loop μ-loop
 returns c = spelt-end (c .before .loop .inv) (c .loop-test .left)

@@ -1,5 +1,5 @@
 -- `lines::put_signed` meets its contract.
-use mathlib.Core.List.{[], _∷_}
+use Rattle.lines.specs.Ascii.{ascii}
 use Rattle.lines.proofs.Text.{puts-behind}
 use borrow.Author.Needs.{needs}
 use Rattle.lines.proofs.writing.put_signed.Statement.{statement}
@@ -18,7 +18,7 @@ same-length : tie.Need-same-length
 same-length c = search needs
 
 returns : tie.Need-returns
-returns c = rw (c .before .before .before .before .before .before .before .before .before .if1 .taken) (puts-behind {a = 45 ∷ []} (c .before .before .before .before .before .before .put .ensures) (c .before .before .put-whole .ensures))
+returns c = rw (c .before .before .before .before .before .before .before .before .before .if1 .taken) (puts-behind {a = ascii "-"} (c .before .before .before .before .before .before .put .ensures) (c .before .before .put-whole .ensures))
 
 put-whole-requires-2 : tie.Need-put-whole-requires-2
 put-whole-requires-2 c κs = search needs

@@ -1,0 +1,4 @@
+-- Laws that belong to no one function.
+pub mod Turns
+pub mod Lists
+pub mod Places

@@ -1,0 +1,55 @@
+-- `answers::put_row` meets its contract. The loop's invariant: j of the n factors are put.
+use Prim.Native.Nat.{_-_}
+use native.Mathlib.Omega.{arith}
+use Rattle.shelf.specs.Calls.{factorCall}
+use Rattle.answers.specs.Matrix.{factorText, rowText}
+use Rattle.answers.proofs.Turns.{Turns, turns-none, turns-more, turns-end}
+use borrow.Author.Needs.{needs}
+use Rattle.answers.proofs.matrix.put_row.Statement.{statement}
+use Rattle.answers.proofs.matrix.put_row.Tie as tie
+
+abbrev Inv-loop : tie.InvT-loop
+Inv-loop out₀ at shelf place n i to₀ j₀ out to j = Turns (λ j′. factorText (factorCall shelf place i j′)) n out₀ at out to j
+
+abbrev μ-loop : tie.MeasureT-loop
+μ-loop out₀ at shelf place n i to₀ j₀ out to j = n - j
+
+loop-holds : tie.Need-loop-holds Inv-loop μ-loop
+loop-holds c = turns-none _ _ _ _
+
+add-j : tie.Need-add-j Inv-loop μ-loop
+add-j c = search needs
+
+factor-at-requires : tie.Need-factor-at-requires Inv-loop μ-loop
+factor-at-requires c κs = search needs
+
+put-factor-requires : tie.Need-put-factor-requires Inv-loop μ-loop
+put-factor-requires c κs = search needs
+
+loop-less : tie.Need-loop-less Inv-loop μ-loop
+loop-less c = search needs
+
+loop-again : tie.Need-loop-again Inv-loop μ-loop
+loop-again c = turns-more (c .before .before .before .before .before .before .loop .inv) (omega arith) (rw (c .before .before .before .factor-at .ensures) at (c .before .before .put-factor .ensures))
+
+same-length : tie.Need-same-length Inv-loop μ-loop
+same-length c = c .before .loop .inv .left .kept
+
+returns : tie.Need-returns Inv-loop μ-loop
+unfolding rowText
+returns c = turns-end (c .before .loop .inv) (c .loop-test .left)
+
+pub put-row-spec : {M : Type 1} → statement M
+put-row-spec =
+    tie.close
+    (tie.spec
+    Inv-loop
+    μ-loop
+    loop-holds
+    add-j
+    factor-at-requires
+    put-factor-requires
+    loop-less
+    loop-again
+    same-length
+    returns)

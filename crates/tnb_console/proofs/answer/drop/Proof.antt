@@ -1,0 +1,26 @@
+-- `tnb_console::answer::drop` meets its contract.
+use borrow.Author.Needs.{needs}
+use Rattle.tnb_console.proofs.answer.drop.Statement.{statement}
+use Rattle.tnb_console.proofs.answer.drop.Tie as tie
+
+drop-place-requires : tie.Need-drop-place-requires
+drop-place-requires c κs = search needs
+
+slice-aggregate-changed : tie.Need-slice-aggregate-changed
+slice-aggregate-changed c = search needs
+
+changed-requires : tie.Need-changed-requires
+changed-requires c κs = search needs
+
+same-length : tie.Need-same-length
+same-length c = search needs
+
+returns : tie.Need-returns
+returns c =
+    let changed = c .before .before .changed .ensures in
+    (changed .0, rw (c .before .before .before .before .before .drop-place .ensures .0) at (changed .1))
+
+pub drop-spec : {M : Type 1} → statement M
+drop-spec =
+    tie.close
+    (tie.spec drop-place-requires slice-aggregate-changed changed-requires same-length returns)

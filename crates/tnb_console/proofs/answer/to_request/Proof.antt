@@ -1,0 +1,28 @@
+-- `tnb_console::answer::to_request` meets its contract.
+use Rattle.tnb_console.specs.Replies.{replyTo}
+use borrow.Author.Needs.{needs}
+use Rattle.tnb_console.proofs.answer.to_request.Statement.{statement}
+use Rattle.tnb_console.proofs.answer.to_request.Tie as tie
+
+some-bytes-requires : tie.Need-some-bytes-requires
+some-bytes-requires c κs = search needs
+
+some-items-requires : tie.Need-some-items-requires
+some-items-requires c κs = search needs
+
+to-call-requires : tie.Need-to-call-requires
+to-call-requires c κs = search needs
+
+same-length : tie.Need-same-length
+same-length c = search needs
+
+returns : tie.Need-returns
+unfolding replyTo
+returns c =
+    let call = c .before .before .to-call .ensures in
+    (call .0, rw (c .before .before .before .before .before .before .some-bytes .ensures, c .before .before .before .before .some-items .ensures) at (call .1))
+
+pub to-request-spec : {M : Type 1} → statement M
+to-request-spec =
+    tie.close
+    (tie.spec some-bytes-requires some-items-requires to-call-requires same-length returns)
