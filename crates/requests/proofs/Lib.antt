@@ -1,0 +1,5 @@
+-- Laws that belong to no one function.
+pub mod Words
+pub mod Listed
+pub mod Numbers
+pub mod Tails
