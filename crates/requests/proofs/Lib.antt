@@ -3,3 +3,4 @@ pub mod Words
 pub mod Listed
 pub mod Numbers
 pub mod Tails
+pub mod Examples

@@ -2,7 +2,7 @@
 use Prim.Native.Nat.{ℕ, suc, _+_, _≤_, _<_}
 use native.Mathlib.Numerals.{add-one}
 use native.Mathlib.Omega.{arith}
-use mathlib.Core.Path.{_≡_, refl, sym, ap, _∙_}
+use mathlib.Core.Path.{_≡_, refl, sym, _∙_}
 use mathlib.Core.Bool.{Bool, true, false, cond}
 use mathlib.Core.List.{List, [], _∷_, _++_, append-nil, append-assoc}
 use mathlib.Core.Option.{Option, none, some}
@@ -10,9 +10,9 @@ use lib.Dec.{eqb}
 use lib.ListN.{length, take, drop, set, getD, length-set, drop-of-length-le}
 use lib.Seq.{drop-cons, take-suc-set, take-all}
 use Rattle.lines.specs.declared.reading.Whole.the-variants as whole
-use Rattle.lines.specs.Words.{wordAt, nextWord}
-use Rattle.requests.specs.Words.{wordsAt, firstWord, wordsBehind}
-use Rattle.requests.specs.Requests.{Values, numberOf, numberBy, indexBehind, wordsLeft, oneMore, numbersOf}
+use Rattle.lines.specs.Words.{nextWord}
+use Rattle.requests.specs.Words.{wordsAt, wordsBehind}
+use Rattle.requests.specs.Requests.{Values, numberBy, indexBehind, wordsLeft, oneMore, numbersOf}
 use Rattle.requests.proofs.Words.{first-word, words-behind}
 
 -- numbers in front of others

@@ -1,6 +1,5 @@
 -- `requests::request::most` meets its contract.
 use borrow.Author.Tests.{eq-eqb, ne-eqb}
-use borrow.Author.Needs.{needs}
 use Rattle.requests.proofs.request.most.Statement.{statement}
 use Rattle.requests.proofs.request.most.Tie as tie
 

@@ -1,6 +1,5 @@
 -- `requests::request::with_bytes` meets its contract.
 use denote.Ref.{now}
-use native.Mathlib.Omega.{arith}
 use mathlib.Core.Path.{sym, _∙_}
 use Rattle.requests.proofs.Tails.{bytes-more, bytes-read, bytes-other}
 use borrow.Author.Needs.{needs}
