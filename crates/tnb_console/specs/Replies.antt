@@ -1,9 +1,9 @@
 -- What the console does with a request (`replyTo`): the shelf after it, and the text of its answer.
-use Prim.Native.Nat.{ℕ, _*_, _%_}
+use Prim.Native.Nat.{ℕ, _%_}
 use mathlib.Core.Path.{_≡_}
 use mathlib.Core.List.{List}
 use lib.IntN.{ℤ}
-use lib.ListN.{getD, take}
+use lib.ListN.{getD}
 use Rattle.lines.specs.Ascii.{ascii}
 use Rattle.lines.specs.Text.{Puts}
 use Rattle.reader.specs.Matrix.{behindOf}
@@ -15,11 +15,11 @@ use Rattle.shelf.specs.Calls.{loadCall, dropCall}
 use Rattle.shelf.specs.ListCalls.{reversalsCall}
 use Rattle.answers.specs.Answers.{verdictText, boundedText, valuedText, reversalsText, restText, badText}
 use Rattle.tnb_console.specs.declared.answer.Answered.{Answered}
-use Rattle.tnb_console.specs.declared.request.Call.{Call}
-use Rattle.tnb_console.specs.declared.request.Call.the-variants.{Load, Write, Drop, Operate, Minor, Carry, Reversals, Rest, Show, Bad}
-use Rattle.tnb_console.specs.declared.request.Operation.{Operation}
-use Rattle.tnb_console.specs.declared.request.Operation.the-variants.{Product, Inverse, Converse, Transpose, Submatrix}
-use Rattle.tnb_console.specs.declared.request.Request.{Request}
+use Rattle.requests.specs.declared.commands.Call.{Call}
+use Rattle.requests.specs.declared.commands.Call.the-variants.{Load, Write, Drop, Operate, Minor, Carry, Reversals, Rest, Show, Bad}
+use Rattle.requests.specs.declared.commands.Operation.{Operation}
+use Rattle.requests.specs.declared.commands.Operation.the-variants.{Product, Inverse, Converse, Transpose, Submatrix}
+use Rattle.requests.specs.Requests.{Asked}
 use Rattle.tnb_console.specs.Calls.{lent, lentBytes, lentItems, writeText, carryText, showText}
 
 pub record Reply : Type 0 where
@@ -66,6 +66,6 @@ replyBy s Rest v bytes list = reply s (restText (behindOf bytes))
 replyBy s Show v bytes list = reply s (showText s (getD v 0 0))
 replyBy s Bad v bytes list = reply s badText
 
--- the request's bytes or items stand at the start of the buffers
-unfoldable pub replyTo : Shelf → Request → List ℕ → List ℤ → Reply
-replyTo s r bytes list = replyBy s (r .call) (r .values) (take (r .count) bytes) (take (r .count * 3) list)
+-- a request
+unfoldable pub replyTo : Shelf → Asked → Reply
+replyTo s a = replyBy s (a .call) (a .values) (a .bytes) (a .items)

@@ -7,12 +7,12 @@ ghost use Rattle.lines.specs.Text.{Puts};
 ghost use Rattle.places.specs.Shelf.{Good};
 ghost use Rattle.shelf.specs.Calls.{loadCall, dropCall};
 ghost use Rattle.answers.specs.Answers.{badText};
+ghost use Rattle.requests.specs.Requests.{asked, requestOf};
 ghost use Rattle.tnb_console.specs.Replies.{Replied, changedReply, operatedReply, mask, operateCall, replyBy, replyTo};
 use crate::calls;
-use crate::request;
-use crate::request::Call;
-use crate::request::Operation;
-use crate::request::Request;
+use requests::Call;
+use requests::Operation;
+use requests::Request;
 use shelf::Changed;
 use shelf::Operated;
 use shelf::Shelf;
@@ -160,7 +160,7 @@ fn to_call(
 // The answer to a request. The buffers go by their references as arrays, whose types say how long they are.
 fn to_request(
     shelf: Shelf,
-    asked: Request,
+    request: Request,
     bytes: &[u8; 2048],
     list: &[i64; 48],
     out: &mut [u8],
@@ -168,17 +168,18 @@ fn to_request(
 ) -> Answered
     requires { ⌜ Good shelf ⌝ }
     ensures { λ r. ⌜ Good (r .shelf) ⌝ }
-    ensures { λ r. ⌜ Replied (replyTo shelf asked (now (bytes .entry)) (now (list .entry))) (now (out .entry)) at (now (out .exit)) r ⌝ }
+    ensures { λ r. ⌜ Replied (replyTo shelf (asked request (now (bytes .entry)) (now (list .entry)))) (now (out .entry)) at (now (out .exit)) r ⌝ }
 {
-    let n = asked.count;
-    let call = asked.call;
-    let v = asked.values;
+    let call = request.call;
+    let v = request.values;
+    let count = request.bytes;
+    let items = request.items;
     to_call(
         shelf,
         call,
         v,
-        some_bytes(bytes, n),
-        some_items(list, n),
+        some_bytes(bytes, count),
+        some_items(list, items),
         out,
         at,
     )
@@ -188,9 +189,10 @@ fn to_request(
 pub fn to_line(shelf: Shelf, line: &[u8], out: &mut [u8], at: usize) -> Answered
     requires { ⌜ Good shelf ⌝ }
     ensures { λ r. ⌜ Good (r .shelf) ⌝ }
+    ensures { λ r. ⌜ Replied (replyTo shelf (requestOf (now (line .entry)))) (now (out .entry)) at (now (out .exit)) r ⌝ }
 {
     let mut bytes = [0u8; 2048];
     let mut list = [0i64; 48];
-    let asked = request::of_line(line, &mut bytes, &mut list);
-    to_request(shelf, asked, &bytes, &list, out, at)
+    let request = requests::of_line(line, &mut bytes, &mut list);
+    to_request(shelf, request, &bytes, &list, out, at)
 }

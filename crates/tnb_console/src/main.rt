@@ -6,8 +6,7 @@ use shelf::Shelf;
 
 mod answer; // answer.rt: the answer to a line
 mod calls; // calls.rt: the calls, with their answers
-mod items; // items.rt: list items, read and lent
-mod request; // request.rt: what a line asks
+mod items; // items.rt: list items, as they are lent
 
 // A line of more bytes is no request.
 const LONGEST: usize = 4096;

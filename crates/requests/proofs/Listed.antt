@@ -1,0 +1,126 @@
+-- An item by the indices of its commas (`item-is`), and a loop over the words of a list (`Passed`).
+use Prim.Native.Nat.{ℕ, zero, suc, _+_, _-_, _*_, _^_, _≤_, _<_}
+use native.Mathlib.Omega.{arith}
+use mathlib.Core.Path.{_≡_, refl, sym, ap, _∙_}
+use mathlib.Core.Bool.{Bool, true, false, cond}
+use mathlib.Core.List.{List, [], _∷_, _++_, append-nil, append-assoc}
+use mathlib.Core.Option.{Option, none, some}
+use lib.Dec.{eqb}
+use lib.IntN.{ℤ, pos, negℤ}
+use lib.ListN.{length, take, drop, set, length-set, length-append, length-drop}
+use lib.Seq.{sets-eq, take-at, take-all, length-take-le}
+use lib.Signed.{mag}
+use mir.Syntax.{w64}
+use mir.Val.{toZ, ofZ}
+use mir.Facts.{toZ-ofZ}
+use Rattle.lines.specs.Words.{before, wordAt, nextWord}
+use Rattle.requests.specs.declared.items.Number.{Number}
+use Rattle.requests.specs.declared.items.Item.the-variants as item
+use Rattle.requests.specs.Words.{wordsAt}
+use Rattle.requests.specs.Items.{numberOf, itemBy, itemOf, joined, itemsOf}
+use Rattle.requests.proofs.Words.{words-at, words-past}
+
+-- a number of 64 bits, as it is held
+pub held : {z : ℤ} → mag z < 2 ^ 63 → toZ w64 (ofZ w64 z) ≡ z
+held h = toZ-ofZ (record { sfits = h })
+
+pub held-plus : {x : ℤ} {n : ℕ} → x ≡ pos n → n ≤ 2 ^ 63 - 1 → toZ w64 (ofZ w64 x) ≡ pos n
+held-plus e h = rw e (held (omega arith))
+
+minus-small : (n : ℕ) → n ≤ 2 ^ 63 → mag (negℤ (pos n)) < 2 ^ 63
+minus-small zero h = omega arith
+minus-small (suc n) h = omega arith
+
+pub held-minus : {x : ℤ} {n : ℕ} → x ≡ negℤ (pos n) → n ≤ 2 ^ 63 → toZ w64 (ofZ w64 x) ≡ negℤ (pos n)
+held-minus {n = n} e h = rw e (held (minus-small n h))
+
+-- the part from an index on, as it is lent
+pub part-from : (s : List ℕ) (at : ℕ) → take (length s - at) (drop at s) ≡ drop at s
+part-from s at = take-all (length s - at) (drop at s) (omega (arith, length-drop at s))
+
+take-step : (b : ℕ) (w s : List ℕ) (t : Bool) → take (length w) s ≡ w → take (length (cond t [] (b ∷ w))) (b ∷ s) ≡ cond t [] (b ∷ w)
+take-step b w s true e = refl
+take-step b w s false e = ap (λ (l : List ℕ). b ∷ l) e
+
+take-before : (stop : ℕ) (s : List ℕ) → take (length (before stop s)) s ≡ before stop s
+unfolding before
+take-before stop [] = refl
+take-before stop (b ∷ s) = take-step b (before stop s) s (eqb b stop) (take-before stop s)
+
+part-before : (s : List ℕ) (n : ℕ) → n ≡ length (before 44 s) → take (n - 0) s ≡ before 44 s
+part-before s n e =
+    let z : n - 0 ≡ length (before 44 s) = omega arith in
+    rw z (take-before 44 s)
+
+module _ (w rest last : List ℕ) (a b : ℕ) (x y z : Number) where
+  pub item-is : a ≡ length (before 44 w) → rest ≡ drop (a + 1) w → b ≡ length (before 44 rest) → last ≡ drop (b + 1) rest →
+      x ≡ numberOf (take (a - 0) w) → y ≡ numberOf (take (b - 0) rest) → z ≡ numberOf last → itemBy x y z ≡ itemOf w
+  unfolding itemOf
+  item-is ea er eb el ex ey ez =
+      let er2 : rest ≡ drop (length (before 44 w) + 1) w = rw ea at er in
+      let eb2 : last ≡ drop (length (before 44 rest) + 1) rest = rw eb at el in
+      rw (ex, ey, ez, part-before w a ea, part-before rest b eb, eb2, er2)
+
+-- items in front of others
+abbrev pub front : List ℤ → Option (List ℤ) → Option (List ℤ)
+front l none = none
+front l (some m) = some (l ++ m)
+
+front-nil : (o : Option (List ℤ)) → o ≡ front [] o
+front-nil none = refl
+front-nil (some m) = refl
+
+front-more : (l : List ℤ) (a b c : ℤ) (o : Option (List ℤ)) → front l (joined (item.Value a b c) o) ≡ front (l ++ (a ∷ b ∷ c ∷ [])) o
+front-more l a b c none = refl
+front-more l a b c (some m) = ap some (sym (append-assoc l (a ∷ b ∷ c ∷ []) m))
+
+-- three numbers are put at an index
+three : (l : List ℤ) (i : ℕ) (a b c : ℤ) → i + 3 ≤ length l → take (i + 3) (set (set (set l i a) (i + 1) b) (i + 2) c) ≡ take i l ++ (a ∷ b ∷ c ∷ [])
+three l i a b c h =
+    let one : i + 1 ≡ suc i = omega arith in
+    let two : i + 2 ≡ suc (suc i) = omega arith in
+    let vs : List ℤ = a ∷ b ∷ c ∷ [] in
+    let n : length (take i l ++ vs) ≡ i + 3 = omega (arith, length-append (take i l) vs, length-take-le i l (omega arith)) in
+    rw (one, two, sets-eq vs l i (omega arith)) (take-at (take i l ++ vs) (drop (i + length vs) l) (i + 3) n)
+
+-- the words before `next` are items, and their numbers stand at the start of the list
+pub record Passed (line : List ℕ) (at : ℕ) (list₀ list : List ℤ) (next count : ℕ) : Type 0 where
+  pub room : 48 ≤ length list₀
+  pub kept : length list ≡ length list₀
+  pub few : count ≤ 16
+  pub same : itemsOf 16 (wordsAt line at) ≡ front (take (count * 3) list) (itemsOf (16 - count) (wordsAt line next))
+
+pub passed-none : (line : List ℕ) (at : ℕ) (list : List ℤ) → 48 ≤ length list → Passed line at list list at 0
+passed-none line at list h = record { room = h; kept = refl; few = omega arith; same = front-nil _ }
+
+module _ {line : List ℕ} {at : ℕ} {list₀ list : List ℤ} {next count : ℕ} (p : Passed line at list₀ list next count) where
+  pub passed-end : length line < next → some (take (count * 3) list) ≡ itemsOf 16 (wordsAt line at)
+  unfolding itemsOf
+  passed-end h = sym (p .same ∙ rw (words-past line next h) (ap some (append-nil (take (count * 3) list))))
+
+  module _ (h : next ≤ length line) where
+    pub passed-many : 16 ≤ count → none ≡ itemsOf 16 (wordsAt line at)
+    unfolding itemsOf
+    passed-many m =
+        let z : 16 - count ≡ 0 = omega arith in
+        sym (p .same ∙ rw (words-at line next h, z))
+
+    module _ (m : count < 16) where
+      pub passed-other : itemOf (wordAt line next) ≡ item.Malformed → none ≡ itemsOf 16 (wordsAt line at)
+      unfolding itemsOf
+      passed-other e =
+          let z : 16 - count ≡ suc (16 - (count + 1)) = omega arith in
+          sym (p .same ∙ rw (words-at line next h, z, e))
+
+      pub passed-more : (a b c : ℤ) → itemOf (wordAt line next) ≡ item.Value a b c →
+          Passed line at list₀ (set (set (set list (count * 3) a) (count * 3 + 1) b) (count * 3 + 2) c) (nextWord line next) (count + 1)
+      unfolding itemsOf
+      passed-more a b c e =
+          let z : 16 - count ≡ suc (16 - (count + 1)) = omega arith in
+          let t : (count + 1) * 3 ≡ count * 3 + 3 = omega arith in
+          record {
+            room = p .room;
+            kept = simp length-set (p .kept);
+            few = omega arith;
+            same = p .same ∙ rw (words-at line next h, z, e, t, three list (count * 3) a b c (omega (arith, p))) (front-more (take (count * 3) list) a b c (itemsOf (16 - (count + 1)) (wordsAt line (nextWord line next))));
+          }

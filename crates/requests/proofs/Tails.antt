@@ -1,0 +1,116 @@
+-- What stands behind the numbers of a request: nothing (`nothing-left`), bytes (`bytes-read`), and the whole request by its parts (`request-is`).
+use Prim.Native.Nat.{ℕ, _+_, _/_, _≤_, _<_}
+use native.Mathlib.Omega.{arith}
+use mathlib.Core.Path.{_≡_, refl, sym, ap, _∙_}
+use mathlib.Core.Bool.{Bool, true, false, cond, not, _&&_}
+use mathlib.Core.List.{List, [], _∷_}
+use mathlib.Core.Option.{Option}
+use lib.Dec.{ltb}
+use lib.ListN.{length, take, drop}
+use lib.Seq.{sets, sets-eq, take-at}
+use borrow.Author.Tests.{ltb-true, ltb-false}
+use Rattle.lines.specs.declared.reading.Bytes.the-variants as bytes
+use Rattle.lines.specs.Words.{wordAt, nextWord}
+use Rattle.lines.specs.Hexadecimal.{hexadecimal, bytesOf, bytesRead, bytesAfter}
+use Rattle.requests.specs.declared.commands.Call.{Call}
+use Rattle.requests.specs.declared.commands.Tail.{Tail}
+use Rattle.requests.specs.Words.{wordsOf, wordsAt, firstWord, wordsBehind}
+use Rattle.requests.specs.Commands.{callOf, lettersOf, tailOf}
+use Rattle.requests.specs.Requests.{Asked, Values, bad, withNothing, withBytes, withTail, numbersOf, requestOf}
+use Rattle.requests.proofs.Words.{words-at, words-past, word-past, words-all, first-word, words-behind}
+
+module _ (call : Call) (values line : List ℕ) (at : ℕ) where
+  pub nothing-more : at ≤ length line → bad ≡ withNothing call values (wordsAt line at)
+  nothing-more h = rw (words-at line at h)
+
+  pub nothing-left : length line < at → record { call = call; values = values; bytes = []; items = [] } ≡ withNothing call values (wordsAt line at)
+  nothing-left h = rw (words-past line at h)
+
+  more-by : (t : Bool) → ltb (length line) at ≡ t → nextWord line at ≤ length line → bad ≡ withBytes call values (wordsAt line at)
+  more-by true e h =
+      let l = ltb-true (length line) at e in
+      let m : at ≤ length line = rw e at h in
+      absurd (omega arith)
+  more-by false e h = rw (words-at line at (ltb-false _ _ e), words-at line (nextWord line at) h)
+
+  pub bytes-more : nextWord line at ≤ length line → bad ≡ withBytes call values (wordsAt line at)
+  bytes-more = more-by (ltb (length line) at) refl
+
+-- a word as bytes
+abbrev ofWord : Call → List ℕ → List ℕ → Asked
+ofWord call values w = cond (hexadecimal w && not (ltb 2048 (length w / 2))) (record { call = call; values = values; bytes = bytesOf w; items = [] }) bad
+
+module _ (call : Call) (values line : List ℕ) (at : ℕ) (h : length line < nextWord line at) where
+  one-by : (t : Bool) → ltb (length line) at ≡ t → ofWord call values (wordAt line at) ≡ withBytes call values (wordsAt line at)
+  one-by true e = rw (e, word-past line at (ltb-true _ _ e))
+  one-by false e = rw (words-at line at (ltb-false _ _ e), words-past line (nextWord line at) h)
+
+  one-word : ofWord call values (wordAt line at) ≡ withBytes call values (wordsAt line at)
+  one-word = one-by (ltb (length line) at) refl
+
+length-bytes : (s : List ℕ) → length (bytesOf s) ≡ length s / 2
+unfolding bytesOf
+length-bytes [] = refl
+length-bytes (a ∷ []) = refl
+length-bytes (a ∷ b ∷ s) =
+    let e = length-bytes s in
+    omega arith
+
+take-set : (v b : List ℕ) → length v ≤ length b → take (length v) (sets b 0 v) ≡ v
+take-set v b h = rw (sets-eq v b 0 (omega arith)) (take-at v (drop (0 + length v) b) (length v) refl)
+
+never : {A : Type 0} {n : ℕ} → bytes.Malformed ≡ bytes.Count n → A
+never e =
+    let z : _≡_ {A = ℕ} 0 1 = cc in
+    absurd (omega arith)
+
+never-count : {A : Type 0} {n : ℕ} → bytes.Count n ≡ bytes.Malformed → A
+never-count e = never (sym e)
+
+module _ (call : Call) (values v b : List ℕ) (m n : ℕ) where
+  read-by : (t : Bool) → cond t (bytes.Count m) bytes.Malformed ≡ bytes.Count n → (t ≡ true → take m (sets b 0 v) ≡ v) →
+      record { call = call; values = values; bytes = take n (cond t (sets b 0 v) b); items = [] } ≡ cond t (record { call = call; values = values; bytes = v; items = [] }) bad
+  read-by true e f =
+      let same : m ≡ n = cc in
+      rw (← same, f refl)
+  read-by false e f = never e
+
+other-by : (a : Asked) (m : ℕ) (t : Bool) → cond t (bytes.Count m) bytes.Malformed ≡ bytes.Malformed → bad ≡ cond t a bad
+other-by a m true e = never-count e
+other-by a m false e = refl
+
+right : (x y : Bool) → x && y ≡ true → y ≡ true
+right true y h = h
+right false y h = ap (λ t. cond t true y) h
+
+small : (n : ℕ) (x : Bool) → x && not (ltb 2048 n) ≡ true → n ≤ 2048
+small n x e = ltb-false _ _ (not-true-is (ltb 2048 n) (right x (not (ltb 2048 n)) e))
+  where
+    not-true-is : (t : Bool) → not t ≡ true → t ≡ false
+    not-true-is true h = sym h
+    not-true-is false h = refl
+
+module _ (call : Call) (values line : List ℕ) (at : ℕ) (h : length line < nextWord line at) (b : List ℕ) (long : length b ≡ 2048) where
+  pub bytes-read : (n : ℕ) → bytesRead (wordAt line at) b ≡ bytes.Count n →
+      record { call = call; values = values; bytes = take n (bytesAfter (wordAt line at) b); items = [] } ≡ withBytes call values (wordsAt line at)
+  bytes-read n e =
+      let w : List ℕ = wordAt line at in
+      let f : hexadecimal w && not (ltb 2048 (length w / 2)) ≡ true → take (length w / 2) (sets b 0 (bytesOf w)) ≡ bytesOf w =
+      λ t.
+      let l : length (bytesOf w) ≤ length b = omega (arith, small (length w / 2) (hexadecimal w) t, length-bytes w) in
+      rw (← length-bytes w) (take-set (bytesOf w) b l)
+      in
+      rw long (read-by call values (bytesOf w) b (length w / 2) n (hexadecimal w && not (ltb 2048 (length w / 2))) (rw long at e) f) ∙ one-word call values line at h
+
+  pub bytes-other : bytesRead (wordAt line at) b ≡ bytes.Malformed → bad ≡ withBytes call values (wordsAt line at)
+  bytes-other e =
+      let w : List ℕ = wordAt line at in
+      other-by (record { call = call; values = values; bytes = bytesOf w; items = [] }) (length w / 2) (hexadecimal w && not (ltb 2048 (length w / 2))) (rw long at e) ∙ one-word call values line at h
+
+module _ (line : List ℕ) (call : Call) (letters : List ℕ) (next : ℕ) (t : Tail) (o : Option Values) where
+  pub request-is : call ≡ callOf (wordAt line 0) → letters ≡ lettersOf call → next ≡ nextWord line 0 → o ≡ numbersOf letters (wordsAt line next) → t ≡ tailOf call → withTail call t o ≡ requestOf line
+  unfolding requestOf
+  request-is ec el en eo et =
+      let first : firstWord (wordsOf line) ≡ wordAt line 0 = ap firstWord (sym (words-all line)) ∙ first-word line 0 in
+      let behind : wordsBehind (wordsOf line) ≡ wordsAt line (nextWord line 0) = ap wordsBehind (sym (words-all line)) ∙ words-behind line 0 in
+      rw (eo, et, el, en, ec, first, behind)
