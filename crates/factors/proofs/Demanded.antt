@@ -2,7 +2,7 @@
 -- In plain words: a quarter of a millionth (demand-close).
 use mathlib.Core.Path.{_≡_, refl, sym, ap, _∙_, subst}
 use mathlib.Core.List.{List, [], _∷_}
-use Prim.Native.Nat.{ℕ, zero, suc, _+_, _-_, _*_, _≤_, _<_}
+use Prim.Native.Nat.{ℕ, suc, _+_, _-_, _*_, _≤_, _<_}
 use native.Mathlib.Nat.{mul-le-mul, mul-le-mul-left}
 use native.Mathlib.Omega.{arith}
 use lib.ListN.{length}
@@ -18,7 +18,7 @@ use Rattle.words.specs.Walk.{minor}
 use Rattle.words.proofs.Chosen.{length-among}
 use Rattle.words.specs.Word.{Factors}
 use Rattle.words.specs.Operation.{Step, step, plain, inverted, conversed, Operation, product, inverse, converse, submatrix, steps, keptRows, keptColumns}
-use Rattle.words.specs.Operation.{size, boundOf, bound, rowByRow, joinedWord, refactored, result, eachStep, eachSteps}
+use Rattle.words.specs.Operation.{size, boundOf, bound, joinedWord, refactored, result, eachStep, eachSteps}
 use Rattle.words.proofs.RowByRow.{rowByRow-length}
 use Rattle.words.proofs.RowSets.{length-rows}
 use Rattle.words.specs.Sources.{Each, Sources, runReach}

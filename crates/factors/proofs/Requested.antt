@@ -9,7 +9,7 @@ use Rattle.fraction.specs.Rational.{rationals, rationals-ordered, rational}
 use Rattle.fraction.proofs.Ring.{*-assoc, one-*}
 use Rattle.words.specs.RowSet.{rows, count}
 use Rattle.words.specs.Word.{Factors, word, inverseWord}
-use Rattle.words.specs.Operation.{Step, step, plain, inverted, conversed, joinedWord, refactored, Operation, product, inverse, converse, submatrix, size, result, eachFactor, eachSteps, eachSource}
+use Rattle.words.specs.Operation.{Step, step, plain, inverted, conversed, joinedWord, refactored, Operation, product, inverse, converse, submatrix, size, result, eachFactor, eachSteps}
 use Rattle.words.specs.Sources.{Sources}
 use Rattle.words.proofs.RowSets.{length-rows}
 use Rattle.words.proofs.Chosen.{count-all, chosen-all}

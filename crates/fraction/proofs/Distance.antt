@@ -1,7 +1,7 @@
 -- Unit roundings as a distance: (1 - u) ^ k is at least 1 - k u, u being 2 ^ -32 (power-least), so that within k is a ratio from 1 - k u to its reciprocal (within-linear);
 -- up to 1000 unit roundings are a quarter of a millionth at most (within-close).
 use mathlib.Core.Path.{_≡_}
-use Prim.Native.Nat.{ℕ, zero, suc, _+_, _-_, _*_, _^_, _≤_, _<_}
+use Prim.Native.Nat.{ℕ, zero, suc, _-_, _*_, _^_, _≤_, _<_}
 use native.Mathlib.Nat.{mul-le-mul-left, mul-le-mul-right, le-of-mul-le-mul-left, one-le-pow, pow-zero, pow-suc}
 use native.Mathlib.Omega.{arith}
 use Rattle.fraction.specs.Fraction.{Fraction}

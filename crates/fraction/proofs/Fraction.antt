@@ -1,6 +1,6 @@
 -- Laws of document 01's fractions: `Same` is an equivalence that sum, product and quotient respect (`same-refl`, `sum-same`, ..), and when a top is above zero.
 use mathlib.Core.Path.{_≡_, refl, sym, ap}
-use Prim.Native.Nat.{ℕ, zero, suc, _+_, _*_, _<_}
+use Prim.Native.Nat.{ℕ, zero, suc, _*_, _<_}
 use native.Mathlib.Nat.{mul-pos, eq-of-mul-eq-mul-right}
 use native.Mathlib.Omega.{arith}
 use Rattle.fraction.specs.Fraction.{Fraction, Same, sum, product, dividedBy, quotient}

@@ -1,6 +1,5 @@
 -- The solver at work: determinants of two and three rows.
 use mathlib.Core.Path.{_≡_, refl}
-use Prim.Native.Nat.{ℕ}
 use Rattle.fraction.specs.Ring.{CRing}
 use Rattle.fraction.proofs.Solver.{_⊕_, _⊗_, _⊝_, ⊖, _≐_, solve}
 

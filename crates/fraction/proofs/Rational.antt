@@ -4,7 +4,7 @@ use mathlib.Core.Path.{_≡_, refl, sym, _∙_}
 use mathlib.Core.Logic.{_↔_, Equivalence}
 use mathlib.Core.Quot.{Quot·mk, Quot·sound}
 use mathlib.Mathlib.Data.Quot.{Equivalence·quot-mk-eq-iff}
-use Prim.Native.Nat.{ℕ, zero, suc, _+_, _*_, _<_}
+use Prim.Native.Nat.{ℕ, zero, suc, _<_}
 use native.Mathlib.Nat.{ℕ-set}
 use native.Mathlib.Omega.{arith}
 use Rattle.fraction.specs.Fraction.{Fraction, Same, whole, sum, product, quotient}

@@ -1,5 +1,5 @@
 -- The laws of a commutative ring, and the set `ring` of rules by which `simp ring` sorts both sides of an identity. Larger identities: Solver.
-use mathlib.Core.Path.{_≡_, refl, sym, _∙_, ap, ap₂}
+use mathlib.Core.Path.{_≡_, sym, _∙_, ap, ap₂}
 use Rattle.fraction.specs.Ring.{CRing}
 
 module _ (K : CRing) where

@@ -1,7 +1,7 @@
 -- Laws of document 01's "within k": an equivalence as k adds up (`within-refl`, `within-sym`, `within-trans`), and what sum, product and quotient make of it
 -- (`within-sum`, `within-mul`, `within-div`). The powers of `less` and `unit` are never computed.
 use mathlib.Core.Path.{_≡_, refl, sym}
-use Prim.Native.Nat.{ℕ, zero, suc, _+_, _-_, _*_, _^_, _≤_, _<_, max}
+use Prim.Native.Nat.{ℕ, _+_, _-_, _*_, _^_, _≤_, _<_, max}
 use native.Mathlib.Nat.{add-comm, mul-pos, mul-le-mul, mul-le-mul-left, le-of-mul-le-mul-right, one-le-pow, pow-le-pow-left, pow-zero, le-max-left, le-max-right}
 use native.Mathlib.Omega.{arith}
 use lib.Pow.{pow-add}

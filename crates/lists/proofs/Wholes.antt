@@ -1,7 +1,7 @@
 -- Laws of whole numbers with a sign, as the code steps through them: their signs (`below-zero`, `not-negative`), a negative number without its sign (`Flipped`,
 -- `flipped`), a sign put on (`minus-fits`, `minus-is`), and kept exponents (`biased-negative`, `biased-plain`, `biased-near`,
 -- `exponent-near`, `biased-exponent`).
-use mathlib.Core.Path.{_≡_, refl, ap, _∙_}
+use mathlib.Core.Path.{_≡_, refl, _∙_}
 use mathlib.Core.Bool.{true, false, true≢false, false≢true}
 use mathlib.Core.List.{List}
 use Prim.Native.Nat.{ℕ, zero, suc, _+_, _-_, _<_, _≤_, _^_}

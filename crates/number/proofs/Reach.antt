@@ -1,7 +1,7 @@
 -- How far each operation takes the exponents: `ranged-sum`, `ranged-product`, `ranged-quotient`, `ranged-difference`; `ranged-more` widens a range;
 -- `ranged-zero`, `ranged-one` and `ranged-stored` start one; `in-range-stored` and `stored-in-range` tie the code's test to stored numbers.
 use mathlib.Core.Path.{_≡_, refl, sym, ap, _∙_, subst}
-use mathlib.Core.Bool.{Bool, true, false, _&&_, false≢true}
+use mathlib.Core.Bool.{true, false}
 use Prim.Native.Nat.{ℕ, zero, suc, _+_, _-_, _*_, _^_, _≤_, _<_, min}
 use native.Mathlib.Nat.{mul-le-mul, mul-le-mul-right, min-comm}
 use native.Mathlib.Decide.{decLe}

@@ -1,5 +1,5 @@
 -- Document 01's marked examples hold as calls on a shelf (call-examples), by computing.
-use mathlib.Core.Path.{_≡_, refl}
+use mathlib.Core.Path.{refl}
 use lib.Ieee.{size}
 use Rattle.number.specs.Examples.{AllHold}
 use Rattle.number.specs.Number.{round, carried, sumOf, productOf, quotientOf, inRange}

@@ -5,7 +5,7 @@ use mathlib.Core.Path.{_≡_, refl, sym, ap, ap₂, _∙_}
 use mathlib.Core.Bool.{Bool, true, false, not}
 use lib.Dec.{leb}
 use borrow.Author.Tests.{leb-true}
-use mathlib.Core.List.{List, [], _∷_, _++_}
+use mathlib.Core.List.{List, [], _∷_}
 use Rattle.number.specs.declared.Number.{Number}
 use Rattle.number.specs.Number.{bias, rounded, inRange, Stored, exponentOf}
 use Rattle.rowset.specs.Mask.{maskCount}
@@ -21,7 +21,6 @@ use Rattle.places.specs.declared.Verdict.the-variants.{Accepted, Refused}
 use Rattle.places.specs.Shelf.{rowsAt, tableAt, Good}
 use Rattle.places.specs.Refusal.{firstOf, orElse, when, refused, unfit, sourceTests}
 use Rattle.places.proofs.Verdicts.{first-append, first-last, Source, Fit}
-use Rattle.operations.specs.declared.Valued.{Valued}
 use Rattle.operations.specs.declared.Valued.the-variants as value
 use Rattle.operations.specs.Operations.{minorAt, minorTests, valued, minorCall}
 use Rattle.number.proofs.Tests.{both}

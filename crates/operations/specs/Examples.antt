@@ -4,7 +4,6 @@ use Prim.Native.Nat.{ℕ}
 use Rattle.number.specs.declared.Number.{Number}
 use Rattle.number.specs.Number.{oneNumber, exponentOf}
 use Rattle.number.specs.Examples.{Row, row}
-use Rattle.words.specs.Word.{Factors}
 use Rattle.words.specs.Operation.{rowByRow}
 use Rattle.words.specs.Examples.{ones, half, threeHalves, two, five, large}
 use Rattle.places.specs.declared.Shelf.{Shelf}

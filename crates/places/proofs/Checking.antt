@@ -14,7 +14,6 @@ use Rattle.number.specs.declared.Number.{Number}
 use Rattle.number.specs.Number.{bias, zeroNumber, inRange, Stored}
 use Rattle.number.proofs.Tests.{unless}
 use Rattle.words.specs.Word.{Factors}
-use Rattle.words.specs.RowSet.{In}
 use Rattle.words.specs.Sources.{Each}
 use Rattle.walk.specs.Table.{absent, factorsOf, padded, tableOf}
 use Rattle.places.specs.declared.Shelf.{Shelf}

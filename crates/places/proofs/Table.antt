@@ -1,7 +1,7 @@
 -- Laws of tables: what stands where (`table-at`, `factors-table`), a table by its factors (`table-same`, `table-refactored`), the exchange (`table-exchanged`),
 -- factors one behind the other (`square-list`, `square-factors`), exponents outside (`outside-table`).
 use Prim.Native.Nat.{ℕ, zero, suc, _+_, _-_, _*_, _/_, _%_, _<_, _≤_}
-use native.Mathlib.Nat.{mul-le-mul, mul-le-mul-right, div-add-mod', mod-lt}
+use native.Mathlib.Nat.{mul-le-mul, mul-le-mul-right, mod-lt}
 use native.Mathlib.Omega.{arith}
 use mathlib.Core.Path.{_≡_, refl, sym, ap, _∙_}
 use mathlib.Core.Bool.{Bool, true, false, not, cond, _&&_, _||_, or-true}
@@ -10,7 +10,7 @@ use lib.Dec.{leb}
 use lib.ListN.{length, getD, take}
 use borrow.Author.Tests.{le-leb, lt-leb, leb-true}
 use Rattle.number.specs.declared.Number.{Number}
-use Rattle.number.specs.Number.{bias, zeroNumber, inRange}
+use Rattle.number.specs.Number.{zeroNumber, inRange}
 use Rattle.words.specs.Word.{Factors, exchanged}
 use Rattle.words.specs.Operation.{rowByRow}
 use Rattle.words.specs.RowSet.{In}

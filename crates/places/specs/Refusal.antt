@@ -1,8 +1,8 @@
 -- Turning a call down (document 01, "Turned down for the input", "Turned down for the state"). A call has a list of conditions with their numbers, in document 01's order;
 -- the first that holds turns it down (`firstOf`).
 use Prim.Native.Nat.{ℕ}
-use mathlib.Core.Bool.{Bool, true, false, not, cond, _||_}
-use mathlib.Core.List.{List, [], _∷_, _++_}
+use mathlib.Core.Bool.{Bool, true, false, not, _||_}
+use mathlib.Core.List.{List, [], _∷_}
 use lib.Dec.{ltb, eqb}
 use Rattle.rowset.specs.Mask.{maskCount, maskBeyond}
 use Rattle.places.specs.declared.Shelf.{Shelf}

@@ -1,13 +1,13 @@
 -- The sets that a letter changes, those with row a and without its neighbour o, are made of the sets of the other rows: put apart with a put in (changedOf), and closed up again (closedOf).
 -- Each has one row more (changed-count, closed-count), one way leads back the other (changed-closed, closed-changed), and n rows become n - 2 (changed-below, closed-below).
-use mathlib.Core.Path.{_≡_, refl, sym, ap, _∙_}
-use mathlib.Core.Bool.{Bool, true, false, not, _&&_, _||_}
-use Prim.Native.Nat.{ℕ, suc, _+_, _-_, _*_, _/_, _%_, _^_, _≤_, _<_, min}
+use mathlib.Core.Path.{_≡_, ap, _∙_}
+use mathlib.Core.Bool.{Bool, true, _&&_}
+use Prim.Native.Nat.{ℕ, suc, _+_, _-_, _^_, _≤_, _<_, min}
 use native.Mathlib.Omega.{arith}
 use borrow.Author.Tests.{le-leb, lt-ltb, ltb-true}
-use lib.Dec.{T, eqb, leb, ltb, eqb→eq, leb→le}
-use Rattle.rowset.specs.Mask.{digit, maskHas, maskMoves, countTo, maskCount, positionOf}
-use Rattle.rowset.proofs.Finite.{and-left, and-right, T-true, implies, implies-at, all, all-at, all₃, all₃-at}
+use lib.Dec.{T, eqb, leb, ltb, eqb→eq}
+use Rattle.rowset.specs.Mask.{maskHas, maskMoves, countTo, maskCount, positionOf}
+use Rattle.rowset.proofs.Finite.{T-true, implies, implies-at, all, all-at, all₃, all₃-at}
 use Rattle.rowset.specs.Sets.{adjacent, partedOf, closedOf, SetAt, ChangedAt}
 
 unfoldable pub changedOf : ℕ → ℕ → ℕ → ℕ

@@ -1,12 +1,11 @@
 -- How many rows a mask has (mask-count), consecutive rows (mask-run, run-count) and sets among chosen rows (mask-among, among-count), on masks as on lists.
 use mathlib.Core.Path.{_≡_, refl, sym, ap, _∙_}
 use mathlib.Core.Bool.{Bool, true, false, _&&_}
-use mathlib.Core.List.{[], _∷_}
+use mathlib.Core.List.{_∷_}
 use Prim.Native.Nat.{ℕ, zero, suc, _+_, _-_, _^_, _≤_, _<_}
 use native.Mathlib.Decide.{le-ind}
 use native.Mathlib.Omega.{arith}
 use lib.Dec.{eqb, eqb→eq}
-use lib.ListN.{length}
 use lib.Pow.{pow-mono, pow-pos}
 use Rattle.words.specs.RowSet.{RowSet, count, equal, rows, ofMask, among}
 use Rattle.words.proofs.RowSets.{equal-true}

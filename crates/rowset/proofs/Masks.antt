@@ -1,7 +1,7 @@
 -- Masks below 2 ^ n and lists of n Bools are the same sets (mask-back, set-back), and what is asked or made of a mask is asked or made of its list:
 -- mask-has, mask-moves, mask-put, mask-replaced, mask-equal; mask-within, put-below and replaced-below keep a mask below 2 ^ n.
 use mathlib.Core.Path.{_≡_, refl, sym, ap, ap₂, _∙_, subst}
-use mathlib.Core.Bool.{Bool, true, false, cond, not, _&&_, false≢true}
+use mathlib.Core.Bool.{Bool, true, false, not, _&&_}
 use mathlib.Core.List.{[], _∷_}
 use Prim.Native.Nat.{ℕ, zero, suc, _+_, _-_, _*_, _%_, _^_, _≤_, _<_}
 use native.Mathlib.Decide.{ℕ-discrete}

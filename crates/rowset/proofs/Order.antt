@@ -1,17 +1,17 @@
 -- The sets of k rows in the order of their masks: where each stands (position-lt, position-within), the table of all sets (table, set-at) and how many there are (counts, count-at).
-use mathlib.Core.Path.{_≡_, refl, sym, ap, ap₂, _∙_}
+use mathlib.Core.Path.{_≡_, refl, ap, ap₂, _∙_}
 use mathlib.Core.Bool.{Bool, true, false}
 use mathlib.Core.List.{List, [], _∷_, _++_}
 use Prim.Native.Nat.{ℕ, zero, suc, _+_, _-_, _*_, _/_, _%_, _^_, _≤_, _<_}
-use native.Mathlib.Nat.{le-refl, not-suc-le-zero, add-assoc}
-use native.Mathlib.Decide.{le-ind, decLt}
+use native.Mathlib.Nat.{not-suc-le-zero}
+use native.Mathlib.Decide.{decLt}
 use native.Mathlib.Omega.{arith}
 use borrow.Author.Tests.{eq-eqb, eqb-true}
-use lib.Dec.{T, eqb, leb, eqb→eq, leb→le}
+use lib.Dec.{T, eqb, leb, leb→le}
 use lib.ListN.{length, getD, List·getD-append}
 use lib.Seq.{getD-append-add}
 use Rattle.rowset.specs.Mask.{digit, maskHas, countTo, maskCount, countBelow, positionOf}
-use Rattle.rowset.proofs.Finite.{and-left, and-right, all, all-at}
+use Rattle.rowset.proofs.Finite.{all, all-at}
 use Rattle.rowset.proofs.Tabulated.{tabulated, tabulated-first}
 use Rattle.rowset.proofs.Positions.{below-mono, position-below}
 use Rattle.rowset.specs.Sets.{SetAt}

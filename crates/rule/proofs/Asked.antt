@@ -1,30 +1,29 @@
 -- The minors that the formulas ask for: at masks that the walk takes (asked-ready), as the definition has them and fit to be multiplied and divided by (asked-answer, chosen-usable); of consecutive rows (run-ready, run-answer).
 use mathlib.Core.Path.{_≡_, refl, sym, ap, ap₂, _∙_, subst}
-use mathlib.Core.Bool.{Bool, true, false}
-use mathlib.Core.List.{List, [], _∷_, map}
+use mathlib.Core.List.{[]}
 use Prim.Native.Nat.{ℕ, suc, _+_, _-_, _*_, _^_, _≤_, _<_}
 use native.Mathlib.Nat.{mul-le-mul, min-le-left}
 use native.Mathlib.Omega.{arith}
 use lib.ListN.{length, take, length-map, length-take}
 use lib.Pow.{pow-mono}
-use Rattle.number.specs.Number.{rounded, bias, Ranged}
+use Rattle.number.specs.Number.{rounded}
 use Rattle.number.specs.declared.Number.{Number}
 use Rattle.number.proofs.Reach.{ranged-more}
 use Rattle.rowset.specs.Mask.{maskCount, maskAmong, maskRun}
 use Rattle.rowset.proofs.Masks.{ofMask-length}
 use Rattle.rowset.proofs.Counts.{mask-count, mask-among, among-below, among-count, mask-run, run-count, run-below}
 use Rattle.words.specs.RowSet.{RowSet, count, among, rows, ofMask}
-use Rattle.words.specs.Walk.{minor, walk, oneAt}
+use Rattle.words.specs.Walk.{minor}
 use Rattle.words.specs.Formula.{newFactor}
 use Rattle.words.specs.Operation.{joinedWord, refactored}
 use Rattle.words.proofs.Chosen.{length-among}
-use Rattle.words.specs.Sources.{StoredSteps, runReach}
+use Rattle.words.specs.Sources.{StoredSteps}
 use Rattle.words.proofs.Exponents.{walk-ranged}
 use Rattle.walk.specs.Steps.{stepOf, stepsOf}
 use Rattle.walk.specs.Table.{tableOf}
 use Rattle.walk.proofs.Minors.{rows-few}
 use Rattle.rule.specs.declared.Chosen.{Chosen}
-use Rattle.rule.specs.Chosen.{sizeOf, chosenRows, chosenColumns, chosenMinor, turnedBy, Proper, Usable}
+use Rattle.rule.specs.Chosen.{sizeOf, chosenRows, chosenColumns, chosenMinor, Proper, Usable}
 
 module _ (c : Chosen) (P : Proper c) where
   few-masks : 2 ^ c .word .n ≤ 2 ^ 8

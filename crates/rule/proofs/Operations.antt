@@ -1,5 +1,5 @@
 -- From steps and chosen rows to a run of the rule: it can be run (run-proper), and what comes of it (run-result); all rows as a mask (all-mask).
-use mathlib.Core.Path.{_≡_, refl, sym, ap, ap₂, _∙_, subst}
+use mathlib.Core.Path.{_≡_, sym, ap, ap₂, _∙_, subst}
 use mathlib.Core.List.{List}
 use Prim.Native.Nat.{ℕ, _^_, _≤_, _<_}
 use native.Mathlib.Omega.{arith}

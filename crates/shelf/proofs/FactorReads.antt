@@ -1,8 +1,8 @@
 -- A factor of a place: where it stands and what it is (`factor-is`), and the answer (`factor-done`).
-use Prim.Native.Nat.{ℕ, _+_, _-_, _*_, _^_, _≤_, _<_}
+use Prim.Native.Nat.{ℕ, _+_, _-_, _*_, _^_, _<_}
 use native.Mathlib.Decide.{decLt}
 use native.Mathlib.Omega.{arith}
-use mathlib.Core.Path.{_≡_, refl, sym, ap, _∙_}
+use mathlib.Core.Path.{_≡_, sym, ap, _∙_}
 use mathlib.Core.Bool.{Bool, true, cond, _&&_}
 use mathlib.Core.List.{List}
 use lib.Dec.{leb}
@@ -10,7 +10,7 @@ use lib.IntN.{ℤ}
 use lib.ListN.{length, getD, List·getD-eq-default}
 use borrow.Author.Tests.{le-leb}
 use Rattle.number.specs.declared.Number.{Number}
-use Rattle.number.specs.Number.{zeroNumber, Stored, exponentOf}
+use Rattle.number.specs.Number.{zeroNumber, exponentOf}
 use Rattle.words.specs.RowSet.{In}
 use Rattle.walk.specs.Table.{absent, factorsOf}
 use Rattle.places.specs.declared.Shelf.{Shelf}

@@ -3,9 +3,8 @@ use Prim.Native.Nat.{ℕ, zero, suc, _+_, _-_, _*_, _/_, _%_, _<_, _≤_}
 use native.Mathlib.Nat.{mod-lt}
 use native.Mathlib.Omega.{arith}
 use mathlib.Core.Path.{_≡_, refl, sym, ap, _∙_}
-use mathlib.Core.Bool.{Bool, true, false, cond}
+use mathlib.Core.Bool.{Bool, cond}
 use mathlib.Core.List.{List, [], _∷_, _++_}
-use lib.Dec.{ltb}
 use lib.ListN.{length, getD, take, drop, take-append-drop}
 use lib.Seq.{getD-take}
 use borrow.Author.Tests.{lt-ltb, le-ltb}
@@ -14,7 +13,6 @@ use Rattle.number.specs.declared.Number.{Number}
 use Rattle.number.specs.Number.{zeroNumber, Stored}
 use Rattle.words.specs.Word.{Factors}
 use Rattle.words.specs.Operation.{rowByRow}
-use Rattle.words.specs.RowSet.{In}
 use Rattle.words.specs.Sources.{Each}
 use Rattle.words.proofs.RowByRow.{rowByRow-length}
 use Rattle.reader.specs.declared.Outcome.the-variants as outcome
@@ -30,10 +28,10 @@ use Rattle.shelf.specs.declared.Changed.{Changed}
 use Rattle.walk.specs.Table.{tableOf}
 use Rattle.places.specs.Table.{squareOf}
 use Rattle.places.specs.Shelf.{holding, Fits, Good}
-use Rattle.places.specs.Refusal.{firstOf, orElse, after, refused, targetTests}
+use Rattle.places.specs.Refusal.{firstOf, orElse, refused, targetTests}
 use Rattle.shelf.specs.Calls.{changed, ofReading, loadTests, readTo, loadCall}
 use Rattle.places.proofs.RowByRow.{row-by-row-get, row-below}
-use Rattle.places.proofs.Table.{square-below, some-rows, table-same}
+use Rattle.places.proofs.Table.{square-below, table-same}
 use Rattle.places.proofs.Holding.{fits-table, good-put}
 use Rattle.places.proofs.Verdicts.{first-last, first-passed, target-accepted, after-good}
 

@@ -1,12 +1,12 @@
 -- DEMAND 2 of the shelf: bytes written for a matrix read back as that matrix (`write-load`), at most 449 of them (`write-short`), and accepted bytes are the ones that the writer makes (`load-write`).
 -- A matrix that is loaded and dropped leaves the shelf as it was (`load-drop`).
-use Prim.Native.Nat.{ℕ, _-_, _*_, _≤_, _<_}
+use Prim.Native.Nat.{ℕ, _-_, _≤_, _<_}
 use native.Mathlib.Omega.{arith}
 use mathlib.Core.Path.{_≡_, refl, sym, ap, _∙_}
 use mathlib.Core.Bool.{Bool, true, false, cond}
-use mathlib.Core.List.{List, [], _∷_, _++_, append-nil}
+use mathlib.Core.List.{List, [], append-nil}
 use lib.Dec.{ltb}
-use lib.ListN.{length, take}
+use lib.ListN.{length}
 use lib.Seq.{take-all}
 use borrow.Author.Tests.{ltb-false}
 use Rattle.number.specs.declared.Number.{Number}
@@ -22,8 +22,7 @@ use Rattle.reader.specs.Matrix.{Reading, matrix, fault, matrixOf}
 use Rattle.reader.proofs.RoundTrip.{matrix-written, matrix-read}
 use Rattle.words.proofs.RowByRow.{rowByRow-length}
 use Rattle.places.specs.declared.Shelf.{Shelf}
-use Rattle.places.specs.declared.Verdict.{Verdict}
-use Rattle.places.specs.declared.Verdict.the-variants.{Accepted, Refused}
+use Rattle.places.specs.declared.Verdict.the-variants.{Accepted}
 use Rattle.places.specs.Table.{squareOf}
 use Rattle.places.specs.Shelf.{rowsAt, factorsAt, withTable, holding, without, Good}
 use Rattle.places.specs.Refusal.{firstOf, refused, targetTests}
@@ -31,8 +30,8 @@ use Rattle.places.proofs.RowByRow.{row-by-row-at, row-by-row-list}
 use Rattle.places.proofs.Table.{table-length, table-same, square-list, square-factors}
 use Rattle.places.proofs.Holding.{rows-held, factors-held, put-put, put-held}
 use Rattle.places.proofs.Verdicts.{Source, first-passed, target-accepted}
-use Rattle.shelf.specs.Calls.{changed, ofReading, loadTests, loadCall, bytesAt}
-use Rattle.shelf.proofs.Loading.{stored-rows, read-fits, load-done, load-read}
+use Rattle.shelf.specs.Calls.{changed, ofReading, loadCall, bytesAt}
+use Rattle.shelf.proofs.Loading.{stored-rows, read-fits, load-done}
 
 -- the same factors row by row
 rows-same : (n : ℕ) (b c : Factors Number) → ((i j : ℕ) → In n i → In n j → b i j ≡ c i j) → rowByRow n b ≡ rowByRow n c

@@ -1,6 +1,4 @@
 -- WHATEVER IS CALLED, in whatever order, the shelf stays good (`call-good`, `calls-good`).
-use Prim.Native.Nat.{ℕ}
-use mathlib.Core.Path.{_≡_}
 use mathlib.Core.List.{List, [], _∷_}
 use Rattle.rule.specs.declared.Whole.the-variants.{Inverse, Converse}
 use Rattle.places.specs.declared.Shelf.{Shelf}

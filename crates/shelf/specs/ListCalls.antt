@@ -1,7 +1,6 @@
 -- Carrying a list through a place's word, and counting reversals (document 01, "Shelf calls"): what each answers (`carryCall`, `reversalsCall`), and the lent items after a carry (`itemsAfter`).
 use Prim.Native.Nat.{ℕ}
 use mathlib.Core.List.{List, [], _∷_, _++_}
-use mathlib.Core.Option.{Option, none, some}
 use lib.IntN.{ℤ}
 use lib.Seq.{sets}
 use Rattle.lists.specs.Items.{listNumbers}

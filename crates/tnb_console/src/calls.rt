@@ -1,6 +1,5 @@
 // Each call that a request asks for, with its answer put into the output.
 ghost use mathlib.Core.Path.{_≡_};
-ghost use Prim.Native.Nat.{min};
 ghost use Rattle.lines.specs.Text.{Puts};
 ghost use Rattle.reader.specs.Matrix.{behindOf};
 ghost use Rattle.places.specs.Shelf.{Good};

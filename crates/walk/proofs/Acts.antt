@@ -1,6 +1,6 @@
 -- The letters of a step's word in the code's terms: rows, factors and entries by their places (letter-pair), E and Et as moves (letter-moved, letter-stored), D as a scaling (letter-scaled).
 use mathlib.Core.Path.{_≡_, refl, sym, ap, ap₂, _∙_, subst}
-use mathlib.Core.Bool.{Bool, true, false}
+use mathlib.Core.Bool.{Bool}
 use mathlib.Core.List.{List, [], _∷_}
 use Prim.Native.Nat.{ℕ, zero, suc, _+_, _-_, _*_, _≤_, _<_}
 use native.Mathlib.Nat.{not-suc-le-zero}
@@ -14,13 +14,13 @@ use Rattle.words.specs.Operation as words
 use Rattle.words.specs.Operation.{stepWord, joinedWord}
 use Rattle.words.specs.Walk.{State, moved, scaled, act}
 use Rattle.words.proofs.Related.{Matched, Letters}
-use Rattle.words.proofs.Alike.{Alike, AlikeStep, alike, AlikeSteps, letters-joined}
+use Rattle.words.proofs.Alike.{Alike, alike, letters-joined}
 use Rattle.words.specs.Sources.{StoredStep}
 use Rattle.walk.specs.declared.Way.{Way}
 use Rattle.walk.specs.declared.Step.{Step}
 use Rattle.walk.specs.declared.letters.Move.{Move}
 use Rattle.walk.specs.Table.{cellOf, factorsOf}
-use Rattle.walk.specs.Steps.{wayOf, stepOf, letterAt, scaling, divides, backwards, entriesOf, entryPlace, Entries}
+use Rattle.walk.specs.Steps.{wayOf, stepOf, letterAt, scaling, divides, entriesOf, Entries}
 use Rattle.walk.specs.Letters.{middle, placeWord, moveOf, moveAt}
 use Rattle.walk.specs.Held.{Agree}
 use Rattle.walk.proofs.Scaling.{scaled-entries}

@@ -12,7 +12,7 @@ use Rattle.number.specs.Number.{zeroNumber, Stored}
 use Rattle.number.specs.declared.Number.{Number}
 use Rattle.walk.specs.declared.Way.{Way}
 use Rattle.words.specs.RowSet.{In}
-use Rattle.walk.specs.Table.{cellOf, factorsOf, absent}
+use Rattle.walk.specs.Table.{factorsOf, absent}
 use Rattle.walk.specs.Steps.{entriesOf, backwards, entryPlace, StoredEntries, Entries}
 
 -- which default a read within a list is given does not matter

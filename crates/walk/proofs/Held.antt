@@ -1,8 +1,8 @@
 -- States that agree on the sets of k rows (agree-refl, agree-trans), the state that 70 numbers hold by masks (held-back, agree-masks), and letters on states that agree (act-agree).
 use mathlib.Core.Path.{_≡_, refl, sym, ap, ap₂, _∙_, subst}
 use mathlib.Core.Bool.{Bool, true, false, not, _&&_}
-use mathlib.Core.List.{List, [], _∷_}
-use Prim.Native.Nat.{ℕ, zero, suc, _+_, _-_, _^_, _≤_, _<_}
+use mathlib.Core.List.{List}
+use Prim.Native.Nat.{ℕ, _-_, _^_, _≤_, _<_}
 use native.Mathlib.Omega.{arith}
 use lib.ListN.{length}
 use lib.Pow.{pow-mono}
@@ -12,7 +12,7 @@ use Rattle.rowset.specs.Mask.{maskOf, maskCount, maskMoves, maskReplaced}
 use Rattle.rowset.proofs.Masks.{maskOf-below, set-back, mask-back, ofMask-length, mask-moves, mask-replaced, replaced-below}
 use Rattle.rowset.proofs.Moved.{replaced-count}
 use Rattle.rowset.proofs.Counts.{mask-count}
-use Rattle.words.specs.RowSet.{RowSet, has, put, replaced, count, ofMask}
+use Rattle.words.specs.RowSet.{RowSet, has, replaced, count, ofMask}
 use Rattle.words.specs.Word.{Letter, E, Et, D, Dinv}
 use Rattle.words.specs.Walk.{State, moved, movedIf, scaled, act}
 use Rattle.words.proofs.RowSets.{length-replaced}

@@ -1,8 +1,8 @@
 -- A minor from its start (joined-start) through the steps of a joined word, the last first (joined-next), within range (joined-working), to the number at its row set (minor-held);
 -- the empty minor is 1 (minor-empty).
 use mathlib.Core.Path.{_≡_, refl, sym, ap, ap₂, _∙_, subst}
-use mathlib.Core.Bool.{Bool, true, false, not, cond, _&&_, false≢true}
-use mathlib.Core.List.{List, [], _∷_, _++_, map}
+use mathlib.Core.Bool.{Bool, true, false, not, cond, _&&_}
+use mathlib.Core.List.{List, [], _∷_, map}
 use Prim.Native.Nat.{ℕ, zero, suc, _+_, _-_, _*_, _^_, _≤_, _<_}
 use native.Mathlib.Nat.{mul-le-mul, min-eq-left}
 use native.Mathlib.Numerals.{add-one}
@@ -12,7 +12,7 @@ use borrow.Author.Tests.{eq-eqb, ne-eqb}
 use lib.Dec.{T, eqb, leb, leb→le}
 use lib.ListN.{getD, length, take, drop, set, replicate, length-map, length-take, length-drop, getD-replicate, length-replicate, List·getD-map}
 use lib.Seq.{drop-cons, drop-length, getD-take}
-use Rattle.number.specs.Number.{rounded, zeroNumber, oneNumber, Ranged, bias}
+use Rattle.number.specs.Number.{rounded, zeroNumber, oneNumber}
 use Rattle.number.specs.declared.Number.{Number}
 use Rattle.number.proofs.Reach.{ranged-more}
 use Rattle.fraction.specs.Arithmetic.{Arithmetic}
@@ -21,14 +21,14 @@ use Rattle.rowset.proofs.Finite.{implies, implies-at, all, all-at}
 use Rattle.rowset.proofs.Counts.{count-to, countTo-le, mask-count}
 use Rattle.rowset.proofs.Masks.{mask-equal, ofMask-length}
 use Rattle.rowset.proofs.Positions.{position-below}
-use Rattle.words.specs.RowSet.{RowSet, has, replaced, count, equal, ofMask}
+use Rattle.words.specs.RowSet.{RowSet, has, count, equal, ofMask}
 use Rattle.words.specs.Word.{Letter, E, Et, D, Dinv, Word}
 use Rattle.words.specs.Walk.{State, oneAt, moved, movedIf, scaled, act, walk, minor}
 use Rattle.words.specs.Operation as words
 use Rattle.words.specs.Operation.{stepWord, joinedWord}
 use Rattle.words.proofs.Walks.{walk-append}
 use Rattle.words.proofs.Steps.{step-rows}
-use Rattle.words.specs.Sources.{StoredStep, StoredSteps, runReach}
+use Rattle.words.specs.Sources.{StoredStep, StoredSteps}
 use Rattle.words.proofs.Exponents.{walk-ranged}
 use Rattle.walk.specs.Table.{absent}
 use Rattle.walk.specs.Held.{heldAt, stateOf, startOf, Agree, Working, stepReach}

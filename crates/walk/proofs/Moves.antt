@@ -1,9 +1,8 @@
 -- A letter E or Et on 70 numbers: what it makes of a set by masks (moved-changed, moved-still), how far it takes the exponents (move-ready), and its sets one after the other (move-next, move-all).
 use mathlib.Core.Path.{_≡_, refl, sym, ap, ap₂, _∙_, subst}
-use mathlib.Core.Bool.{Bool, true, false, not, _&&_, _||_, false≢true}
+use mathlib.Core.Bool.{Bool, true, false, _||_, false≢true}
 use mathlib.Core.List.{List}
-use Prim.Native.Nat.{ℕ, suc, _+_, _-_, _^_, _≤_, _<_, min}
-use native.Mathlib.Nat.{le-refl}
+use Prim.Native.Nat.{ℕ, _+_, _-_, _^_, _≤_, _<_, min}
 use native.Mathlib.Omega.{arith}
 use borrow.Author.Tests.{eqb-true}
 use lib.Dec.{eqb}
@@ -15,8 +14,8 @@ use Rattle.rowset.specs.Mask.{maskMoves, maskReplaced, maskCount, countBelow, p
 use Rattle.rowset.proofs.Masks.{mask-moves, mask-replaced, replaced-below}
 use Rattle.rowset.proofs.Moved.{replaced-count, replaced-stays}
 use Rattle.rowset.proofs.Positions.{position-injective}
-use Rattle.words.specs.RowSet.{RowSet, has, replaced, ofMask}
-use Rattle.words.specs.Walk.{State, moved, movedIf}
+use Rattle.words.specs.RowSet.{replaced, ofMask}
+use Rattle.words.specs.Walk.{moved, movedIf}
 use Rattle.rowset.specs.Sets.{adjacent, Neighbours, closedOf, ChangedAt}
 use Rattle.walk.specs.Table.{absent}
 use Rattle.walk.specs.Held.{heldAt, stateOf, Agree, Working, letterReach}

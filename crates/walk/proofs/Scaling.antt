@@ -2,25 +2,25 @@
 use mathlib.Core.Path.{_≡_, refl, sym, ap, ap₂, _∙_, subst}
 use mathlib.Core.Bool.{Bool, true, false, false≢true}
 use mathlib.Core.List.{List, [], _∷_}
-use Prim.Native.Nat.{ℕ, zero, suc, _+_, _-_, _*_, _^_, _≤_, _<_}
+use Prim.Native.Nat.{ℕ, suc, _+_, _-_, _*_, _^_, _≤_, _<_}
 use native.Mathlib.Numerals.{add-one}
 use native.Mathlib.Omega.{arith}
 use lib.ListN.{getD, set, length}
-use Rattle.number.specs.Number.{rounded, productOf, quotientOf, Ranged, Stored, bias}
+use Rattle.number.specs.Number.{rounded, Ranged, Stored, bias}
 use Rattle.number.specs.declared.Number.{Number}
 use Rattle.number.proofs.Reach.{ranged-more, ranged-stored, ranged-product, ranged-quotient}
-use Rattle.rowset.specs.Mask.{maskHas, maskCount, countBelow, positionOf}
+use Rattle.rowset.specs.Mask.{maskHas, countBelow, positionOf}
 use Rattle.rowset.proofs.Masks.{ofMask-suc, ofMask-length}
 use Rattle.rowset.proofs.Positions.{position-injective}
 use Rattle.words.specs.RowSet.{RowSet, ofMask}
-use Rattle.words.specs.Walk.{State, scaled}
+use Rattle.words.specs.Walk.{scaled}
 use Rattle.rowset.specs.Sets.{SetAt}
 use Rattle.walk.specs.Table.{absent}
 use Rattle.walk.specs.Steps.{scaling, entriesOf}
 use Rattle.walk.specs.Held.{heldAt, stateOf, Agree, Working, letterReach}
 use Rattle.rowset.proofs.Order.{position-lt, position-within}
 use Rattle.walk.proofs.Held.{held-back, held-working, agree-masks}
-use Rattle.walk.proofs.Sweep.{Swept, below-256, swept-next, swept-all}
+use Rattle.walk.proofs.Sweep.{Swept, swept-next, swept-all}
 
 -- ONE NUMBER
 module _ (op : Number → Number → Number) (e : ℕ → Number) (s : ℕ) (x : Number) where

@@ -1,25 +1,23 @@
 -- The letters of the words of n rows by their numbers, as the code finds them: one computed test each over all n up to 8 and all letters.
 -- What letter t is (letter-diagonal, letter-move), the letters of a way by those of the plain word (move-by), and their rows and places (move-within).
-use mathlib.Core.Path.{_≡_, refl, sym, ap, ap₂, _∙_, subst}
-use mathlib.Core.Bool.{Bool, true, false, not, _&&_, _||_}
+use mathlib.Core.Path.{_≡_, sym, ap, ap₂, _∙_, subst}
+use mathlib.Core.Bool.{Bool, true, false, not, _&&_}
 use mathlib.Core.List.{List, [], _∷_, _++_}
 use Prim.Native.Nat.{ℕ, zero, suc, _+_, _-_, _*_, _/_, _≤_, _<_}
 use native.Mathlib.Nat.{mul-le-mul, not-suc-le-zero}
 use native.Mathlib.Omega.{arith}
-use borrow.Author.Tests.{lt-ltb, le-ltb, ltb-true, eqb-false, not-true}
+use borrow.Author.Tests.{ltb-true, eqb-false, not-true}
 use lib.Dec.{T, eqb, leb, ltb, eqb→eq, leb→le}
 use lib.ListN.{getD, length, replicate}
-use Rattle.rowset.proofs.Finite.{and-left, and-right, T-true, implies, implies-at, all, all-at, all₂, all₂-at}
+use Rattle.rowset.proofs.Finite.{and-left, and-right, T-true, all, all-at}
 use Rattle.words.specs.Word.{Letter, E, Et, D, Dinv, Word, ascending, descending, word, inverseWord, converseWord}
-use Rattle.words.specs.Operation.{stepWord}
 use Rattle.walk.specs.declared.Way.{Way}
 use Rattle.walk.specs.declared.Way.the-variants.{Plain, Inverted, Conversed, Transposed}
 use Rattle.walk.specs.declared.letters.Move.{Move}
-use Rattle.walk.specs.declared.letters.Cell.{Cell}
-use Rattle.rowset.specs.Sets.{adjacent, Neighbours}
+use Rattle.rowset.specs.Sets.{adjacent}
 use Rattle.walk.specs.Table.{cellOf}
 use Rattle.walk.specs.Steps.{divides, backwards, entryPlace}
-use Rattle.walk.specs.Letters.{middle, placeWord, moveOf, moveAt, MoveWithin, CellAt}
+use Rattle.walk.specs.Letters.{middle, placeWord, moveOf, moveAt, MoveWithin}
 
 pub middle-few : (n : ℕ) → n ≤ 8 → n * (n - 1) ≤ 56
 middle-few n l = let h : n - 1 ≤ 7 = omega arith in mul-le-mul l h

@@ -1,6 +1,6 @@
 -- The letters of the first half of a plain word and their counterparts in the second half (lower-at, upper-at), by the stage of a letter; one computed test for the numbers on the way (Stage, stage-at).
 use mathlib.Core.Path.{_≡_, ap, _∙_}
-use mathlib.Core.Bool.{Bool, true, false, _&&_}
+use mathlib.Core.Bool.{Bool, _&&_}
 use Prim.Native.Nat.{ℕ, _+_, _-_, _*_, _/_, _≤_, _<_}
 use native.Mathlib.Omega.{arith}
 use borrow.Author.Tests.{lt-ltb, le-ltb}

@@ -1,8 +1,8 @@
 -- The walk of a step's word from its last letter on (walk-start, walk-next): states that agree stay so (walk-agree), and no number on the way leaves its range (step-working).
 use mathlib.Core.Path.{_≡_, refl, sym, ap, _∙_, subst}
 use mathlib.Core.Bool.{Bool, true, false, cond}
-use mathlib.Core.List.{List, [], _∷_, _++_}
-use Prim.Native.Nat.{ℕ, zero, suc, _+_, _-_, _*_, _≤_, _<_}
+use mathlib.Core.List.{[], _∷_, _++_}
+use Prim.Native.Nat.{ℕ, _+_, _-_, _*_, _≤_, _<_}
 use native.Mathlib.Nat.{mul-le-mul}
 use native.Mathlib.Numerals.{add-one}
 use native.Mathlib.Omega.{arith}
@@ -10,7 +10,7 @@ use borrow.Author.Tests.{eq-eqb, eqb-true}
 use lib.Dec.{eqb}
 use lib.ListN.{getD, length, take, drop, take-append-drop}
 use lib.Seq.{drop-cons, drop-length}
-use Rattle.number.specs.Number.{rounded, zeroNumber, Ranged, Stored, bias}
+use Rattle.number.specs.Number.{rounded, zeroNumber, Ranged, Stored}
 use Rattle.number.specs.declared.Number.{Number}
 use Rattle.number.proofs.Reach.{ranged-more, ranged-zero}
 use Rattle.words.specs.RowSet.{RowSet, count}

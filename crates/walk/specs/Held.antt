@@ -2,7 +2,7 @@
 -- States that agree on the sets of k rows out of n (Agree), and whose numbers lie within reach there (Working).
 use mathlib.Core.Path.{_≡_}
 use mathlib.Core.List.{List}
-use Prim.Native.Nat.{ℕ, _^_}
+use Prim.Native.Nat.{ℕ}
 use lib.ListN.{getD, length, set, replicate}
 use Rattle.number.specs.Number.{rounded, zeroNumber, oneNumber, Ranged}
 use Rattle.number.specs.declared.Number.{Number}

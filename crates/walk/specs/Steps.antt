@@ -1,8 +1,8 @@
 -- Steps as the code holds them: ways (wayOf), the steps of a joined word (stepsOf), their letters (letterAt), the entries of D (Entries).
 use mathlib.Core.Path.{_≡_}
-use mathlib.Core.Bool.{Bool, true, false, cond}
-use mathlib.Core.List.{List, [], _∷_, map}
-use Prim.Native.Nat.{ℕ, _+_, _-_, _*_, _≤_, _<_}
+use mathlib.Core.Bool.{Bool, true, false}
+use mathlib.Core.List.{List, map}
+use Prim.Native.Nat.{ℕ, _+_, _-_, _≤_}
 use lib.ListN.{getD, take}
 use Rattle.number.specs.Number.{zeroNumber, productOf, quotientOf, Stored}
 use Rattle.number.specs.declared.Number.{Number}

@@ -2,12 +2,11 @@
 ghost use mathlib.Core.Path.{_≡_};
 ghost use mathlib.Core.Bool.{cond};
 ghost use Prim.Native.Nat.{_+_, _-_, _*_, _^_, _≤_, _<_};
-ghost use lib.ListN.{getD, take};
-ghost use Rattle.number.specs.Number.{rounded, zeroNumber, Ranged, Stored};
+ghost use Rattle.number.specs.Number.{rounded, Ranged, Stored};
 ghost use Rattle.rowset.specs.Mask.{maskCount};
 ghost use Rattle.rowset.specs.Sets.{Neighbours};
 ghost use Rattle.words.specs.RowSet.{ofMask};
-ghost use Rattle.words.specs.Walk.{oneAt, moved, scaled, act, walk, minor};
+ghost use Rattle.words.specs.Walk.{moved, scaled, act, walk, minor};
 ghost use Rattle.words.specs.Operation.{stepWord, joinedWord};
 ghost use Rattle.words.specs.Sources.{StoredStep, StoredSteps};
 ghost use Rattle.walk.specs.Letters.{middle};

@@ -1,6 +1,5 @@
 use Rattle.rule.specs.declared.Whole.the-variants.{Converse}
 use Rattle.operations.proofs.Results.{whole-ready, operation-done}
-use borrow.Author.Needs.{needs}
 use Rattle.operations.proofs.converse.Statement.{statement}
 use Rattle.operations.proofs.converse.Tie as tie
 use Rattle.operations.proofs.converse.Reads as reads

@@ -1,6 +1,5 @@
 use Rattle.rule.specs.declared.Whole.the-variants.{Inverse}
 use Rattle.operations.proofs.Results.{whole-ready, operation-done}
-use borrow.Author.Needs.{needs}
 use Rattle.operations.proofs.inverse.Statement.{statement}
 use Rattle.operations.proofs.inverse.Tie as tie
 use Rattle.operations.proofs.inverse.Reads as reads

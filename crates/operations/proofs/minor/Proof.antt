@@ -1,16 +1,15 @@
 use mir.Syntax.{w64}
 use mir.Val.{SFits}
 use mir.Facts.{toZ-ofZ}
-use Prim.Native.Nat.{_<_}
 use mathlib.Core.Path.{_≡_, sym, ap, ap₂, _∙_}
 use mathlib.Core.Bool.{true}
 use lib.IntN.{ℤ}
 use Rattle.number.specs.declared.Number.{Number}
 use Rattle.number.specs.Number.{inRange, exponentOf}
 use Rattle.places.specs.declared.Verdict.the-variants.{Accepted}
-use Rattle.places.specs.Shelf.{rowsAt, Good}
+use Rattle.places.specs.Shelf.{rowsAt}
 use Rattle.places.specs.Refusal.{firstOf, when, unfit, sourceTests}
-use Rattle.places.proofs.Verdicts.{Source, Fit, source-accepted, sets-accepted}
+use Rattle.places.proofs.Verdicts.{Source, source-accepted, sets-accepted}
 use Rattle.operations.specs.declared.Valued.the-variants.{Value}
 use Rattle.operations.specs.Operations.{minorAt}
 use Rattle.operations.proofs.MinorCalls.{minor-turned, minor-unfit, minor-outside, minor-done, minor-is, sets-same, minor-workable, in-range-small}

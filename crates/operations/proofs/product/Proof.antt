@@ -1,5 +1,4 @@
 use Rattle.operations.proofs.Results.{product-ready, operation-done}
-use borrow.Author.Needs.{needs}
 use Rattle.operations.proofs.product.Statement.{statement}
 use Rattle.operations.proofs.product.Tie as tie
 use Rattle.operations.proofs.product.Reads as reads

@@ -1,6 +1,6 @@
 use Rattle.walk.specs.Table.{absent}
 use Rattle.number.proofs.Arrays.{length-mapped}
-use Prim.Native.Nat.{ℕ, _+_, _*_, _-_}
+use Prim.Native.Nat.{_+_, _*_, _-_}
 use mathlib.Core.Path.{refl}
 use lib.ListN.{getD}
 use Rattle.places.proofs.Filled.{Filled, filled-none, filled-more}

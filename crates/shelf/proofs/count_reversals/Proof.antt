@@ -1,4 +1,4 @@
-use mathlib.Core.Path.{_≡_, sym, ap, _∙_}
+use mathlib.Core.Path.{sym, ap, _∙_}
 use Rattle.shelf.specs.ListCalls.{countedOf, reversalsCall}
 use Rattle.shelf.proofs.Lists.{reversals-number}
 use borrow.Author.Needs.{needs}

@@ -1,13 +1,12 @@
 use Rattle.places.specs.declared.Verdict.the-variants.{Accepted}
-use Rattle.places.specs.declared.Shelf.{Shelf}
 use Rattle.places.specs.Shelf.{withTable}
 use Rattle.shelf.specs.Calls.{changed}
 use Rattle.places.specs.Refusal.{firstOf, targetTests}
-use Prim.Native.Nat.{_*_, _<_, _≤_}
+use Prim.Native.Nat.{_*_, _≤_}
 use native.Mathlib.Omega.{arith}
 use mathlib.Core.Path.{_≡_, sym, ap, _∙_}
 use denote.Ref.{now}
-use lib.ListN.{length, take}
+use lib.ListN.{take}
 use Rattle.group.specs.Group.{Bytes}
 use Rattle.reader.specs.declared.Outcome.the-variants.{Matrix}
 use Rattle.reader.specs.Matrix.{OutcomeInside, matrix, matrixOf}

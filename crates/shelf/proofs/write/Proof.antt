@@ -3,14 +3,12 @@ use lib.ListN.{take}
 use Rattle.writer.specs.Encoding.{encoding}
 use Rattle.shelf.specs.Calls.{bytesAt}
 use Rattle.shelf.proofs.Writing.{write-wrote, write-no-room}
-use Rattle.places.specs.Shelf.{Good}
-use native.Mathlib.Omega.{arith}
-use mathlib.Core.Path.{_≡_, sym, ap, _∙_}
+use mathlib.Core.Path.{_≡_, sym, _∙_}
 use denote.Ref.{now}
 use Rattle.places.specs.declared.Verdict.the-variants.{Accepted}
 use Rattle.places.specs.Refusal.{firstOf, sourceTests}
 use Rattle.places.proofs.Verdicts.{source-accepted}
-use Rattle.shelf.proofs.Writing.{wrote-bytes, wrote-short, bytes-packed, write-turned, write-short, write-done}
+use Rattle.shelf.proofs.Writing.{bytes-packed, write-turned}
 use borrow.Author.Needs.{needs}
 use Rattle.shelf.proofs.write.Statement.{statement}
 use Rattle.shelf.proofs.write.Tie as tie

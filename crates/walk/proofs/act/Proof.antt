@@ -1,5 +1,5 @@
 -- `act` meets its contract: D in the middle of the word, else a move.
-use mathlib.Core.Path.{_≡_, refl, sym, ap, ap₂, _∙_, subst}
+use mathlib.Core.Path.{_≡_, sym, _∙_, subst}
 use native.Mathlib.Omega.{arith}
 use lib.ListN.{getD, length}
 use Rattle.number.specs.Number.{zeroNumber}

@@ -1,5 +1,4 @@
-use mathlib.Core.Path.{sym, ap, _∙_}
-use mathlib.Core.Bool.{Bool, cond}
+use mathlib.Core.Path.{sym, _∙_}
 use Rattle.operations.specs.Operations.{rangedOf}
 use borrow.Author.Needs.{needs}
 use Rattle.operations.proofs.work.ranged.Statement.{statement}

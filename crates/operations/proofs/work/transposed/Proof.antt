@@ -1,9 +1,7 @@
 use Prim.Native.Nat.{_<_}
-use mathlib.Core.Path.{_≡_, sym, ap, _∙_, subst}
+use mathlib.Core.Path.{_≡_, sym, _∙_}
 use Rattle.places.specs.declared.Verdict.the-variants.{Accepted}
-use Rattle.operations.specs.declared.Proposed.{Proposed}
 use Rattle.places.specs.Refusal.{firstOf, oneSource}
-use Rattle.operations.specs.Operations.{Keepable}
 use Rattle.places.proofs.Verdicts.{one-accepted}
 use Rattle.operations.proofs.Proposals.{transpose-turned, transpose-done, transpose-answered}
 use borrow.Author.Needs.{needs}

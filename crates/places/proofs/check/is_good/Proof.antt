@@ -1,9 +1,8 @@
 -- `is_good` meets its contract: the lengths of the two arrays are their types'.
-use mathlib.Core.Path.{_≡_, sym, ap, _∙_}
-use mathlib.Core.Bool.{Bool, true, _&&_}
-use lib.ListN.{length}
+use mathlib.Core.Path.{sym, ap, _∙_}
+use mathlib.Core.Bool.{Bool, _&&_}
 use Rattle.number.proofs.Arrays.{length-mapped}
-use Rattle.places.specs.Check.{fewRows, soundNumbers, isGood}
+use Rattle.places.specs.Check.{soundNumbers, isGood}
 use Rattle.places.proofs.Checking.{tested-good}
 use borrow.Author.Needs.{needs}
 use Rattle.places.proofs.check.is_good.Statement.{statement}

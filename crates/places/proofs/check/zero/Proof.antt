@@ -1,7 +1,6 @@
 -- `zero` meets its contract.
 use borrow.Author.Tests.{eq-eqb, ne-eqb}
 use Rattle.places.specs.Check.{isZero}
-use borrow.Author.Needs.{needs}
 use Rattle.places.proofs.check.zero.Statement.{statement}
 use Rattle.places.proofs.check.zero.Tie as tie
 use Rattle.places.proofs.check.zero.Reads as reads

@@ -1,9 +1,7 @@
 use Prim.Native.Nat.{_+_, _*_, _/_, _%_, _<_}
 use native.Mathlib.Omega.{arith}
-use Rattle.number.specs.declared.Number.{Number}
 use Rattle.places.proofs.Table.{square-rows-end, square-columns-end, square-cell-below, square-cell}
-use mathlib.Core.Path.{_≡_, _∙_}
-use lib.ListN.{length}
+use mathlib.Core.Path.{_∙_}
 use borrow.Author.Needs.{needs}
 use Rattle.places.proofs.tables.cell.Statement.{statement}
 use Rattle.places.proofs.tables.cell.Tie as tie

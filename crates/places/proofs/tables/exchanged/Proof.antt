@@ -1,5 +1,5 @@
 use Prim.Native.Nat.{_-_}
-use mathlib.Core.Path.{refl, _∙_}
+use mathlib.Core.Path.{refl}
 use Rattle.number.specs.Number.{zeroNumber}
 use Rattle.words.specs.Word.{exchanged}
 use Rattle.walk.specs.Table.{factorsOf}

@@ -1,10 +1,9 @@
-use Prim.Native.Nat.{_+_, _/_, _%_, _<_}
+use Prim.Native.Nat.{_/_, _%_, _<_}
 use native.Mathlib.Omega.{arith}
 use native.Mathlib.Nat.{mul-le-mul}
 use Prim.Native.Nat.{_-_, _*_, _≤_}
-use mathlib.Core.Path.{_≡_, refl, _∙_}
+use mathlib.Core.Path.{refl}
 use Rattle.number.specs.Number.{zeroNumber}
-use Rattle.walk.specs.Table.{factorsOf}
 use Rattle.places.proofs.Filled.{Filled, filled-none, filled-more}
 use Rattle.places.proofs.Table.{some-rows, packedAt, packed-below, packed-cell, packed-filled}
 use borrow.Author.Needs.{needs}

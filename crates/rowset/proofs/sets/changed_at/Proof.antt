@@ -1,11 +1,10 @@
 -- `changed_at` meets its contract: k - 1 of the other rows, put apart, and row a put in.
 use borrow.Author.Needs.{needs}
 use mathlib.Core.Path.{_≡_, sym, ap, ap₂, _∙_, subst}
-use Prim.Native.Nat.{ℕ, suc, _+_, _-_, _*_, _%_, _^_, _≤_, _<_, min}
+use Prim.Native.Nat.{ℕ, _+_, _-_, _*_, _%_, _^_, _≤_, _<_, min}
 use native.Mathlib.Omega.{arith}
-use lib.Pow.{shl-exact, pow-mono}
-use Rattle.rowset.specs.Mask.{countBelow, positionOf}
-use Rattle.rowset.specs.Sets.{adjacent, partedOf, closedOf, SetAt, ChangedAt}
+use lib.Pow.{shl-exact}
+use Rattle.rowset.specs.Sets.{partedOf, ChangedAt}
 use Rattle.rowset.proofs.Positions.{below-mono}
 use Rattle.rowset.proofs.Order.{position-within}
 use Rattle.rowset.proofs.Changed.{changedOf, changed-below, changed-at}

@@ -1,12 +1,12 @@
 -- `Joined::minor` meets its contract. The invariant: the words of the steps from number c on are walked.
 use borrow.Author.Needs.{needs}
-use mathlib.Core.Path.{_≡_, refl, sym, ap, _∙_, subst}
-use Prim.Native.Nat.{ℕ, _+_, _-_, _≤_, _<_}
+use mathlib.Core.Path.{_≡_, sym, _∙_}
+use Prim.Native.Nat.{ℕ, _+_, _-_, _≤_}
 use native.Mathlib.Omega.{arith}
-use lib.ListN.{getD, length, drop}
+use lib.ListN.{length, drop}
 use Rattle.number.specs.Number.{rounded}
 use Rattle.words.specs.RowSet.{ofMask}
-use Rattle.words.specs.Walk.{walk, oneAt, minor}
+use Rattle.words.specs.Walk.{walk, oneAt}
 use Rattle.words.specs.Operation.{joinedWord}
 use Rattle.walk.specs.Steps.{stepOf, stepsOf}
 use Rattle.walk.specs.Held.{stateOf, Agree}

@@ -3,7 +3,7 @@ use mathlib.Core.Path.{_≡_, sym, ap, ap₂, _∙_, subst}
 use Prim.Native.Nat.{ℕ, _+_, _-_, _*_, _≤_, _<_}
 use native.Mathlib.Omega.{arith}
 use Rattle.walk.specs.declared.Way.{Way}
-use Rattle.walk.specs.declared.Way.the-variants.{Plain, Inverted, Conversed, Transposed}
+use Rattle.walk.specs.declared.Way.the-variants.{Plain}
 use Rattle.walk.specs.declared.letters.Move.{Move}
 use Rattle.walk.specs.Letters.{middle, moveAt, MoveWithin}
 use Rattle.walk.proofs.Spelling.{mirrored, crossed, move-within, inverse-move, converse-move, transpose-move}
