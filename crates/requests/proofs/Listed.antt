@@ -2,18 +2,17 @@
 use Prim.Native.Nat.{ℕ, zero, suc, _+_, _-_, _*_, _^_, _≤_, _<_}
 use native.Mathlib.Omega.{arith}
 use mathlib.Core.Path.{_≡_, refl, sym, ap, _∙_}
-use mathlib.Core.Bool.{Bool, true, false, cond}
 use mathlib.Core.List.{List, [], _∷_, _++_, append-nil, append-assoc}
 use mathlib.Core.Option.{Option, none, some}
-use lib.Dec.{eqb}
 use lib.IntN.{ℤ, pos, negℤ}
-use lib.ListN.{length, take, drop, set, length-set, length-append, length-drop}
-use lib.Seq.{sets-eq, take-at, take-all, length-take-le}
+use lib.ListN.{length, take, drop, set, length-set, length-append}
+use lib.Seq.{sets-eq, take-at, length-take-le}
 use lib.Signed.{mag}
 use mir.Syntax.{w64}
 use mir.Val.{toZ, ofZ}
 use mir.Facts.{toZ-ofZ}
 use Rattle.lines.specs.Words.{before, wordAt, nextWord}
+use Rattle.lines.proofs.Words.{take-before}
 use Rattle.requests.specs.declared.items.Number.{Number}
 use Rattle.requests.specs.declared.items.Item.the-variants as item
 use Rattle.requests.specs.Words.{wordsAt}
@@ -33,19 +32,6 @@ minus-small (suc n) h = omega arith
 
 pub held-minus : {x : ℤ} {n : ℕ} → x ≡ negℤ (pos n) → n ≤ 2 ^ 63 → toZ w64 (ofZ w64 x) ≡ negℤ (pos n)
 held-minus {n = n} e h = rw e (held (minus-small n h))
-
--- the part from an index on, as it is lent
-pub part-from : (s : List ℕ) (at : ℕ) → take (length s - at) (drop at s) ≡ drop at s
-part-from s at = take-all (length s - at) (drop at s) (omega (arith, length-drop at s))
-
-take-step : (b : ℕ) (w s : List ℕ) (t : Bool) → take (length w) s ≡ w → take (length (cond t [] (b ∷ w))) (b ∷ s) ≡ cond t [] (b ∷ w)
-take-step b w s true e = refl
-take-step b w s false e = ap (λ (l : List ℕ). b ∷ l) e
-
-take-before : (stop : ℕ) (s : List ℕ) → take (length (before stop s)) s ≡ before stop s
-unfolding before
-take-before stop [] = refl
-take-before stop (b ∷ s) = take-step b (before stop s) s (eqb b stop) (take-before stop s)
 
 part-before : (s : List ℕ) (n : ℕ) → n ≡ length (before 44 s) → take (n - 0) s ≡ before 44 s
 part-before s n e =

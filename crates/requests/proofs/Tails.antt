@@ -8,7 +8,8 @@ use mathlib.Core.Option.{Option}
 use lib.Dec.{ltb}
 use lib.ListN.{length, take, drop}
 use lib.Seq.{sets, sets-eq, take-at}
-use borrow.Author.Tests.{ltb-true, ltb-false}
+use borrow.Author.Tests.{ltb-true, ltb-false, not-true}
+use Rattle.number.proofs.Tests.{both}
 use Rattle.lines.specs.declared.reading.Bytes.the-variants as bytes
 use Rattle.lines.specs.Words.{wordAt, nextWord}
 use Rattle.lines.specs.Hexadecimal.{hexadecimal, bytesOf, bytesRead, bytesAfter}
@@ -79,16 +80,8 @@ other-by : (a : Asked) (m : ℕ) (t : Bool) → cond t (bytes.Count m) bytes.Mal
 other-by a m true e = never-count e
 other-by a m false e = refl
 
-right : (x y : Bool) → x && y ≡ true → y ≡ true
-right true y h = h
-right false y h = ap (λ t. cond t true y) h
-
 small : (n : ℕ) (x : Bool) → x && not (ltb 2048 n) ≡ true → n ≤ 2048
-small n x e = ltb-false _ _ (not-true-is (ltb 2048 n) (right x (not (ltb 2048 n)) e))
-  where
-    not-true-is : (t : Bool) → not t ≡ true → t ≡ false
-    not-true-is true h = sym h
-    not-true-is false h = refl
+small n x e = ltb-false _ _ (not-true (ltb 2048 n) (both x (not (ltb 2048 n)) e .1))
 
 module _ (call : Call) (values line : List ℕ) (at : ℕ) (h : length line < nextWord line at) (b : List ℕ) (long : length b ≡ 2048) where
   pub bytes-read : (n : ℕ) → bytesRead (wordAt line at) b ≡ bytes.Count n →

@@ -2,11 +2,12 @@
 use Prim.Native.Nat.{ℕ, zero, suc, _+_, _≤_, _<_, compare·suc-suc}
 use native.Mathlib.Omega.{arith}
 use mathlib.Core.Path.{_≡_, refl, sym, ap, _∙_}
-use mathlib.Core.Bool.{Bool, true, false, cond, _&&_}
+use mathlib.Core.Bool.{Bool, true, false, cond}
 use mathlib.Core.List.{List, [], _∷_}
 use lib.Dec.{eqb, ltb}
 use lib.ListN.{length, drop, drop-of-length-le}
 use borrow.Author.Tests.{lt-ltb, le-ltb, ltb-true, ltb-false, eq-eqb, eqb-true}
+use Rattle.number.proofs.Tests.{both}
 use Rattle.lines.specs.Words.{before, wordAt, nextWord}
 use Rattle.requests.specs.Words.{wordsOf, wordsAt, inFront, firstWord, wordsBehind, same}
 
@@ -71,26 +72,18 @@ unfolding same
 same-refl [] = refl
 same-refl (a ∷ s) = rw (eq-eqb a a refl) (same-refl s)
 
-left : (x y : Bool) → x && y ≡ true → x ≡ true
-left true y h = refl
-left false y h = h
-
-right : (x y : Bool) → x && y ≡ true → y ≡ true
-right true y h = h
-right false y h = ap (λ t. cond t true y) h
-
 same-eq : (s t : List ℕ) → same s t ≡ true → s ≡ t
 unfolding same
 same-eq [] [] h = refl
 same-eq [] (b ∷ t) h = ap (λ x. cond x (b ∷ t) []) h
 same-eq (a ∷ s) [] h = ap (λ x. cond x [] (a ∷ s)) h
-same-eq (a ∷ s) (b ∷ t) h = rw (eqb-true a b (left (eqb a b) (same s t) h), same-eq s t (right (eqb a b) (same s t) h))
+same-eq (a ∷ s) (b ∷ t) h = let e = both (eqb a b) (same s t) h in rw (eqb-true a b (e .0), same-eq s t (e .1))
 
-both : (r t : Bool) → (r ≡ true → t ≡ true) → (t ≡ true → r ≡ true) → r ≡ t
-both true true f g = refl
-both true false f g = sym (f refl)
-both false true f g = g refl
-both false false f g = refl
+true-together : (r t : Bool) → (r ≡ true → t ≡ true) → (t ≡ true → r ≡ true) → r ≡ t
+true-together true true f g = refl
+true-together true false f g = sym (f refl)
+true-together false true f g = g refl
+true-together false false f g = refl
 
 pub same-is : (s t : List ℕ) (r : Bool) → (r ≡ true → s ≡ t) × (s ≡ t → r ≡ true) → r ≡ same s t
-same-is s t r h = both r (same s t) (λ e. rw (h .0 e) (same-refl t)) (λ e. h .1 (same-eq s t e))
+same-is s t r h = true-together r (same s t) (λ e. rw (h .0 e) (same-refl t)) (λ e. h .1 (same-eq s t e))

@@ -8,7 +8,7 @@ use Rattle.places.proofs.Holding.{good-empty}
 use Rattle.operations.specs.Operations.{productOf, inverseOf, converseOf, submatrixOf, submatrixTests}
 use Rattle.operations.proofs.Proposals.{transpose-good}
 use Rattle.operations.proofs.Results.{product-ready, whole-ready, submatrix-ready, operation-good}
-use Rattle.shelf.specs.Sequence.{Call, load, drop, product, inverse, converse, transpose, submatrix, write, minor, carry, Given, AllGiven, afterCall, afterCalls}
+use Rattle.shelf.specs.Sequence.{Call, load, drop, product, inverse, converse, transpose, submatrix, write, minor, carry, Given, AllGiven, afterCall, afterEach, afterCalls}
 use Rattle.shelf.proofs.Loading.{load-good}
 use Rattle.shelf.proofs.Dropping.{drop-good}
 
@@ -26,7 +26,7 @@ call-good s g (minor p I J) h = g
 call-good s g (carry p items out) h = g
 
 after-good : (L : List Call) → AllGiven L → (s : Shelf) → Good s → Good (afterCalls s L)
-unfolding afterCalls
+unfolding afterEach
 after-good [] h s g = g
 after-good (c ∷ L) h s g = after-good L (h .1) (afterCall s c) (call-good s g c (h .0))
 

@@ -46,9 +46,13 @@ afterCall s (write p out) = s
 afterCall s (minor p I J) = s
 afterCall s (carry p items out) = s
 
-unfoldable pub afterCalls : Shelf → List Call → Shelf
-afterCalls s [] = s
-afterCalls s (c ∷ L) = afterCalls (afterCall s c) L
+-- the shelf after a list of calls, where f gives that after one
+unfoldable pub afterEach : (Shelf → Call → Shelf) → Shelf → List Call → Shelf
+afterEach f s [] = s
+afterEach f s (c ∷ L) = afterEach f (f s c) L
+
+abbrev pub afterCalls : Shelf → List Call → Shelf
+afterCalls = afterEach afterCall
 
 abbrev pub AllGiven : List Call → Type 0
 AllGiven [] = Unit {0}

@@ -23,7 +23,7 @@ use Rattle.operations.specs.Promise.{Promised}
 use Rattle.operations.proofs.Results.{product-ready, whole-ready, submatrix-ready, operation-promised}
 use Rattle.shelf.specs.declared.Changed.{Changed}
 use Rattle.shelf.specs.Calls.{loadCall, dropCall}
-use Rattle.shelf.specs.Sequence.{Call, load, drop, product, inverse, converse, transpose, submatrix, write, minor, carry, AllGiven, afterCall, afterCalls}
+use Rattle.shelf.specs.Sequence.{Call, load, drop, product, inverse, converse, transpose, submatrix, write, minor, carry, AllGiven, afterCall, afterEach, afterCalls}
 use Rattle.shelf.proofs.Sequences.{call-good, calls-good}
 use Rattle.tnb_c.specs.declared.Answer.{Answer}
 use Rattle.tnb_c.specs.Answers.{ofVerdict, ofChanged, ofBounded, ofOperated, foreign, productAnswer, inverseAnswer, converseAnswer, submatrixAnswer}
@@ -63,7 +63,7 @@ module _ (s : Shelf) (good : Good s) where
   call-shelf (carry p items out) = refl
 
 after-answers : (L : List Call) → AllGiven L → (s : Shelf) → Good s → afterAnswers s L ≡ afterCalls s L
-unfolding afterAnswers afterCalls
+unfolding afterEach
 after-answers [] h s g = refl
 after-answers (c ∷ L) h s g = ap (λ (t : Shelf). afterAnswers t L) (call-shelf s g c) ∙ after-answers L (h .1) (afterCall s c) (call-good s g c (h .0))
 

@@ -1,7 +1,7 @@
 -- Any sequence of calls from C: the shelf that a call hands back (`afterAnswer`), and that after a list of calls (`afterAnswers`).
-use mathlib.Core.List.{List, [], _∷_}
+use mathlib.Core.List.{List}
 use Rattle.places.specs.declared.Shelf.{Shelf}
-use Rattle.shelf.specs.Sequence.{Call, load, drop, product, inverse, converse, transpose, submatrix, write, minor, carry}
+use Rattle.shelf.specs.Sequence.{Call, load, drop, product, inverse, converse, transpose, submatrix, write, minor, carry, afterEach}
 use Rattle.tnb_c.specs.Answers.{loadAnswer, dropAnswer, productAnswer, inverseAnswer, converseAnswer, transposeAnswer, submatrixAnswer}
 
 abbrev pub afterAnswer : Shelf → Call → Shelf
@@ -16,6 +16,5 @@ afterAnswer s (write p out) = s
 afterAnswer s (minor p I J) = s
 afterAnswer s (carry p items out) = s
 
-unfoldable pub afterAnswers : Shelf → List Call → Shelf
-afterAnswers s [] = s
-afterAnswers s (c ∷ L) = afterAnswers (afterAnswer s c) L
+abbrev pub afterAnswers : Shelf → List Call → Shelf
+afterAnswers = afterEach afterAnswer

@@ -4,7 +4,7 @@ use Prim.Native.Nat.{_+_}
 use native.Mathlib.Omega.{arith}
 use mathlib.Core.Path.{sym}
 use lib.ListN.{drop-of-length-le}
-use Rattle.requests.proofs.Listed.{part-from}
+use Rattle.lines.proofs.Words.{part-from}
 use borrow.Author.Needs.{needs}
 use Rattle.requests.proofs.items.behind.Statement.{statement}
 use Rattle.requests.proofs.items.behind.Tie as tie
