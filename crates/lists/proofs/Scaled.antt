@@ -11,7 +11,7 @@ use Rattle.number.specs.declared.Number.{Number}
 use Rattle.number.specs.declared.signed.Signed.{Signed}
 use Rattle.words.specs.Word.{Factors}
 use Rattle.walk.specs.Table.{cellOf, factorsOf, absent}
-use Rattle.walk.proofs.Diagonals.{read-default}
+use Rattle.walk.proofs.Lent.{read-default}
 use Rattle.lists.specs.Lists.{vectorOf}
 use Rattle.lists.specs.Carrying.{Scaled}
 use Rattle.lists.proofs.Fronts.{read-any}

@@ -13,3 +13,5 @@ pub mod Error
 pub mod Nearest
 pub mod Examples
 pub mod Unique
+pub mod Digits
+pub mod Words

@@ -1,14 +1,17 @@
 -- Zero operands and zero results: a sum with zero is the other operand (`sum-zero-right`), a product with zero and zero divided are zero;
 -- a sum is zero only of zeros (`sum-zero`), a product only with a zero (`product-zero`), a quotient only of zero (`quotient-zero`).
--- With them what the code's tests need: the exponents' order (`sum-is`, `sum-comm`).
+-- With them what the code's tests need: the exponents' order (`sum-is`, `sum-comm`, `sum-ordered`).
 use mathlib.Core.Path.{_≡_, refl, sym, ap, _∙_}
+use mathlib.Core.Bool.{Bool, true, false, cond}
 use mathlib.Core.Logic.{_↔_, _⊎_, ⊎-elim, inl, inr}
 use Prim.Native.Nat.{ℕ, zero, suc, _+_, _-_, _*_, _^_, _≤_, _<_, min}
 use native.Mathlib.Nat.{min-eq-right, min-comm, min-le-left, sub-self, mul-one, zero-mul, add-comm, mul-comm, mul-pos}
 use native.Mathlib.Omega.{arith}
+use borrow.Author.Tests.{ltb-true, ltb-false}
+use lib.Dec.{ltb}
 use lib.Pow.{pow-pos, pow-add}
 use Rattle.number.proofs.Rounding.{round-zero, round-exact, round-represents}
-use Rattle.number.specs.Number.{bias, zeroNumber, round, Ranged, sumOf, productOf, quotientOf}
+use Rattle.number.specs.Number.{bias, reach, zeroNumber, round, Ranged, sumOf, productOf, quotientOf}
 use Rattle.number.specs.declared.Number.{Number}
 
 -- ---- sums, from the lower exponent
@@ -123,3 +126,19 @@ product-zero a b =
 pub quotient-zero : {r s : ℕ} (a b : Number) → Ranged r a → Ranged s b → 0 < b .m → (quotientOf a b .m ≡ 0) ↔ (a .m ≡ 0)
 quotient-zero a b u v q =
     (λ e. none (λ p. let r = quotient-positive a b u v p q in omega arith), λ z. ap (λ (c : Number). c .m) (quotient-zero-left a b z))
+
+-- the operands in order: first the one whose exponent is not the lower, chosen by a test t
+module _ (a b : Number) (A : Ranged reach a) (B : Ranged reach b) (ha : 0 < a .m) (hb : 0 < b .m) where
+  pub sum-ordered : (t : Bool) → ltb (a .x) (b .x) ≡ t → {p i q j : ℕ} → p ≡ cond t (b .m) (a .m) → i ≡ cond t (b .x) (a .x)
+      → q ≡ cond t (a .m) (b .m) → j ≡ cond t (a .x) (b .x)
+      → ((2 ^ 31 ≤ p) × (p < 2 ^ 32) × (q < 2 ^ 32) × (j ≤ i) × (32 ≤ j) × (i < 2 ^ 61)) × (round (p * 2 ^ (i - j) + q) 1 j ≡ sumOf a b)
+  sum-ordered true e ep ei eq ej =
+      let l : a .x < b .x = ltb-true (a .x) (b .x) e in (
+        omega (arith, A .high, A .start, B .low hb, B .high, B .stop),
+        rw (ep, ei, eq, ej) (sym (sum-is b a (omega arith)) ∙ sum-comm b a),
+      )
+  sum-ordered false e ep ei eq ej =
+      let l : b .x ≤ a .x = ltb-false (a .x) (b .x) e in (
+        omega (arith, A .low ha, A .high, A .stop, B .high, B .start),
+        rw (ep, ei, eq, ej) (sym (sum-is a b l)),
+      )

@@ -2,3 +2,5 @@ pub mod Number
 pub mod Nearest
 pub mod Signed
 pub mod Examples
+pub mod Digits
+pub mod Packed

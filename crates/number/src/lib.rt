@@ -1,11 +1,13 @@
 // Numbers of 32 binary digits: add, multiply and divide give the exact result rounded once, to nearest, ties to even.
 // Each operation brings its exact result to the form n / d at an exponent x; `round` alone rounds.
 ghost use mathlib.Core.Path.{_≡_};
-ghost use mathlib.Core.Bool.{false};
-ghost use Prim.Native.Nat.{_+_, _-_, _*_, _^_, _≤_, _<_};
+ghost use mathlib.Core.Bool.{false, cond};
+ghost use Prim.Native.Nat.{_+_, _-_, _*_, _^_, _≤_, _<_, min};
 ghost use Rattle.number.specs.Number.{zeroNumber, oneNumber, carried, round, sumOf, productOf, quotientOf, Ranged, reach, exponentOf, inRange};
 ghost use Rattle.number.specs.Signed.{below, differenceOf};
+ghost use Rattle.number.specs.Digits.{unlikeOf, alignedOf};
 
+pub mod packed; // packed.rt: a number in one word
 pub mod signed; // signed.rt: numbers with a sign
 
 // The exponent 0.
@@ -92,17 +94,56 @@ fn quotient(a: u64, b: u64, x: u64) -> Number
     round(n / b, n % b, b, x - 32)
 }
 
-// The sum, where the second exponent is not above the first. Up to 32 places apart it fits a word.
-// From 33 on the second number is less than half a unit of the first's last place; a quarter stands for it.
+// p, of 63 or 64 digits, at exponent x: 32 digits are kept, by no branch.
+fn kept(p: u64, x: u64) -> Number
+    requires { ⌜ (2 ^ 62 ≤ p) × (p < 2 ^ 64 - 2 ^ 32 + 2) × (x < 2 ^ 61) ⌝ }
+    ensures { λ r. ⌜ r ≡ round p 1 x ⌝ }
+{
+    let t = p >> 63;
+    let r = p + 0x3fff_ffff + t * 0x4000_0000 + ((p >> 31) >> t) % 2;
+    let u = r >> 63;
+    let m = (r >> 31) >> u;
+    let y = x + 31 + u;
+    Number { m, x: y }
+}
+
+fn lower(a: u64, b: u64) -> u64
+    ensures { λ r. ⌜ r ≡ min a b ⌝ }
+{
+    if a < b { a } else { b }
+}
+
+// a or b: a select, and no branch.
+fn either(first: bool, a: u64, b: u64) -> u64
+    ensures { λ r. ⌜ r ≡ cond first a b ⌝ }
+{
+    if first { a } else { b }
+}
+
+// Whether digits were dropped, as a number.
+fn unlike(a: u64, b: u64) -> u64
+    ensures { λ r. ⌜ r ≡ unlikeOf a b ⌝ }
+{
+    if a == b { 0 } else { 1 }
+}
+
+// Twice the sum of a and of b moved k places down, both with 30 more digits, and 1 more where digits of b are dropped.
+fn aligned(a: u64, b: u64, k: u64) -> u64
+    requires { ⌜ (a < 2 ^ 32) × (b < 2 ^ 32) × (k < 64) ⌝ }
+    ensures { λ r. ⌜ r ≡ alignedOf a b k ⌝ }
+{
+    let z = b * 0x4000_0000;
+    let y = z >> k;
+    let whole = y * power(k);
+    (a * 0x4000_0000 + y) * 2 + unlike(whole, z)
+}
+
+// The sum, where the second exponent is not above the first. Up to 31 places apart it is exact before it is rounded; from 32 on it rounds as the exact one.
 fn sum(a: u64, i: u64, b: u64, j: u64) -> Number
     requires { ⌜ (2 ^ 31 ≤ a) × (a < 2 ^ 32) × (b < 2 ^ 32) × (j ≤ i) × (32 ≤ j) × (i < 2 ^ 61) ⌝ }
     ensures { λ r. ⌜ r ≡ round (a * 2 ^ (i - j) + b) 1 j ⌝ }
 {
-    let k = i - j;
-    if 32 < k {
-        return whole(a * 4 + 1, i - 2);
-    }
-    whole(a * power(k) + b, j)
+    kept(aligned(a, b, lower(i - j, 63)), i - 31)
 }
 
 // The difference, where the second number is the smaller and its exponent not above the first's.
@@ -168,10 +209,13 @@ impl Number {
         if other.m == 0 {
             return self;
         }
-        if self.x < other.x {
-            return sum(other.m, other.x, self.m, self.x);
-        }
-        sum(self.m, self.x, other.m, other.x)
+        let turned = self.x < other.x;
+        sum(
+            either(turned, other.m, self.m),
+            either(turned, other.x, self.x),
+            either(turned, self.m, other.m),
+            either(turned, self.x, other.x),
+        )
     }
 
     pub fn mul(self, other: Number) -> Number
@@ -184,7 +228,7 @@ impl Number {
         if other.m == 0 {
             return other;
         }
-        whole(self.m * other.m, self.x + other.x - BIAS)
+        kept(self.m * other.m, self.x + other.x - BIAS)
     }
 
     pub fn div(self, other: Number) -> Number

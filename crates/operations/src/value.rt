@@ -12,6 +12,7 @@ use number::Number;
 use walk::Joined;
 use walk::Step;
 use walk::Way;
+use walk::source;
 
 // The minor of the rows i and the columns j of the matrix of n rows with these factors.
 pub fn minor(factors: [Number; 64], n: usize, i: usize, j: usize) -> Number
@@ -19,14 +20,16 @@ pub fn minor(factors: [Number; 64], n: usize, i: usize, j: usize) -> Number
     requires { ⌜ (i < 2 ^ n) × (j < 2 ^ n) × (maskCount i ≡ maskCount j) ⌝ }
     ensures { λ r. ⌜ r ≡ minor rounded (word n (factorsOf factors)) (ofMask n i) (ofMask n j) ⌝ }
 {
-    let s = Step {
-        way: Way::Plain,
-        factors,
-    };
+    let s = Step { way: Way::Plain };
     let plain = Joined {
         steps: [s; 6],
         count: 1,
         n,
     };
-    plain.minor(i, j)
+    let tables = rowset::lent::tables(n);
+    let mut letters = [0u16; 342];
+    source::spell(&mut letters, n, Way::Plain, 0);
+    let mut sources = [0u64; 768];
+    source::put_factors(&mut sources, 0, factors);
+    plain.minor(&tables, &letters, &sources, i, j)
 }

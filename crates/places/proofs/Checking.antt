@@ -108,10 +108,10 @@ within-tested n b s i j h g true false p q = zero-tested
 within-tested n b s i j h g false u p q = zero-tested
 
 -- p * m + k, taken apart
-quotient-of : (m p k : ℕ) → k < m → (p * m + k) / m ≡ p
+pub quotient-of : (m p k : ℕ) → k < m → (p * m + k) / m ≡ p
 quotient-of m p k h = mul-add-div-right {m = m} (omega arith) p k ∙ ap (λ (q : ℕ). p + q) (div-eq-of-lt h) ∙ add-zero p
 
-rest-of : (m p k : ℕ) → k < m → (p * m + k) % m ≡ k
+pub rest-of : (m p k : ℕ) → k < m → (p * m + k) % m ≡ k
 rest-of m p k h = mul-add-mod-self-right p m k ∙ mod-eq-of-lt h
 
 module _ (s : Shelf) (eight : length (s .sizes) ≡ 8) (all : length (s .numbers) ≡ 512) where

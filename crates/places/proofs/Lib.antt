@@ -5,3 +5,4 @@ pub mod Table
 pub mod Holding
 pub mod Verdicts
 pub mod Checking
+pub mod Passing

@@ -1,8 +1,9 @@
 // Whether a shelf may be one that the calls made: for callers whose shelf nothing vouches for.
 ghost use mathlib.Core.Path.{_≡_};
 ghost use mathlib.Core.Bool.{true};
+ghost use lib.Dec.{eqb};
 ghost use Rattle.places.specs.Shelf.{Good};
-ghost use Rattle.places.specs.Check.{isStored, isZero, sound, fewRows, soundNumbers, isGood};
+ghost use Rattle.places.specs.Check.{isStored, isZero, sound, isGood};
 use crate::Shelf;
 use number::BIAS;
 use number::Number;
@@ -20,14 +21,17 @@ fn stored(a: Number) -> bool
     a.in_range()
 }
 
-// Zero has mantissa 0 at exponent 0.
+// 0 where a number is zero, which has mantissa 0 at exponent 0.
+fn fault(a: Number) -> u64
+    ensures { λ r. ⌜ eqb r 0 ≡ isZero a ⌝ }
+{
+    a.m | a.x ^ BIAS
+}
+
 fn zero(a: Number) -> bool
     ensures { λ r. ⌜ r ≡ isZero a ⌝ }
 {
-    if a.m == 0 {
-        return a.x == BIAS;
-    }
-    false
+    fault(a) == 0
 }
 
 // What may stand at k in the table of a matrix of n rows.
@@ -43,40 +47,31 @@ fn sound(n: usize, k: usize, a: Number) -> bool
     stored(a)
 }
 
-// At most eight rows at each place.
-fn few_rows(shelf: Shelf) -> bool
-    ensures { λ r. ⌜ r ≡ fewRows shelf ⌝ }
-{
-    for p in 0..8usize {
-        let n = shelf.sizes[p];
-        if 8 < n {
-            return false;
-        }
-    }
-    true
-}
-
-// Stored factors, and zeros elsewhere.
-fn sound_numbers(shelf: Shelf) -> bool
-    ensures { λ r. ⌜ r ≡ soundNumbers shelf ⌝ }
-{
-    for k in 0..512usize {
-        let n = shelf.sizes[k / 64] as usize;
-        let a = shelf.numbers[k];
-        if !sound(n, k % 64, a) {
-            return false;
-        }
-    }
-    true
-}
-
-// A good shelf: its sizes and its numbers are.
+// A good shelf: at most eight rows at each place, stored factors in them, and zeros elsewhere. The numbers behind the rows are tested at once.
 pub fn is_good(shelf: Shelf) -> bool
     ensures { λ r. ⌜ r ≡ isGood shelf ⌝ }
     ensures { λ r. ⌜ (r ≡ true → Good shelf) ⌝ }
 {
-    if few_rows(shelf) {
-        return sound_numbers(shelf);
+    let sizes = shelf.sizes;
+    for p in 0..8usize {
+        let n = sizes[p] as usize;
+        if 8 < n {
+            return false;
+        }
+        for k in 0..n * 8 {
+            let a = shelf.numbers[p * 64 + k];
+            if !sound(n, k, a) {
+                return false;
+            }
+        }
+        let mut faults = 0u64;
+        for k in n * 8..64 {
+            let a = shelf.numbers[p * 64 + k];
+            faults = faults | fault(a);
+        }
+        if faults != 0 {
+            return false;
+        }
     }
-    false
+    true
 }

@@ -45,7 +45,8 @@ pub fn rows_at(shelf: Shelf, place: usize) -> usize
     if place > 7 {
         return 0;
     }
-    shelf.sizes[place] as usize
+    let sizes = shelf.sizes;
+    sizes[place] as usize
 }
 
 // The 64 numbers of a place.

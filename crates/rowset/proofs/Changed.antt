@@ -1,18 +1,63 @@
--- The sets that a letter changes, those with row a and without its neighbour o, are made of the sets of the other rows: put apart with a put in (changedOf), and closed up again (closedOf).
--- Each has one row more (changed-count, closed-count), one way leads back the other (changed-closed, closed-changed), and n rows become n - 2 (changed-below, closed-below).
-use mathlib.Core.Path.{_≡_, ap, _∙_}
-use mathlib.Core.Bool.{Bool, true, _&&_}
+-- The sets that a letter changes, those with row a and without its neighbour o, are made of the sets of the other rows:
+-- put apart with a put in (changedOf), and closed up again (closedOf).
+-- Each has one row more (changed-count, closed-count), one way leads back the other (changed-closed, closed-changed),
+-- n rows become n - 2 (changed-below, closed-below), and a replaced by o is the set for o (changed-replaced).
+use mathlib.Core.Path.{_≡_, refl, ap, _∙_}
+use mathlib.Core.Bool.{Bool, true, false, _&&_, _||_, false≢true}
+use mathlib.Core.Logic.{_⊎_, inl, inr, ⊎-elim}
 use Prim.Native.Nat.{ℕ, suc, _+_, _-_, _^_, _≤_, _<_, min}
 use native.Mathlib.Omega.{arith}
-use borrow.Author.Tests.{le-leb, lt-ltb, ltb-true}
+use borrow.Author.Tests.{eq-eqb, eqb-true, le-leb, lt-ltb, ltb-true}
 use lib.Dec.{T, eqb, leb, ltb, eqb→eq}
-use Rattle.rowset.specs.Mask.{maskHas, maskMoves, countTo, maskCount, positionOf}
+use Rattle.rowset.specs.Mask.{maskHas, maskPut, maskReplaced, maskMoves, countTo, maskCount, positionOf}
 use Rattle.rowset.proofs.Finite.{T-true, implies, implies-at, all, all-at, all₃, all₃-at}
-use Rattle.rowset.specs.Sets.{adjacent, partedOf, closedOf, SetAt, ChangedAt}
+use Rattle.rowset.specs.Sets.{adjacent, Neighbours, partedOf, closedOf, changedOf, SetAt, ChangedAt}
 
-unfoldable pub changedOf : ℕ → ℕ → ℕ → ℕ
-changedOf a o m = partedOf (min a o) m + 2 ^ (a - 1)
+-- NEIGHBOURS
+or-comm : (x y : Bool) → (x || y) ≡ (y || x)
+or-comm true true = refl
+or-comm true false = refl
+or-comm false true = refl
+or-comm false false = refl
 
+module _ {n a o : ℕ} (N : Neighbours n a o) where
+  pub neighbours-turned : Neighbours n o a
+  unfolding adjacent
+  neighbours-turned =
+      record {
+        to-low = N .from-low;
+        to-high = N .from-high;
+        from-low = N .to-low;
+        from-high = N .to-high;
+        beside = or-comm (eqb o (a + 1)) (eqb a (o + 1)) ∙ N .beside;
+      }
+
+  -- one is the next after the other
+  pub neighbours-next : (o ≡ a + 1) ⊎ (a ≡ o + 1)
+  unfolding adjacent
+  neighbours-next = go (eqb a (o + 1)) (eqb o (a + 1)) refl refl (N .beside)
+    where
+      go : (x y : Bool) → eqb a (o + 1) ≡ x → eqb o (a + 1) ≡ y → (x || y) ≡ true → (o ≡ a + 1) ⊎ (a ≡ o + 1)
+      go true y e f t = inr (eqb-true a (o + 1) e)
+      go false true e f t = inl (eqb-true o (a + 1) f)
+      go false false e f t = absurd (false≢true t)
+
+  -- two neighbours are two rows
+  pub neighbours-two : 2 ≤ n
+  neighbours-two = ⊎-elim (λ e. omega (arith, N .from-high, N .to-low)) (λ e. omega (arith, N .to-high, N .from-low)) neighbours-next
+
+pub neighbours-up : (n l : ℕ) → 1 ≤ l → l < n → Neighbours n l (l + 1)
+unfolding adjacent
+neighbours-up n l h g =
+    record {
+      to-low = h;
+      to-high = omega arith;
+      from-low = omega arith;
+      from-high = omega arith;
+      beside = or-comm (eqb l (l + 1 + 1)) (eqb (l + 1) (l + 1)) ∙ ap (λ (x : Bool). x || eqb l (l + 1 + 1)) (eq-eqb (l + 1) (l + 1) refl);
+    }
+
+-- A TEST
 near : ℕ → ℕ → Bool
 near a o = leb 1 a && (leb 1 o && adjacent a o)
 
@@ -46,6 +91,9 @@ moving m a o = maskMoves a o (changedOf a o m)
 closes : ℕ → ℕ → ℕ → Bool
 closes m a o = eqb (closedOf (min a o) (changedOf a o m)) m
 
+exchanges : ℕ → ℕ → ℕ → Bool
+exchanges m a o = eqb (maskReplaced a o (changedOf a o m)) (changedOf o a m)
+
 stays : ℕ → ℕ → ℕ → ℕ → Bool
 stays m a o n = implies (inside a o n m (2 ^ (n - 2))) (ltb (changedOf a o m) (2 ^ n))
 
@@ -60,6 +108,10 @@ moving-all = tt
 closes-all : Tested 64 closes
 unfolding near adjacent closes changedOf partedOf closedOf
 closes-all = tt
+
+exchanges-all : Tested 64 exchanges
+unfolding near adjacent exchanges changedOf partedOf maskReplaced maskPut maskHas
+exchanges-all = tt
 
 stays-all : Tested 64 (λ m a o. all 9 (stays m a o))
 unfolding near adjacent stays inside changedOf partedOf
@@ -77,6 +129,10 @@ module _ (m a o : ℕ) (l : m < 64) (ha : 1 ≤ a) (la : a ≤ 8) (ho : 1 ≤ o)
   pub changed-closed : closedOf (min a o) (changedOf a o m) ≡ m
   unfolding closes
   changed-closed = eqb→eq _ _ (tested 64 closes closes-all m a o l la lo (near-true a o ha ho e))
+
+  pub changed-replaced : maskReplaced a o (changedOf a o m) ≡ changedOf o a m
+  unfolding exchanges
+  changed-replaced = eqb→eq _ _ (tested 64 exchanges exchanges-all m a o l la lo (near-true a o ha ho e))
 
   pub changed-below : (n : ℕ) → n ≤ 8 → a ≤ n → o ≤ n → m < 2 ^ (n - 2) → changedOf a o m < 2 ^ n
   unfolding stays
@@ -122,7 +178,8 @@ module _ (s a o : ℕ) (l : s < 256) (ha : 1 ≤ a) (la : a ≤ 8) (ho : 1 ≤ o
     unfolding returns
     closed-changed = eqb→eq _ _ (implies-at _ _ (tested 256 returns returns-all s a o l la lo (near-true a o ha ho e)) m)
 
-pub changed-at : (k a o p m : ℕ) → 1 ≤ k → 1 ≤ a → a ≤ 8 → 1 ≤ o → o ≤ 8 → adjacent a o ≡ true → m < 64 → SetAt (k - 1) p m → ChangedAt k a o p (changedOf a o m)
+pub changed-at : (k a o p m : ℕ) → 1 ≤ k → 1 ≤ a → a ≤ 8 → 1 ≤ o → o ≤ 8 → adjacent a o ≡ true → m < 64 → SetAt (k - 1) p m
+    → ChangedAt k a o p (changedOf a o m)
 changed-at k a o p m hk ha la ho lo e l s =
     record {
       below = changed-below m a o l ha la ho lo e 8 (omega arith) la lo (omega arith);

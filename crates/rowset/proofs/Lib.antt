@@ -8,3 +8,5 @@ pub mod Positions
 pub mod Order
 pub mod Changed
 pub mod Shifts
+pub mod Begins
+pub mod Blocks

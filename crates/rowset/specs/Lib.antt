@@ -1,2 +1,3 @@
 pub mod Mask
 pub mod Sets
+pub mod Blocks

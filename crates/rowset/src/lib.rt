@@ -1,12 +1,12 @@
 // Row sets as masks of eight bits, bit 0 for row 1, by shifts and masks.
-pub mod sets; // sets.rt: the sets of k rows, one after the other
-mod set_table; // set_table.rt: the tables of these sets
+pub mod lent; // lent.rt: the tables, held once by a caller and lent
+pub mod sets; // sets.rt: how many sets of k rows there are, and sets put apart for two rows
+mod set_table; // set_table.rt: the sets of k rows, one after the other, and their counts
 mod table; // table.rt: positions
 
-use table::POSITION;
 ghost use mathlib.Core.Path.{_≡_};
 ghost use Prim.Native.Nat.{_<_, _≤_};
-ghost use Rattle.rowset.specs.Mask.{maskHas, maskBeyond, maskReplaced, maskCount, positionOf, maskRun, maskAmong};
+ghost use Rattle.rowset.specs.Mask.{maskHas, maskBeyond, maskReplaced, maskCount, maskRun, maskAmong};
 
 // A byte as a number: a caller's mask, an entry of the table.
 pub fn wide(x: u8) -> usize
@@ -49,15 +49,6 @@ pub fn count(s: usize) -> usize
     ensures { λ r. ⌜ r ≤ 8 ⌝ }
 {
     u32::count_ones(s as u32) as usize
-}
-
-// The position of s among the masks with equally many rows.
-pub fn position(s: usize) -> usize
-    requires { ⌜ s < 256 ⌝ }
-    ensures { λ r. ⌜ r ≡ positionOf s ⌝ }
-    ensures { λ r. ⌜ r < 70 ⌝ }
-{
-    wide(POSITION[s])
 }
 
 // The consecutive rows a .. b, none if b < a.

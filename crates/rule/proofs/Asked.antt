@@ -1,6 +1,7 @@
--- The minors that the formulas ask for: at masks that the walk takes (asked-ready), as the definition has them and fit to be multiplied and divided by (asked-answer, chosen-usable); of consecutive rows (run-ready, run-answer).
+-- The minors that the formulas ask for: at masks that the walk takes (asked-ready), as the definition has them and fit to be multiplied and divided by
+-- (asked-answer, chosen-usable); of consecutive rows (run-ready, run-answer). The new factors over them (refactored-is).
 use mathlib.Core.Path.{_≡_, refl, sym, ap, ap₂, _∙_, subst}
-use mathlib.Core.List.{[]}
+use mathlib.Core.List.{List, []}
 use Prim.Native.Nat.{ℕ, suc, _+_, _-_, _*_, _^_, _≤_, _<_}
 use native.Mathlib.Nat.{mul-le-mul, min-le-left}
 use native.Mathlib.Omega.{arith}
@@ -10,6 +11,7 @@ use Rattle.number.specs.Number.{rounded}
 use Rattle.number.specs.declared.Number.{Number}
 use Rattle.number.proofs.Reach.{ranged-more}
 use Rattle.rowset.specs.Mask.{maskCount, maskAmong, maskRun}
+use Rattle.rowset.specs.Sets.{Tables}
 use Rattle.rowset.proofs.Masks.{ofMask-length}
 use Rattle.rowset.proofs.Counts.{mask-count, mask-among, among-below, among-count, mask-run, run-count, run-below}
 use Rattle.words.specs.RowSet.{RowSet, count, among, rows, ofMask}
@@ -19,13 +21,13 @@ use Rattle.words.specs.Operation.{joinedWord, refactored}
 use Rattle.words.proofs.Chosen.{length-among}
 use Rattle.words.specs.Sources.{StoredSteps}
 use Rattle.words.proofs.Exponents.{walk-ranged}
-use Rattle.walk.specs.Steps.{stepOf, stepsOf}
+use Rattle.walk.specs.Lent.{AllSpelled, numbered, stepAt, stepsOf}
 use Rattle.walk.specs.Table.{tableOf}
 use Rattle.walk.proofs.Minors.{rows-few}
 use Rattle.rule.specs.declared.Chosen.{Chosen}
-use Rattle.rule.specs.Chosen.{sizeOf, chosenRows, chosenColumns, chosenMinor, Proper, Usable}
+use Rattle.rule.specs.Chosen.{sizeOf, chosenRows, chosenColumns, chosenMinor, chosenFactors, Proper, Lent, Usable}
 
-module _ (c : Chosen) (P : Proper c) where
+module _ (c : Chosen) {f : List ℕ} (P : Proper c f) where
   few-masks : 2 ^ c .word .n ≤ 2 ^ 8
   few-masks = pow-mono (P .few)
 
@@ -33,33 +35,38 @@ module _ (c : Chosen) (P : Proper c) where
   asked-below : (s : ℕ) → (maskAmong (c .rows) s < 2 ^ c .word .n) × (maskAmong (c .columns) s < 2 ^ c .word .n)
   asked-below s = (among-below (c .word .n) (c .rows) s (P .few) (P .rows), among-below (c .word .n) (c .columns) s (P .few) (P .columns))
 
-  asked-count : (i j : ℕ) → i < 2 ^ sizeOf c → j < 2 ^ sizeOf c → maskCount i ≡ maskCount j → maskCount (maskAmong (c .rows) i) ≡ maskCount (maskAmong (c .columns) j)
+  asked-count : (i j : ℕ) → i < 2 ^ sizeOf c → j < 2 ^ sizeOf c → maskCount i ≡ maskCount j
+      → maskCount (maskAmong (c .rows) i) ≡ maskCount (maskAmong (c .columns) j)
   asked-count i j bi bj e =
       among-count (c .rows) i (omega (arith, P .rows, few-masks)) bi ∙ e
       ∙ sym (among-count (c .columns) j (omega (arith, P .columns, few-masks)) (subst (λ (m : ℕ). j < 2 ^ m) (P .equal) bj))
 
   chosen-minor : (i j i' j' : ℕ) → i' ≡ maskAmong (c .rows) i → j' ≡ maskAmong (c .columns) j
-      → minor rounded (joinedWord (c .word .n) (stepsOf (c .word))) (ofMask (c .word .n) i') (ofMask (c .word .n) j') ≡ chosenMinor c (ofMask (sizeOf c) i) (ofMask (sizeOf c) j)
+      → minor rounded (joinedWord (c .word .n) (stepsOf (c .word) f)) (ofMask (c .word .n) i') (ofMask (c .word .n) j')
+      ≡ chosenMinor c f (ofMask (sizeOf c) i) (ofMask (sizeOf c) j)
   unfolding chosenMinor
   chosen-minor i j i' j' ei ej =
-      ap₂ (minor rounded (joinedWord (c .word .n) (stepsOf (c .word))))
+      ap₂ (minor rounded (joinedWord (c .word .n) (stepsOf (c .word) f)))
       (ap (ofMask (c .word .n)) ei ∙ mask-among (c .word .n) (c .rows) i (P .few) (P .rows))
       (ap (ofMask (c .word .n)) ej ∙ mask-among (c .word .n) (c .columns) j (P .few) (P .columns)
       ∙ ap (λ (m : ℕ). among (chosenColumns c) (ofMask m j)) (sym (P .equal)))
 
-  steps-few : length (stepsOf (c .word)) ≤ 6
-  steps-few = omega (arith, P .six, length-map (take (c .word .count) (c .word .steps)) stepOf, length-take (c .word .count) (c .word .steps), min-le-left (c .word .count) (length (c .word .steps)))
+  steps-few : length (stepsOf (c .word) f) ≤ 6
+  steps-few =
+      let k = c .word .count in
+      omega (arith, P .six, length-map (take k numbered) (stepAt (c .word) f), length-take k numbered, min-le-left k 6)
 
   chosen-count : count (chosenRows c) ≡ sizeOf c
   chosen-count = mask-count (c .word .n) (c .rows) (P .few) (P .rows)
 
-  pub chosen-usable : (I J : RowSet) → length I ≡ sizeOf c → length J ≡ sizeOf c → count I ≡ count J → Usable (chosenMinor c I J)
+  pub chosen-usable : (I J : RowSet) → length I ≡ sizeOf c → length J ≡ sizeOf c → count I ≡ count J → Usable (chosenMinor c f I J)
   unfolding chosenMinor minor
   chosen-usable I J li lj e =
-      let s : length (stepsOf (c .word)) * (c .word .n * c .word .n) ≤ 6 * (8 * 8) = mul-le-mul steps-few (mul-le-mul (P .few) (P .few)) in
+      let s : length (stepsOf (c .word) f) * (c .word .n * c .word .n) ≤ 6 * (8 * 8) = mul-le-mul steps-few (mul-le-mul (P .few) (P .few)) in
       record {
         ranged = ranged-more (omega arith)
-            (walk-ranged (c .word .n) (stepsOf (c .word)) (P .stored) (P .some) [] (joinedWord (c .word .n) (stepsOf (c .word))) refl (omega arith) (among (chosenColumns c) J) (among (chosenRows c) I)
+            (walk-ranged (c .word .n) (stepsOf (c .word) f) (P .stored) (P .some) [] (joinedWord (c .word .n) (stepsOf (c .word) f)) refl (omega arith)
+            (among (chosenColumns c) J) (among (chosenRows c) I)
             (length-among (chosenRows c) I (li ∙ sym chosen-count) ∙ ofMask-length (c .word .n) (c .rows)));
         nonzero = P .regular .nonzero I J li lj e;
       }
@@ -68,27 +75,32 @@ module _ (c : Chosen) (P : Proper c) where
   size-few = omega (arith, P .few, rows-few (c .word .n) (c .rows) (P .few) (P .rows))
 
   -- THE MINOR AT MASKS i AND j that count among the chosen ones; i' and j' are these among all rows
-  module _ (i j i' j' : ℕ) (bi : i < 2 ^ sizeOf c) (bj : j < 2 ^ sizeOf c) (e : maskCount i ≡ maskCount j) (ei : i' ≡ maskAmong (c .rows) i) (ej : j' ≡ maskAmong (c .columns) j) where
-    pub asked-ready : ((1 ≤ c .word .n) × (c .word .n ≤ 8) × (c .word .count ≤ 6))
-        × (((i' < 2 ^ c .word .n) × (j' < 2 ^ c .word .n) × (maskCount i' ≡ maskCount j')) × StoredSteps (c .word .n) (stepsOf (c .word)))
-    asked-ready = (
+  module _ (i j i' j' : ℕ) (bi : i < 2 ^ sizeOf c) (bj : j < 2 ^ sizeOf c) (e : maskCount i ≡ maskCount j)
+      (ei : i' ≡ maskAmong (c .rows) i) (ej : j' ≡ maskAmong (c .columns) j) where
+    pub asked-ready : {t l : List ℕ} → Lent c t l → ((1 ≤ c .word .n) × (c .word .n ≤ 8) × (c .word .count ≤ 6))
+        × (((i' < 2 ^ c .word .n) × (j' < 2 ^ c .word .n) × (maskCount i' ≡ maskCount j'))
+        × (StoredSteps (c .word .n) (stepsOf (c .word) f) × (Tables (c .word .n) t × AllSpelled (c .word) l)))
+    asked-ready L = (
       (P .some, P .few, P .six),
-      ((omega (arith, ei, asked-below i .0), omega (arith, ej, asked-below j .1), ap maskCount ei ∙ asked-count i j bi bj e ∙ ap maskCount (sym ej)), P .stored),
+      (
+        (omega (arith, ei, asked-below i .0), omega (arith, ej, asked-below j .1), ap maskCount ei ∙ asked-count i j bi bj e ∙ ap maskCount (sym ej)),
+        (P .stored, (L .tables, L .letters)),
+      ),
     )
 
-    pub asked-answer : (r : Number) → r ≡ minor rounded (joinedWord (c .word .n) (stepsOf (c .word))) (ofMask (c .word .n) i') (ofMask (c .word .n) j')
-        → (r ≡ chosenMinor c (ofMask (sizeOf c) i) (ofMask (sizeOf c) j)) × Usable r
+    pub asked-answer : (r : Number) → r ≡ minor rounded (joinedWord (c .word .n) (stepsOf (c .word) f)) (ofMask (c .word .n) i') (ofMask (c .word .n) j')
+        → (r ≡ chosenMinor c f (ofMask (sizeOf c) i) (ofMask (sizeOf c) j)) × Usable r
     asked-answer r q =
-        let f : r ≡ chosenMinor c (ofMask (sizeOf c) i) (ofMask (sizeOf c) j) = q ∙ chosen-minor i j i' j' ei ej in (
-          f,
-          subst Usable (sym f)
+        let g : r ≡ chosenMinor c f (ofMask (sizeOf c) i) (ofMask (sizeOf c) j) = q ∙ chosen-minor i j i' j' ei ej in (
+          g,
+          subst Usable (sym g)
               (chosen-usable (ofMask (sizeOf c) i) (ofMask (sizeOf c) j) (ofMask-length (sizeOf c) i) (ofMask-length (sizeOf c) j)
               (mask-count (sizeOf c) i size-few bi ∙ e ∙ sym (mask-count (sizeOf c) j size-few bj))),
         )
 
   -- CONSECUTIVE ROWS a .. b and columns 1 .. m, s and t their masks
   module _ (a b m s t : ℕ) (ha : 1 ≤ a) (lb : b ≤ sizeOf c) (e : b + 1 ≡ a + m) (es : s ≡ maskRun a b) (et : t ≡ maskRun 1 m) where
-    pub run-ready : Proper c × (s < 2 ^ sizeOf c) × (t < 2 ^ sizeOf c) × (maskCount s ≡ maskCount t)
+    pub run-ready : Proper c f × (s < 2 ^ sizeOf c) × (t < 2 ^ sizeOf c) × (maskCount s ≡ maskCount t)
     run-ready =
         let k = size-few in
         let p : suc b - a ≡ m = omega arith in
@@ -96,18 +108,20 @@ module _ (c : Chosen) (P : Proper c) where
           P,
           subst (λ (x : ℕ). x < 2 ^ sizeOf c) (sym es) (run-below (sizeOf c) a b lb),
           subst (λ (x : ℕ). x < 2 ^ sizeOf c) (sym et) (run-below (sizeOf c) 1 m (omega arith)),
-          ap maskCount es ∙ run-count a b ha (omega arith) (omega arith) ∙ p ∙ sym (ap maskCount et ∙ run-count 1 m (omega arith) (omega arith) (omega arith) ∙ q),
+          ap maskCount es ∙ run-count a b ha (omega arith) (omega arith) ∙ p
+              ∙ sym (ap maskCount et ∙ run-count 1 m (omega arith) (omega arith) (omega arith) ∙ q),
         )
 
-    pub run-answer : {r : Number} (M : RowSet → RowSet → Number) → r ≡ M (ofMask (sizeOf c) s) (ofMask (sizeOf c) t) → r ≡ M (rows (sizeOf c) a b) (rows (sizeOf c) 1 m)
+    pub run-answer : {r : Number} (M : RowSet → RowSet → Number) → r ≡ M (ofMask (sizeOf c) s) (ofMask (sizeOf c) t)
+        → r ≡ M (rows (sizeOf c) a b) (rows (sizeOf c) 1 m)
     run-answer M q =
         let k = size-few in
-        q ∙ ap₂ M (ap (ofMask (sizeOf c)) es ∙ mask-run (sizeOf c) a b k (omega arith) (omega arith)) (ap (ofMask (sizeOf c)) et ∙ mask-run (sizeOf c) 1 m k (omega arith) (omega arith))
+        q ∙ ap₂ M (ap (ofMask (sizeOf c)) es ∙ mask-run (sizeOf c) a b k (omega arith) (omega arith))
+        (ap (ofMask (sizeOf c)) et ∙ mask-run (sizeOf c) 1 m k (omega arith) (omega arith))
 
   -- THE NEW FACTORS over the chosen minors
-  pub refactored-is : (k : ℕ) → k ≡ sizeOf c
-      → tableOf k (newFactor rounded k (chosenMinor c)) ≡ tableOf (sizeOf c) (refactored rounded (c .word .n) (stepsOf (c .word)) (chosenRows c) (chosenColumns c))
+  pub refactored-is : (k : ℕ) → k ≡ sizeOf c → tableOf k (newFactor rounded k (chosenMinor c f)) ≡ tableOf (sizeOf c) (chosenFactors c f)
   unfolding refactored chosenMinor
   refactored-is k e =
-      ap (λ (m : ℕ). tableOf m (newFactor rounded m (chosenMinor c))) e
-      ∙ ap (λ (m : ℕ). tableOf (sizeOf c) (newFactor rounded m (λ I J. minor rounded (joinedWord (c .word .n) (stepsOf (c .word))) (among (chosenRows c) I) (among (chosenColumns c) J)))) (sym chosen-count)
+      ap (λ (m : ℕ). tableOf m (newFactor rounded m (chosenMinor c f))) e
+      ∙ ap (λ (m : ℕ). tableOf (sizeOf c) (newFactor rounded m (chosenMinor c f))) (sym chosen-count)

@@ -12,19 +12,20 @@ use Rattle.words.specs.RowSet.{RowSet, count, rows, ofMask}
 use Rattle.words.specs.Operation.{Step, boundOf, refactored}
 use Rattle.words.proofs.Chosen.{count-all}
 use Rattle.walk.specs.declared.Joined.{Joined}
-use Rattle.walk.specs.Steps.{stepsOf}
+use Rattle.walk.specs.Lent.{stepsOf}
 use Rattle.walk.specs.Table.{tableOf}
 use Rattle.rule.specs.declared.Chosen.{Chosen}
 use Rattle.rule.specs.declared.Refactored.{Refactored}
-use Rattle.rule.specs.Chosen.{chosenMinor, Regular, Proper}
+use Rattle.rule.specs.Chosen.{chosenMinor, chosenFactors, Regular, Proper}
 use Rattle.rule.specs.Result.{Workable, refactoredOf}
 
 abbrev chosen : Joined → ℕ → ℕ → Chosen
 chosen w p q = record { word = w; rows = p; columns = q }
 
-proper-own : (w : Joined) (p q : ℕ) → w .count ≤ 6 → p < 2 ^ w .n → q < 2 ^ w .n → Workable (w .n) (stepsOf w) (ofMask (w .n) p) (ofMask (w .n) q) → Proper (chosen w p q)
+proper-own : (w : Joined) (s : List ℕ) (p q : ℕ) → w .count ≤ 6 → p < 2 ^ w .n → q < 2 ^ w .n
+    → Workable (w .n) (stepsOf w s) (ofMask (w .n) p) (ofMask (w .n) q) → Proper (chosen w p q) s
 unfolding chosenMinor
-proper-own w p q six bp bq W =
+proper-own w s p q six bp bq W =
     let ep = mask-count (w .n) p (W .few) bp in
     record {
       some = W .some;
@@ -34,24 +35,27 @@ proper-own w p q six bp bq W =
       columns = bq;
       equal = sym ep ∙ W .equal ∙ mask-count (w .n) q (W .few) bq;
       stored = W .stored;
-      regular = subst (λ (k : ℕ). Regular k (chosenMinor (chosen w p q))) ep (W .regular);
+      regular = subst (λ (k : ℕ). Regular k (chosenMinor (chosen w p q) s)) ep (W .regular);
     }
 
-module _ (n : ℕ) (L : List (Step Number)) (w : Joined) (p q : ℕ) (en : w .n ≡ n) (el : stepsOf w ≡ L) (bp : p < 2 ^ n) (bq : q < 2 ^ n) (W : Workable n L (ofMask n p) (ofMask n q)) where
-  pub run-proper : w .count ≤ 6 → Proper (chosen w p q)
-  run-proper six =
-      proper-own w p q six (subst (λ (m : ℕ). p < 2 ^ m) (sym en) bp) (subst (λ (m : ℕ). q < 2 ^ m) (sym en) bq)
-      (subst (λ (M : List (Step Number)). Workable (w .n) M (ofMask (w .n) p) (ofMask (w .n) q)) (sym el) (subst (λ (m : ℕ). Workable m L (ofMask m p) (ofMask m q)) (sym en) W))
+-- THE WORD w, with the factors s, of the steps L
+module _ (w : Joined) (s : List ℕ) (L : List (Step Number)) (el : stepsOf w s ≡ L) where
+  module _ (p q : ℕ) (bp : p < 2 ^ w .n) (bq : q < 2 ^ w .n) (W : Workable (w .n) L (ofMask (w .n) p) (ofMask (w .n) q)) where
+    pub run-proper : w .count ≤ 6 → Proper (chosen w p q) s
+    run-proper six =
+        proper-own w s p q six bp bq (subst (λ (M : List (Step Number)). Workable (w .n) M (ofMask (w .n) p) (ofMask (w .n) q)) (sym el) W)
 
-  pub run-result : (f : List Number) (k e : ℕ) → f ≡ tableOf (maskCount p) (refactored rounded (w .n) (stepsOf w) (ofMask (w .n) p) (ofMask (w .n) q)) → k ≡ maskCount p → e ≡ boundOf (length L) n
-      → _≡_ {A = Refactored} (record { factors = f; rows = k; bound = e }) (refactoredOf n L (ofMask n p) (ofMask n q))
-  run-result f k e ef ek ee =
-      let c : maskCount p ≡ count (ofMask n p) = sym (mask-count n p (W .few) bp) in
-      let g : f ≡ tableOf (count (ofMask n p)) (refactored rounded n L (ofMask n p) (ofMask n q)) =
-      ef ∙ ap₂ (λ (m : ℕ) (M : List (Step Number)). tableOf (maskCount p) (refactored rounded m M (ofMask m p) (ofMask m q))) en el
-      ∙ ap (λ (m : ℕ). tableOf m (refactored rounded n L (ofMask n p) (ofMask n q))) c in
-      ap₂ (λ (x : List Number) (y : ℕ). record { factors = x; rows = y; bound = e }) g (ek ∙ c)
-      ∙ ap (λ (y : ℕ). record { factors = tableOf (count (ofMask n p)) (refactored rounded n L (ofMask n p) (ofMask n q)); rows = count (ofMask n p); bound = y }) ee
+    pub run-result : (f : List Number) (k e : ℕ)
+        → f ≡ tableOf (maskCount p) (chosenFactors (chosen w p q) s) → k ≡ maskCount p → e ≡ boundOf (length L) (w .n)
+        → _≡_ {A = Refactored} (record { factors = f; rows = k; bound = e }) (refactoredOf (w .n) L (ofMask (w .n) p) (ofMask (w .n) q))
+    run-result f k e ef ek ee =
+        let P = ofMask (w .n) p in
+        let Q = ofMask (w .n) q in
+        let c : maskCount p ≡ count P = sym (mask-count (w .n) p (W .few) bp) in
+        let g : f ≡ tableOf (count P) (refactored rounded (w .n) L P Q) =
+        ef ∙ ap₂ (λ (m : ℕ) (M : List (Step Number)). tableOf m (refactored rounded (w .n) M P Q)) c el in
+        ap₂ (λ (x : List Number) (y : ℕ). record { factors = x; rows = y; bound = e }) g (ek ∙ c)
+        ∙ ap (λ (y : ℕ). record { factors = tableOf (count P) (refactored rounded (w .n) L P Q); rows = count P; bound = y }) ee
 
 -- ALL ROWS
 module _ (n p : ℕ) (ln : n ≤ 8) (e : p ≡ maskRun 1 n) where

@@ -1,6 +1,6 @@
 -- What the operations hand back (resultOf), and what they ask of their sources (OperationWorkable).
 use mathlib.Core.Path.{_≡_}
-use mathlib.Core.List.{List, [], _∷_}
+use mathlib.Core.List.{List}
 use Prim.Native.Nat.{ℕ, _≤_}
 use Rattle.number.specs.Number.{rounded}
 use Rattle.number.specs.declared.Number.{Number}
@@ -8,26 +8,13 @@ use lib.ListN.{length}
 use Rattle.words.specs.RowSet.{RowSet, count, among}
 use Rattle.words.specs.Word.{Factors}
 use Rattle.words.specs.Walk.{minor}
-use Rattle.words.specs.Operation.{Step, step, plain, Operation, inverse, converse, steps, joinedWord, keptRows, keptColumns, boundOf, refactored}
+use Rattle.words.specs.Operation.{Step, Operation, inverse, converse, steps, joinedWord, keptRows, keptColumns, boundOf, refactored}
 use Rattle.words.specs.Sources.{StoredSteps}
-use Rattle.walk.specs.Steps.{wayOf, stepsOf}
-use Rattle.walk.specs.Table.{factorsOf, tableOf}
-use Rattle.walk.specs.declared.Way.{Way}
-use Rattle.walk.specs.declared.Joined.{Joined}
+use Rattle.walk.specs.Table.{tableOf}
 use Rattle.rule.specs.Chosen.{Regular}
 use Rattle.rule.specs.declared.Refactored.{Refactored}
 use Rattle.rule.specs.declared.Whole.{Whole}
 use Rattle.rule.specs.declared.Whole.the-variants.{Inverse, Converse}
-
-pub record OneStep (way : Way) (b : List Number) (n : ℕ) (w : Joined) : Type 0 where
-  pub steps : stepsOf w ≡ step (wayOf way) (factorsOf b) ∷ []
-  pub count : w .count ≡ 1
-  pub size : w .n ≡ n
-
-pub record TwoSteps (b c : List Number) (n : ℕ) (w : Joined) : Type 0 where
-  pub steps : stepsOf w ≡ step plain (factorsOf b) ∷ step plain (factorsOf c) ∷ []
-  pub count : w .count ≡ 2
-  pub size : w .n ≡ n
 
 -- THE RULE RUN on steps of n rows, of the rows P and the columns Q: the new factors, how many rows they have, and their bound
 abbrev pub refactoredOf : ℕ → List (Step Number) → RowSet → RowSet → Refactored

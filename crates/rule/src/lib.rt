@@ -6,15 +6,17 @@ ghost use Rattle.number.specs.Number.{rounded};
 ghost use Rattle.rowset.specs.Mask.{maskCount};
 ghost use Rattle.words.specs.RowSet.{ofMask, rows};
 ghost use Rattle.words.specs.Formula.{runBefore, onDiagonal, belowDiagonal, newFactor};
-ghost use Rattle.words.specs.Operation.{step, product, submatrix, refactored};
-ghost use Rattle.walk.specs.Steps.{wayOf, stepsOf};
+ghost use Rattle.words.specs.Operation.{step, product, submatrix};
+ghost use Rattle.walk.specs.Steps.{wayOf};
+ghost use Rattle.walk.specs.Lent.{AllSpelled};
 ghost use Rattle.walk.specs.Table.{factorsOf, tableOf};
-ghost use Rattle.rule.specs.Chosen.{sizeOf, chosenRows, chosenColumns, chosenMinor, turnedBy, cellAt, Proper, Usable};
-ghost use Rattle.rule.specs.Result.{OneStep, TwoSteps, Workable, OperationWorkable, refactoredOf, resultOf, wholeOf};
+ghost use Rattle.rule.specs.Chosen.{sizeOf, chosenMinor, chosenFactors, turnedBy, cellAt, Proper, Lent, Usable};
+ghost use Rattle.rule.specs.Result.{Workable, OperationWorkable, refactoredOf, resultOf, wholeOf};
 use number::Number;
 use walk::Joined;
 use walk::Step;
 use walk::Way;
+use walk::source;
 
 mod bounds; // bounds.rt: the bounds by size
 
@@ -40,66 +42,136 @@ pub enum Whole {
 
 impl Chosen {
     // The minor with row set i and column set j, sets that count among the chosen ones; turned, the row set is j and the column set i.
-    fn minor(self, i: usize, j: usize, turned: bool) -> Number
-        requires { ⌜ Proper self × (i < 2 ^ sizeOf self) × (j < 2 ^ sizeOf self) × (maskCount i ≡ maskCount j) ⌝ }
-        ensures { λ r. ⌜ r ≡ turnedBy turned (chosenMinor self) (ofMask (sizeOf self) i) (ofMask (sizeOf self) j) ⌝ }
+    fn minor(
+        self,
+        tables: &[u8; 1408],
+        letters: &[u16; 342],
+        sources: &[u64; 768],
+        i: usize,
+        j: usize,
+        turned: bool,
+    ) -> Number
+        requires { ⌜ Proper self (now sources) × (i < 2 ^ sizeOf self) × (j < 2 ^ sizeOf self) × (maskCount i ≡ maskCount j) ⌝ }
+        requires { ⌜ Lent self (now tables) (now letters) ⌝ }
+        ensures { λ r. ⌜ r ≡ turnedBy turned (chosenMinor self (now (sources .entry))) (ofMask (sizeOf self) i) (ofMask (sizeOf self) j) ⌝ }
         ensures { λ r. ⌜ Usable r ⌝ }
     {
         let word = self.word;
         if turned {
-            word.minor(rowset::among(self.rows, j), rowset::among(self.columns, i))
+            word.minor(
+                tables,
+                letters,
+                sources,
+                rowset::among(self.rows, j),
+                rowset::among(self.columns, i),
+            )
         } else {
-            word.minor(rowset::among(self.rows, i), rowset::among(self.columns, j))
+            word.minor(
+                tables,
+                letters,
+                sources,
+                rowset::among(self.rows, i),
+                rowset::among(self.columns, j),
+            )
         }
     }
 
     // M(a..b | 1..m), for m rows a..b; turned, M(1..m | a..b).
-    fn run_minor(self, a: usize, b: usize, m: usize, turned: bool) -> Number
-        requires { ⌜ Proper self × (1 ≤ a) × (b ≤ sizeOf self) × (b + 1 ≡ a + m) ⌝ }
-        ensures { λ r. ⌜ r ≡ turnedBy turned (chosenMinor self) (rows (sizeOf self) a b) (rows (sizeOf self) 1 m) ⌝ }
+    fn run_minor(
+        self,
+        tables: &[u8; 1408],
+        letters: &[u16; 342],
+        sources: &[u64; 768],
+        a: usize,
+        b: usize,
+        m: usize,
+        turned: bool,
+    ) -> Number
+        requires { ⌜ Proper self (now sources) × (1 ≤ a) × (b ≤ sizeOf self) × (b + 1 ≡ a + m) ⌝ }
+        requires { ⌜ Lent self (now tables) (now letters) ⌝ }
+        ensures { λ r. ⌜ r ≡ turnedBy turned (chosenMinor self (now (sources .entry))) (rows (sizeOf self) a b) (rows (sizeOf self) 1 m) ⌝ }
         ensures { λ r. ⌜ Usable r ⌝ }
     {
-        self.minor(rowset::run(a, b), rowset::run(1, m), turned)
+        self.minor(
+            tables,
+            letters,
+            sources,
+            rowset::run(a, b),
+            rowset::run(1, m),
+            turned,
+        )
     }
 
-    fn on_diagonal(self, i: usize) -> Number
-        requires { ⌜ Proper self × (1 ≤ i) × (i ≤ sizeOf self) ⌝ }
-        ensures { λ r. ⌜ r ≡ onDiagonal rounded (sizeOf self) (chosenMinor self) i ⌝ }
+    fn on_diagonal(
+        self,
+        tables: &[u8; 1408],
+        letters: &[u16; 342],
+        sources: &[u64; 768],
+        i: usize,
+    ) -> Number
+        requires { ⌜ Proper self (now sources) × (1 ≤ i) × (i ≤ sizeOf self) ⌝ }
+        requires { ⌜ Lent self (now tables) (now letters) ⌝ }
+        ensures { λ r. ⌜ r ≡ onDiagonal rounded (sizeOf self) (chosenMinor self (now (sources .entry))) i ⌝ }
     {
-        let upper = self.run_minor(1, i, i, false);
-        let lower = self.run_minor(1, i - 1, i - 1, false);
+        let upper = self.run_minor(tables, letters, sources, 1, i, i, false);
+        let lower = self.run_minor(tables, letters, sources, 1, i - 1, i - 1, false);
         upper.div(lower)
     }
 
     // Below the diagonal, j < i; turned, the factor of row j and column i above it.
-    fn off_diagonal(self, i: usize, j: usize, turned: bool) -> Number
-        requires { ⌜ Proper self × (1 ≤ j) × (j < i) × (i ≤ sizeOf self) ⌝ }
-        ensures { λ r. ⌜ r ≡ belowDiagonal rounded (sizeOf self) (runBefore (sizeOf self)) (turnedBy turned (chosenMinor self)) i j ⌝ }
+    fn off_diagonal(
+        self,
+        tables: &[u8; 1408],
+        letters: &[u16; 342],
+        sources: &[u64; 768],
+        i: usize,
+        j: usize,
+        turned: bool,
+    ) -> Number
+        requires { ⌜ Proper self (now sources) × (1 ≤ j) × (j < i) × (i ≤ sizeOf self) ⌝ }
+        requires { ⌜ Lent self (now tables) (now letters) ⌝ }
+        ensures { λ r. ⌜ r ≡ belowDiagonal rounded (sizeOf self) (runBefore (sizeOf self)) (turnedBy turned (chosenMinor self (now (sources .entry)))) i j ⌝ }
     {
-        let corner = self.run_minor(i - j + 1, i, j, turned);
-        let before = self.run_minor(i - j, i - 2, j - 1, turned);
-        let run = self.run_minor(i - j + 1, i - 1, j - 1, turned);
-        let above = self.run_minor(i - j, i - 1, j, turned);
+        let corner = self.run_minor(tables, letters, sources, i - j + 1, i, j, turned);
+        let before = self.run_minor(tables, letters, sources, i - j, i - 2, j - 1, turned);
+        let run = self.run_minor(tables, letters, sources, i - j + 1, i - 1, j - 1, turned);
+        let above = self.run_minor(tables, letters, sources, i - j, i - 1, j, turned);
         corner.mul(before).div(run.mul(above))
     }
 
-    fn factor(self, i: usize, j: usize) -> Number
-        requires { ⌜ Proper self × (1 ≤ i) × (i ≤ sizeOf self) × (1 ≤ j) × (j ≤ sizeOf self) ⌝ }
-        ensures { λ r. ⌜ r ≡ newFactor rounded (sizeOf self) (chosenMinor self) i j ⌝ }
+    fn factor(
+        self,
+        tables: &[u8; 1408],
+        letters: &[u16; 342],
+        sources: &[u64; 768],
+        i: usize,
+        j: usize,
+    ) -> Number
+        requires { ⌜ Proper self (now sources) × (1 ≤ i) × (i ≤ sizeOf self) × (1 ≤ j) × (j ≤ sizeOf self) ⌝ }
+        requires { ⌜ Lent self (now tables) (now letters) ⌝ }
+        ensures { λ r. ⌜ r ≡ newFactor rounded (sizeOf self) (chosenMinor self (now (sources .entry))) i j ⌝ }
     {
         if i == j {
-            return self.on_diagonal(i);
+            return self.on_diagonal(tables, letters, sources, i);
         }
         if j < i {
-            return self.off_diagonal(i, j, false);
+            return self.off_diagonal(tables, letters, sources, i, j, false);
         }
-        self.off_diagonal(j, i, true)
+        self.off_diagonal(tables, letters, sources, j, i, true)
     }
 
     // The number at t of the new factors in rows of eight: zero past their k rows and columns.
-    fn cell(self, k: usize, t: usize) -> Number
-        requires { ⌜ Proper self × (k ≡ sizeOf self) × (t < 64) ⌝ }
-        ensures { λ r. ⌜ r ≡ cellAt k (newFactor rounded k (chosenMinor self)) t ⌝ }
+    fn cell(
+        self,
+        tables: &[u8; 1408],
+        letters: &[u16; 342],
+        sources: &[u64; 768],
+        k: usize,
+        t: usize,
+    ) -> Number
+        requires { ⌜ Proper self (now sources) × (k ≡ sizeOf self) × (t < 64) ⌝ }
+        requires { ⌜ Lent self (now tables) (now letters) ⌝ }
+        ensures { λ r. ⌜ r ≡ cellAt k (newFactor rounded k (chosenMinor self (now (sources .entry)))) t ⌝ }
     {
         let i = t / 8 + 1;
         let j = t % 8 + 1;
@@ -109,47 +181,29 @@ impl Chosen {
         if k < j {
             return Number::zero();
         }
-        self.factor(i, j)
+        self.factor(tables, letters, sources, i, j)
     }
 
     // The new factors, zero past their rows and columns, put over the 64 numbers of a table.
-    pub fn factors(self, table: [Number; 64]) -> [Number; 64]
-        requires { ⌜ Proper self ⌝ }
-        ensures { λ r. ⌜ r ≡ tableOf (sizeOf self) (refactored rounded (self .word .n) (stepsOf (self .word)) (chosenRows self) (chosenColumns self)) ⌝ }
+    pub fn factors(
+        self,
+        letters: &[u16; 342],
+        sources: &[u64; 768],
+        table: [Number; 64],
+    ) -> [Number; 64]
+        requires { ⌜ Proper self (now sources) × AllSpelled (self .word) (now letters) ⌝ }
+        ensures { λ r. ⌜ r ≡ tableOf (sizeOf self) (chosenFactors self (now (sources .entry))) ⌝ }
     {
+        let word = self.word;
+        let n = word.n;
+        let tables = rowset::lent::tables(n);
         let k = rowset::count(self.rows);
         let mut b = table;
         for t in 0..64usize {
-            b[t] = self.cell(k, t);
+            b[t] = self.cell(&tables, letters, sources, k, t);
         }
         b
     }
-}
-
-fn one_step(way: Way, b: [Number; 64], n: usize) -> Joined
-    ensures { λ r. ⌜ OneStep way b n r ⌝ }
-{
-    let s = Step { way, factors: b };
-    Joined {
-        steps: [s; 6],
-        count: 1,
-        n,
-    }
-}
-
-fn two_steps(b: [Number; 64], c: [Number; 64], n: usize) -> Joined
-    ensures { λ r. ⌜ TwoSteps b c n r ⌝ }
-{
-    let s = Step {
-        way: Way::Plain,
-        factors: b,
-    };
-    let mut steps = [s; 6];
-    steps[1] = Step {
-        way: Way::Plain,
-        factors: c,
-    };
-    Joined { steps, count: 2, n }
 }
 
 // The new factors of the rows p and the columns q of one source.
@@ -158,13 +212,23 @@ fn of_one(way: Way, b: [Number; 64], n: usize, p: usize, q: usize) -> Refactored
     requires { ⌜ Workable n (step (wayOf way) (factorsOf b) ∷ []) (ofMask n p) (ofMask n q) ⌝ }
     ensures { λ r. ⌜ r ≡ refactoredOf n (step (wayOf way) (factorsOf b) ∷ []) (ofMask n p) (ofMask n q) ⌝ }
 {
+    let s = Step { way };
+    let word = Joined {
+        steps: [s; 6],
+        count: 1,
+        n,
+    };
+    let mut letters = [0u16; 342];
+    source::spell(&mut letters, n, way, 0);
+    let mut lent = [0u64; 768];
+    source::put_factors(&mut lent, 0, b);
     let c = Chosen {
-        word: one_step(way, b, n),
+        word,
         rows: p,
         columns: q,
     };
     Refactored {
-        factors: c.factors(b),
+        factors: c.factors(&letters, &lent, b),
         rows: rowset::count(p),
         bound: bounds::one_source(n),
     }
@@ -175,13 +239,25 @@ pub fn product(b: [Number; 64], c: [Number; 64], n: usize) -> Refactored
     ensures { λ r. ⌜ r ≡ resultOf n (product (factorsOf b) (factorsOf c)) ⌝ }
 {
     let all = rowset::run(1, n);
-    let c = Chosen {
-        word: two_steps(b, c, n),
+    let s = Step { way: Way::Plain };
+    let word = Joined {
+        steps: [s; 6],
+        count: 2,
+        n,
+    };
+    let mut letters = [0u16; 342];
+    source::spell(&mut letters, n, Way::Plain, 0);
+    source::spell(&mut letters, n, Way::Plain, 1);
+    let mut sources = [0u64; 768];
+    source::put_factors(&mut sources, 0, b);
+    source::put_factors(&mut sources, 1, c);
+    let x = Chosen {
+        word,
         rows: all,
         columns: all,
     };
     Refactored {
-        factors: c.factors(b),
+        factors: x.factors(&letters, &sources, b),
         rows: n,
         bound: bounds::product(n),
     }

@@ -1,6 +1,7 @@
--- The letters of a step's word in the code's terms: rows, factors and entries by their places (letter-pair), E and Et as moves (letter-moved, letter-stored), D as a scaling (letter-scaled).
+-- The letters of a step's word in the code's terms: rows, factors and entries by their places (letter-pair), E and Et as moves (letter-moved, letter-stored),
+-- D as a scaling (letter-scaled, entries-stored).
 use mathlib.Core.Path.{_≡_, refl, sym, ap, ap₂, _∙_, subst}
-use mathlib.Core.Bool.{Bool}
+use mathlib.Core.Bool.{Bool, true, false}
 use mathlib.Core.List.{List, [], _∷_}
 use Prim.Native.Nat.{ℕ, zero, suc, _+_, _-_, _*_, _≤_, _<_}
 use native.Mathlib.Nat.{not-suc-le-zero}
@@ -17,10 +18,9 @@ use Rattle.words.proofs.Related.{Matched, Letters}
 use Rattle.words.proofs.Alike.{Alike, alike, letters-joined}
 use Rattle.words.specs.Sources.{StoredStep}
 use Rattle.walk.specs.declared.Way.{Way}
-use Rattle.walk.specs.declared.Step.{Step}
 use Rattle.walk.specs.declared.letters.Move.{Move}
 use Rattle.walk.specs.Table.{cellOf, factorsOf}
-use Rattle.walk.specs.Steps.{wayOf, stepOf, letterAt, scaling, divides, entriesOf, Entries}
+use Rattle.walk.specs.Steps.{wayOf, stepOf, letterAt, scaling, divides, backwards, entryPlace, entriesOf, diagonalOf, StoredEntries}
 use Rattle.walk.specs.Letters.{middle, placeWord, moveOf, moveAt}
 use Rattle.walk.specs.Held.{Agree}
 use Rattle.walk.proofs.Scaling.{scaled-entries}
@@ -39,22 +39,22 @@ each-at P (x ∷ U) (y ∷ X) h (suc t) l d e = each-at P U X (h .1) t (omega ar
 abbrev pub At : List Number → Number → ℕ → Type 0
 At b x p = (x ≡ getD b p zeroNumber) × Stored x
 
-module _ (n : ℕ) (s : Step) (stored : StoredStep n (stepOf s)) where
-  placed : Alike (At (s .factors)) (At (s .factors)) n (factorsOf (s .factors)) cellOf
+module _ (n : ℕ) (way : Way) (b : List Number) (stored : StoredStep n (stepOf way b)) where
+  placed : Alike (At b) (At b) n (factorsOf b) cellOf
   unfolding factorsOf
   placed = record { off = λ i j p q r t e. (refl, stored i j (p, q) (r, t)); on = λ i p q. (refl, stored i i (p, q) (p, q)) }
 
-  spelled : Matched (Letters (At (s .factors)) (At (s .factors)) n) (stepWord n (stepOf s)) (placeWord n (s .way))
+  spelled : Matched (Letters (At b) (At b) n) (stepWord n (stepOf way b)) (placeWord n way)
   unfolding joinedWord placeWord
-  spelled = letters-joined (At (s .factors)) (At (s .factors)) n (stepOf s ∷ []) (words.step (wayOf (s .way)) cellOf ∷ []) (alike placed, tt)
+  spelled = letters-joined (At b) (At b) n (stepOf way b ∷ []) (words.step (wayOf way) cellOf ∷ []) (alike placed, tt)
 
   module _ (ln : 1 ≤ n) (hn : n ≤ 8) where
-    pub step-length : length (stepWord n (stepOf s)) ≡ 2 * middle n + 1
-    step-length = each-length _ (stepWord n (stepOf s)) (placeWord n (s .way)) spelled ∙ word-length n (s .way) ln hn
+    pub step-length : length (stepWord n (stepOf way b)) ≡ 2 * middle n + 1
+    step-length = each-length _ (stepWord n (stepOf way b)) (placeWord n way) spelled ∙ word-length n way ln hn
 
-    pub letter-pair : (t : ℕ) → t < 2 * middle n + 1 → Letters (At (s .factors)) (At (s .factors)) n (letterAt n s t) (getD (placeWord n (s .way)) t (D (λ i. 0)))
+    pub letter-pair : (t : ℕ) → t < 2 * middle n + 1 → Letters (At b) (At b) n (letterAt n way b t) (getD (placeWord n way) t (D (λ i. 0)))
     unfolding letterAt
-    letter-pair t l = each-at _ (stepWord n (stepOf s)) (placeWord n (s .way)) spelled t (omega (arith, word-length n (s .way) ln hn)) _ _
+    letter-pair t l = each-at _ (stepWord n (stepOf way b)) (placeWord n way) spelled t (omega (arith, word-length n way ln hn)) _ _
 
 module _ (n : ℕ) (b : List Number) (ω : State rounded) where
   -- E AND Et
@@ -65,44 +65,57 @@ module _ (n : ℕ) (b : List Number) (ω : State rounded) where
   act-move (Et i p) (Et j w) h m = ap₂ (λ (k : ℕ) (v : Number). moved rounded (k - 1) k v ω) (h .0) (h .1 .0)
 
   -- D
-  module _ (way : Way) (d : List Number) (F : Entries n way b d) where
-    entry-is : (e : ℕ → Number) (f : ℕ → ℕ) → ((i : ℕ) → 1 ≤ i → i ≤ n → At b (e i) (f i)) → EntriesAt n way f → (i : ℕ) → 1 ≤ i → i ≤ n → e i ≡ entriesOf d i
-    entry-is e f h g i l u = h i l u .0 ∙ ap (λ (p : ℕ). getD b p zeroNumber) (g i l u) ∙ sym (F .entry i l u)
+  module _ (way : Way) where
+    abbrev entries : ℕ → Number
+    entries = entriesOf n (backwards way) b
+
+    entry-is : (e : ℕ → Number) (f : ℕ → ℕ) → ((i : ℕ) → 1 ≤ i → i ≤ n → At b (e i) (f i)) → EntriesAt n way f → (i : ℕ) → 1 ≤ i → i ≤ n → e i ≡ entries i
+    unfolding entriesOf
+    entry-is e f h g i l u = h i l u .0 ∙ ap (λ (p : ℕ). getD b p zeroNumber) (g i l u)
 
     pub act-diagonal : (y : Letter ℕ) (x : Letter Number) → Letters (At b) (At b) n x y → IsDiagonal n way y → (S : RowSet) → length S ≡ n
-        → act rounded x ω S ≡ scaled rounded (scaling (divides way)) (entriesOf d) S (ω S)
+        → act rounded x ω S ≡ scaled rounded (scaling (divides way)) entries S (ω S)
     unfolding act
     act-diagonal (D f) (D e) h g S z =
-        scaled-entries productOf e (entriesOf d) S (ω S) (λ i l u. entry-is e f h (g .1) i l (omega (arith, z)))
-        ∙ ap (λ (c : Bool). scaled rounded (scaling c) (entriesOf d) S (ω S)) (sym (g .0))
+        scaled-entries productOf e entries S (ω S) (λ i l u. entry-is e f h (g .1) i l (omega (arith, z)))
+        ∙ ap (λ (c : Bool). scaled rounded (scaling c) entries S (ω S)) (sym (g .0))
     act-diagonal (Dinv f) (Dinv e) h g S z =
-        scaled-entries quotientOf e (entriesOf d) S (ω S) (λ i l u. entry-is e f h (g .1) i l (omega (arith, z)))
-        ∙ ap (λ (c : Bool). scaled rounded (scaling c) (entriesOf d) S (ω S)) (sym (g .0))
+        scaled-entries quotientOf e entries S (ω S) (λ i l u. entry-is e f h (g .1) i l (omega (arith, z)))
+        ∙ ap (λ (c : Bool). scaled rounded (scaling c) entries S (ω S)) (sym (g .0))
 
 -- the factor of a move is stored
-pub move-stored : (n : ℕ) (b : List Number) (y : Letter ℕ) (x : Letter Number) → Letters (At b) (At b) n x y → IsMove y → Stored (getD b (moveOf y .at) zeroNumber)
+pub move-stored : (n : ℕ) (b : List Number) (y : Letter ℕ) (x : Letter Number) → Letters (At b) (At b) n x y → IsMove y
+    → Stored (getD b (moveOf y .at) zeroNumber)
 move-stored n b (E i p) (E j w) h m = subst Stored (h .1 .0) (h .1 .1)
 move-stored n b (Et i p) (Et j w) h m = subst Stored (h .1 .0) (h .1 .1)
 
 -- LETTER t OF A STEP
-module _ (n : ℕ) (s : Step) (stored : StoredStep n (stepOf s)) (ln : 1 ≤ n) (hn : n ≤ 8) (t : ℕ) (l : t < 2 * middle n + 1) where
-  module _ (e : t ≡ middle n → ⊥) (m : Move) (q : m ≡ moveAt n (s .way) t) (w : Number) (f : w ≡ getD (s .factors) (m .at) zeroNumber) where
-    pub letter-moved : (ω : State rounded) → act rounded (letterAt n s t) ω ≡ moved rounded (m .to) (m .from) w ω
+module _ (n : ℕ) (way : Way) (b : List Number) (stored : StoredStep n (stepOf way b)) (ln : 1 ≤ n) (hn : n ≤ 8) (t : ℕ) (l : t < 2 * middle n + 1) where
+  module _ (e : t ≡ middle n → ⊥) (m : Move) (q : m ≡ moveAt n way t) (w : Number) (f : w ≡ getD b (m .at) zeroNumber) where
+    pub letter-moved : (ω : State rounded) → act rounded (letterAt n way b t) ω ≡ moved rounded (m .to) (m .from) w ω
     unfolding moveAt
     letter-moved ω =
-        act-move n (s .factors) ω _ (letterAt n s t) (letter-pair n s stored ln hn t l) (letter-move n (s .way) ln hn t l e)
-        ∙ ap (λ (x : Move). moved rounded (x .to) (x .from) (getD (s .factors) (x .at) zeroNumber) ω) (sym q) ∙ ap (λ (x : Number). moved rounded (m .to) (m .from) x ω) (sym f)
+        act-move n b ω _ (letterAt n way b t) (letter-pair n way b stored ln hn t l) (letter-move n way ln hn t l e)
+        ∙ ap (λ (x : Move). moved rounded (x .to) (x .from) (getD b (x .at) zeroNumber) ω) (sym q)
+        ∙ ap (λ (x : Number). moved rounded (m .to) (m .from) x ω) (sym f)
 
     pub letter-stored : Stored w
     unfolding moveAt
     letter-stored =
-        subst Stored (ap (λ (x : Move). getD (s .factors) (x .at) zeroNumber) (sym q) ∙ sym f)
-        (move-stored n (s .factors) _ (letterAt n s t) (letter-pair n s stored ln hn t l) (letter-move n (s .way) ln hn t l e))
+        subst Stored (ap (λ (x : Move). getD b (x .at) zeroNumber) (sym q) ∙ sym f)
+        (move-stored n b _ (letterAt n way b t) (letter-pair n way b stored ln hn t l) (letter-move n way ln hn t l e))
 
-  pub letter-scaled : (k : ℕ) → t ≡ middle n → (d : List Number) → Entries n (s .way) (s .factors) d → (x : Bool) → x ≡ divides (s .way) → (ω : State rounded)
-      → Agree n k (λ S. scaled rounded (scaling x) (entriesOf d) S (ω S)) (act rounded (letterAt n s t) ω)
-  letter-scaled k e d F x q ω =
-      record {
-        same = λ S z c. ap (λ (b : Bool). scaled rounded (scaling b) (entriesOf d) S (ω S)) q
-            ∙ sym (act-diagonal n (s .factors) ω (s .way) d F _ (letterAt n s t) (letter-pair n s stored ln hn t l) (letter-diagonal n (s .way) ln hn t l e) S z);
-      }
+  pub letter-scaled : (k : ℕ) → t ≡ middle n → (ω : State rounded)
+      → Agree n k (diagonalOf n way b ω) (act rounded (letterAt n way b t) ω)
+  letter-scaled k e ω =
+      let p = letter-pair n way b stored ln hn t l in
+      record { same = λ S z c. sym (act-diagonal n b ω way _ (letterAt n way b t) p (letter-diagonal n way ln hn t l e) S z) }
+
+-- the entries of D are stored where the factors are
+pub entries-stored : (n : ℕ) (way : Way) (b : List Number) → StoredStep n (stepOf way b) → StoredEntries n (entriesOf n (backwards way) b)
+unfolding factorsOf entriesOf
+entries-stored n way b s = record { stored = by (backwards way) }
+  where
+    by : (x : Bool) (i : ℕ) → 1 ≤ i → i ≤ n → Stored (getD b (entryPlace n x i) zeroNumber)
+    by true i h l = s (n + 1 - i) (n + 1 - i) (omega arith, omega arith) (omega arith, omega arith)
+    by false i h l = s i i (h, l) (h, l)

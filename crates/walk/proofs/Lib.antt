@@ -1,10 +1,13 @@
 pub mod Held
 pub mod Sweep
+pub mod Packed
+pub mod Lent
 pub mod Moves
 pub mod Scaling
-pub mod Diagonals
+pub mod InPlace
 pub mod Spelling
 pub mod Stages
 pub mod Acts
 pub mod Walking
 pub mod Minors
+pub mod Steps

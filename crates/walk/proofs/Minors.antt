@@ -1,5 +1,5 @@
 -- A minor from its start (joined-start) through the steps of a joined word, the last first (joined-next), within range (joined-working), to the number at its row set (minor-held);
--- the empty minor is 1 (minor-empty).
+-- the empty minor is 1 (minor-empty); the steps of a joined word as they are lent (joined-step).
 use mathlib.Core.Path.{_≡_, refl, sym, ap, ap₂, _∙_, subst}
 use mathlib.Core.Bool.{Bool, true, false, not, cond, _&&_}
 use mathlib.Core.List.{List, [], _∷_, map}
@@ -9,7 +9,7 @@ use native.Mathlib.Numerals.{add-one}
 use native.Mathlib.Decide.{ℕ-discrete}
 use native.Mathlib.Omega.{arith}
 use borrow.Author.Tests.{eq-eqb, ne-eqb}
-use lib.Dec.{T, eqb, leb, leb→le}
+use lib.Dec.{T, eqb, leb, leb→le, eqb→eq}
 use lib.ListN.{getD, length, take, drop, set, replicate, length-map, length-take, length-drop, getD-replicate, length-replicate, List·getD-map}
 use lib.Seq.{drop-cons, drop-length, getD-take}
 use Rattle.number.specs.Number.{rounded, zeroNumber, oneNumber}
@@ -31,6 +31,8 @@ use Rattle.words.proofs.Steps.{step-rows}
 use Rattle.words.specs.Sources.{StoredStep, StoredSteps}
 use Rattle.words.proofs.Exponents.{walk-ranged}
 use Rattle.walk.specs.Table.{absent}
+use Rattle.walk.specs.Lent.{stepAt, numbered, stepsOf}
+use Rattle.walk.specs.declared.Joined.{Joined}
 use Rattle.walk.specs.Held.{heldAt, stateOf, startOf, Agree, Working, stepReach}
 use Rattle.walk.proofs.Held.{agree-trans, agree-masks, held-back}
 use Rattle.walk.proofs.Walking.{walk-agree}
@@ -187,3 +189,18 @@ rows-some n j ln b z = leb→le _ _ (implies-at (not (eqb j 0)) _ (all-at 256 so
 
 pub rows-few : (n j : ℕ) → n ≤ 8 → j < 2 ^ n → maskCount j ≤ n
 rows-few n j ln b = omega (arith, mask-count n j ln b, count-to n j, countTo-le n j)
+
+-- THE STEPS OF A JOINED WORD with factors b
+numbered-at : (c : ℕ) → c < 6 → getD numbered c 0 ≡ c
+numbered-at c h = eqb→eq _ _ (all-at 6 (λ i. eqb (getD numbered i 0) i) tt c h)
+
+module _ (j : Joined) (b : List ℕ) (six : j .count ≤ 6) where
+  pub joined-length : length (stepsOf j b) ≡ j .count
+  joined-length = steps-length (stepAt j b) numbered (j .count) six
+
+  pub joined-none : drop (j .count) (stepsOf j b) ≡ []
+  joined-none = steps-none (stepAt j b) numbered (j .count) six
+
+  pub joined-step : (c : ℕ) → c < j .count → drop c (stepsOf j b) ≡ stepAt j b c ∷ drop (c + 1) (stepsOf j b)
+  joined-step c h = steps-next (stepAt j b) numbered (j .count) six c h 0
+      ∙ ap (λ (i : ℕ). stepAt j b i ∷ drop (c + 1) (stepsOf j b)) (numbered-at c (omega arith))

@@ -1,11 +1,9 @@
 -- A letter E or Et on 70 numbers: what it makes of a set by masks (moved-changed, moved-still), how far it takes the exponents (move-ready), and its sets one after the other (move-next, move-all).
-use mathlib.Core.Path.{_≡_, refl, sym, ap, ap₂, _∙_, subst}
-use mathlib.Core.Bool.{Bool, true, false, _||_, false≢true}
+use mathlib.Core.Path.{_≡_, sym, ap, ap₂, _∙_, subst}
+use mathlib.Core.Bool.{Bool, true, false, false≢true}
 use mathlib.Core.List.{List}
 use Prim.Native.Nat.{ℕ, _+_, _-_, _^_, _≤_, _<_, min}
 use native.Mathlib.Omega.{arith}
-use borrow.Author.Tests.{eqb-true}
-use lib.Dec.{eqb}
 use lib.ListN.{getD, set}
 use Rattle.number.specs.Number.{rounded, sumOf, productOf, Ranged, Stored, reach}
 use Rattle.number.specs.declared.Number.{Number}
@@ -16,11 +14,11 @@ use Rattle.rowset.proofs.Moved.{replaced-count, replaced-stays}
 use Rattle.rowset.proofs.Positions.{position-injective}
 use Rattle.words.specs.RowSet.{replaced, ofMask}
 use Rattle.words.specs.Walk.{moved, movedIf}
-use Rattle.rowset.specs.Sets.{adjacent, Neighbours, closedOf, ChangedAt}
+use Rattle.rowset.specs.Sets.{Neighbours, closedOf, changedOf, ChangedAt}
 use Rattle.walk.specs.Table.{absent}
 use Rattle.walk.specs.Held.{heldAt, stateOf, Agree, Working, letterReach}
 use Rattle.rowset.proofs.Order.{position-lt, position-within}
-use Rattle.rowset.proofs.Changed.{changedOf, changed-below, closed-below, closed-count, closed-changed}
+use Rattle.rowset.proofs.Changed.{changed-below, closed-below, closed-count, closed-changed}
 use Rattle.walk.proofs.Held.{held-back, held-working, agree-masks}
 use Rattle.walk.proofs.Sweep.{Swept, below-256, swept-next, swept-all}
 
@@ -132,13 +130,3 @@ module _ (n k a o : ℕ) (w : Number) (v : List Number) where
       move-all {u} S h =
           agree-masks n k u (moved rounded a o w (stateOf v)) ln
           (swept-all S (λ s b c m. omega (arith, rank-lt s b c m)) (λ s b c m. moved-still s b m))
-
--- two neighbours are two rows
-pub neighbours-two : {n a o : ℕ} → Neighbours n a o → 2 ≤ n
-unfolding adjacent
-neighbours-two {n} {a} {o} N = go (eqb a (o + 1)) (eqb o (a + 1)) refl refl (N .beside)
-  where
-    go : (x y : Bool) → eqb a (o + 1) ≡ x → eqb o (a + 1) ≡ y → (x || y) ≡ true → 2 ≤ n
-    go true y e f t = omega (arith, eqb-true a (o + 1) e, N .to-high, N .from-low)
-    go false true e f t = omega (arith, eqb-true o (a + 1) f, N .from-high, N .to-low)
-    go false false e f t = absurd (false≢true t)

@@ -1,14 +1,16 @@
--- D on 70 numbers: a number scaled by the entries of one more row (Scaled, scaled-in, scaled-out), entries that agree (scaled-entries), and the sets of k rows one after the other (diagonal-next, diagonal-all).
+-- D on 70 numbers: a number scaled by the entries of one more row (Scaled, scaled-in, scaled-out), entries that agree (scaled-entries), zero (scaled-zero),
+-- and the sets of k rows one after the other (diagonal-next, diagonal-all).
 use mathlib.Core.Path.{_≡_, refl, sym, ap, ap₂, _∙_, subst}
 use mathlib.Core.Bool.{Bool, true, false, false≢true}
 use mathlib.Core.List.{List, [], _∷_}
-use Prim.Native.Nat.{ℕ, suc, _+_, _-_, _*_, _^_, _≤_, _<_}
+use Prim.Native.Nat.{ℕ, suc, _+_, _*_, _^_, _≤_, _<_}
 use native.Mathlib.Numerals.{add-one}
 use native.Mathlib.Omega.{arith}
 use lib.ListN.{getD, set, length}
 use Rattle.number.specs.Number.{rounded, Ranged, Stored, bias}
 use Rattle.number.specs.declared.Number.{Number}
 use Rattle.number.proofs.Reach.{ranged-more, ranged-stored, ranged-product, ranged-quotient}
+use Rattle.number.proofs.Zero.{zero-is, product-zero-left, quotient-zero-left}
 use Rattle.rowset.specs.Mask.{maskHas, countBelow, positionOf}
 use Rattle.rowset.proofs.Masks.{ofMask-suc, ofMask-length}
 use Rattle.rowset.proofs.Positions.{position-injective}
@@ -16,7 +18,7 @@ use Rattle.words.specs.RowSet.{RowSet, ofMask}
 use Rattle.words.specs.Walk.{scaled}
 use Rattle.rowset.specs.Sets.{SetAt}
 use Rattle.walk.specs.Table.{absent}
-use Rattle.walk.specs.Steps.{scaling, entriesOf}
+use Rattle.walk.specs.Steps.{scaling}
 use Rattle.walk.specs.Held.{heldAt, stateOf, Agree, Working, letterReach}
 use Rattle.rowset.proofs.Order.{position-lt, position-within}
 use Rattle.walk.proofs.Held.{held-back, held-working, agree-masks}
@@ -40,29 +42,29 @@ scale-reach {r} true u s h = ranged-more (omega arith) (ranged-quotient u (range
 scale-reach {r} false u s h = ranged-more (omega arith) (ranged-product u (ranged-stored s) (omega arith))
 
 -- y is x scaled by the entries of the first i rows
-pub record Scaled (b : Bool) (d : List Number) (s : ℕ) (x y : Number) (i : ℕ) : Type 0 where
-  pub is : y ≡ scaled rounded (scaling b) (entriesOf d) (ofMask i s) x
+pub record Scaled (b : Bool) (e : ℕ → Number) (s : ℕ) (x y : Number) (i : ℕ) : Type 0 where
+  pub is : y ≡ scaled rounded (scaling b) e (ofMask i s) x
   pub ranged : Ranged (letterReach + 1033 * i) y
 
-pub scaled-none : (b : Bool) (d : List Number) (s : ℕ) (x : Number) → Ranged letterReach x → Scaled b d s x x 0
+pub scaled-none : (b : Bool) (e : ℕ → Number) (s : ℕ) (x : Number) → Ranged letterReach x → Scaled b e s x x 0
 unfolding scaled ofMask
-scaled-none b d s x u = record { is = refl; ranged = ranged-more (omega arith) u }
+scaled-none b e s x u = record { is = refl; ranged = ranged-more (omega arith) u }
 
-module _ {b : Bool} {d : List Number} {s : ℕ} {x y : Number} {i : ℕ} (S : Scaled b d s x y i) (l : i < 8) where
-  pub scaled-in : (z : Number) → maskHas (i + 1) s ≡ true → Stored (entriesOf d (i + 1)) → z ≡ scaling b y (entriesOf d (i + 1)) → Scaled b d s x z (i + 1)
-  scaled-in z h e q =
+module _ {b : Bool} {e : ℕ → Number} {s : ℕ} {x y : Number} {i : ℕ} (S : Scaled b e s x y i) (l : i < 8) where
+  pub scaled-in : (z : Number) → maskHas (i + 1) s ≡ true → Stored (e (i + 1)) → z ≡ scaling b y (e (i + 1)) → Scaled b e s x z (i + 1)
+  scaled-in z h t q =
       record {
-        is = q ∙ ap (λ (a : Number). scaling b a (entriesOf d (i + 1))) (S .is)
-            ∙ subst (λ (k : ℕ). scaling b (scaled rounded (scaling b) (entriesOf d) (ofMask i s) x) (entriesOf d k) ≡ scaled rounded (scaling b) (entriesOf d) (ofMask k s) x)
-            (sym (add-one i)) (sym (scaled-has (scaling b) (entriesOf d) s x i (subst (λ (k : ℕ). maskHas k s ≡ true) (add-one i) h)));
-        ranged = subst (Ranged (letterReach + 1033 * (i + 1))) (sym q) (ranged-more (omega arith) (scale-reach b (S .ranged) e (omega arith)));
+        is = q ∙ ap (λ (a : Number). scaling b a (e (i + 1))) (S .is)
+            ∙ subst (λ (k : ℕ). scaling b (scaled rounded (scaling b) e (ofMask i s) x) (e k) ≡ scaled rounded (scaling b) e (ofMask k s) x)
+            (sym (add-one i)) (sym (scaled-has (scaling b) e s x i (subst (λ (k : ℕ). maskHas k s ≡ true) (add-one i) h)));
+        ranged = subst (Ranged (letterReach + 1033 * (i + 1))) (sym q) (ranged-more (omega arith) (scale-reach b (S .ranged) t (omega arith)));
       }
 
-  pub scaled-out : (z : Number) → maskHas (i + 1) s ≡ false → z ≡ y → Scaled b d s x z (i + 1)
+  pub scaled-out : (z : Number) → maskHas (i + 1) s ≡ false → z ≡ y → Scaled b e s x z (i + 1)
   scaled-out z h q =
       record {
-        is = q ∙ S .is ∙ subst (λ (k : ℕ). scaled rounded (scaling b) (entriesOf d) (ofMask i s) x ≡ scaled rounded (scaling b) (entriesOf d) (ofMask k s) x)
-            (sym (add-one i)) (sym (scaled-not (scaling b) (entriesOf d) s x i (subst (λ (k : ℕ). maskHas k s ≡ false) (add-one i) h)));
+        is = q ∙ S .is ∙ subst (λ (k : ℕ). scaled rounded (scaling b) e (ofMask i s) x ≡ scaled rounded (scaling b) e (ofMask k s) x)
+            (sym (add-one i)) (sym (scaled-not (scaling b) e s x i (subst (λ (k : ℕ). maskHas k s ≡ false) (add-one i) h)));
         ranged = subst (Ranged (letterReach + 1033 * (i + 1))) (sym q) (ranged-more (omega arith) (S .ranged));
       }
 
@@ -74,10 +76,21 @@ scaled-entries op e f [] x h = refl
 scaled-entries op e f (true ∷ S) x h = ap₂ op (scaled-entries op e f S x (λ i l g. h i l (omega arith))) (h (suc (length S)) (omega arith) (omega arith))
 scaled-entries op e f (false ∷ S) x h = scaled-entries op e f S x (λ i l g. h i l (omega arith))
 
+-- zero stays zero
+pub scaled-zero : {r : ℕ} (b : Bool) (e : ℕ → Number) (S : RowSet) (x : Number) → Ranged r x → x .m ≡ 0 → scaled rounded (scaling b) e S x ≡ x
+unfolding scaled
+scaled-zero b e [] x u z = refl
+scaled-zero {r} b e (true ∷ S) x u z = ap (λ (y : Number). scaling b y (e (suc (length S)))) (scaled-zero b e S x u z) ∙ by b
+  where
+    by : (b : Bool) → scaling b x (e (suc (length S))) ≡ x
+    by true = quotient-zero-left x (e (suc (length S))) z ∙ sym (zero-is x u z)
+    by false = product-zero-left x (e (suc (length S))) z ∙ sym (zero-is x u z)
+scaled-zero b e (false ∷ S) x u z = scaled-zero b e S x u z
+
 -- THE SETS OF k ROWS, the set at p in place: no other set is read
-module _ (n k : ℕ) (b : Bool) (d v : List Number) where
+module _ (n k : ℕ) (b : Bool) (e : ℕ → Number) (v : List Number) where
   unfoldable pub scaledAt : ℕ → Number
-  scaledAt s = scaled rounded (scaling b) (entriesOf d) (ofMask n s) (heldAt v s)
+  scaledAt s = scaled rounded (scaling b) e (ofMask n s) (heldAt v s)
 
   abbrev every : ℕ → Bool
   every s = true
@@ -98,16 +111,18 @@ module _ (n k : ℕ) (b : Bool) (d v : List Number) where
         pub diagonal-ready : Working letterReach n k (stateOf v) → Ranged letterReach (getD u p absent)
         diagonal-ready r = subst (Ranged letterReach) (sym diagonal-old) (held-working v ln r s diagonal-lt (C .rows))
 
-        pub diagonal-next : (z : Number) (u' : List Number) → z ≡ scaled rounded (scaling b) (entriesOf d) (ofMask n s) (getD u p absent) → u' ≡ set u p z → SweptDiagonal u' (p + 1)
+        pub diagonal-next : (z : Number) (u' : List Number) → z ≡ scaled rounded (scaling b) e (ofMask n s) (getD u p absent) → u' ≡ set u p z
+            → SweptDiagonal u' (p + 1)
         unfolding scaledAt
         diagonal-next z u' ez eu =
             swept-next S s ln diagonal-lt (C .rows) refl (C .position)
-            (λ t bt ct mt e. position-injective t s (ct ∙ sym (C .rows)) (e ∙ sym (C .position)))
-            u' z (eu ∙ ap (λ (x : ℕ). set u x z) (sym (C .position))) (ez ∙ ap (scaled rounded (scaling b) (entriesOf d) (ofMask n s)) diagonal-old)
+            (λ t bt ct mt q. position-injective t s (ct ∙ sym (C .rows)) (q ∙ sym (C .position)))
+            u' z (eu ∙ ap (λ (x : ℕ). set u x z) (sym (C .position))) (ez ∙ ap (scaled rounded (scaling b) e (ofMask n s)) diagonal-old)
 
-    pub diagonal-all : {u : List Number} {p : ℕ} → SweptDiagonal u p → countBelow k (2 ^ n) ≤ p → Agree n k (stateOf u) (λ S. scaled rounded (scaling b) (entriesOf d) S (stateOf v S))
+    pub diagonal-all : {u : List Number} {p : ℕ} → SweptDiagonal u p → countBelow k (2 ^ n) ≤ p
+        → Agree n k (stateOf u) (λ S. scaled rounded (scaling b) e S (stateOf v S))
     unfolding scaledAt
     diagonal-all {u} S h =
-        agree-masks n k u (λ S. scaled rounded (scaling b) (entriesOf d) S (stateOf v S)) ln
+        agree-masks n k u (λ S. scaled rounded (scaling b) e S (stateOf v S)) ln
         (λ s l c. swept-all S (λ s l c m. omega (arith, position-lt k s (2 ^ n) c l)) (λ s l c m. absurd (false≢true (sym m))) s l c
-        ∙ ap (scaled rounded (scaling b) (entriesOf d) (ofMask n s)) (sym (held-back v n s l)))
+        ∙ ap (scaled rounded (scaling b) e (ofMask n s)) (sym (held-back v n s l)))

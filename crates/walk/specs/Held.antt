@@ -31,6 +31,10 @@ stepReach = 400000
 abbrev pub letterReach : ℕ
 letterReach = 500000
 
+-- and behind D, with the entries of eight rows
+abbrev pub scaledReach : ℕ
+scaledReach = 508264
+
 -- 1 at j, 0 elsewhere
 unfoldable pub startOf : ℕ → List Number
 startOf j = set (replicate 70 zeroNumber) (positionOf j) oneNumber

@@ -1,4 +1,6 @@
 pub mod Table
 pub mod Steps
 pub mod Letters
+pub mod Lent
 pub mod Held
+pub mod Packed

@@ -1,19 +1,18 @@
--- Steps as the code holds them: ways (wayOf), the steps of a joined word (stepsOf), their letters (letterAt), the entries of D (Entries).
-use mathlib.Core.Path.{_≡_}
+-- Steps as the code holds them: ways (wayOf), a step by its way and its 64 factors (stepOf), the letters of its word (letterAt), the entries of D (entriesOf),
+-- and D on a state (diagonalOf).
 use mathlib.Core.Bool.{Bool, true, false}
-use mathlib.Core.List.{List, map}
+use mathlib.Core.List.{List}
 use Prim.Native.Nat.{ℕ, _+_, _-_, _≤_}
-use lib.ListN.{getD, take}
-use Rattle.number.specs.Number.{zeroNumber, productOf, quotientOf, Stored}
+use lib.ListN.{getD}
+use Rattle.number.specs.Number.{rounded, zeroNumber, productOf, quotientOf, Stored}
 use Rattle.number.specs.declared.Number.{Number}
 use Rattle.words.specs.Word.{Letter, D}
+use Rattle.words.specs.Walk.{State, scaled}
 use Rattle.words.specs.Operation as words
 use Rattle.words.specs.Operation.{stepWord}
-use Rattle.walk.specs.Table.{cellOf, factorsOf, absent}
+use Rattle.walk.specs.Table.{cellOf, factorsOf}
 use Rattle.walk.specs.declared.Way.{Way}
 use Rattle.walk.specs.declared.Way.the-variants.{Plain, Inverted, Conversed, Transposed}
-use Rattle.walk.specs.declared.Step.{Step}
-use Rattle.walk.specs.declared.Joined.{Joined}
 
 abbrev pub wayOf : Way → words.Way
 wayOf Plain = words.plain
@@ -21,15 +20,12 @@ wayOf Inverted = words.inverted
 wayOf Conversed = words.conversed
 wayOf Transposed = words.transposed
 
-abbrev pub stepOf : Step → words.Step Number
-stepOf s = words.step (wayOf (s .way)) (factorsOf (s .factors))
-
-abbrev pub stepsOf : Joined → List (words.Step Number)
-stepsOf j = map stepOf (take (j .count) (j .steps))
+abbrev pub stepOf : Way → List Number → words.Step Number
+stepOf way b = words.step (wayOf way) (factorsOf b)
 
 -- letter number t of a step's word, counted from 0
-unfoldable pub letterAt : ℕ → Step → ℕ → Letter Number
-letterAt n s t = getD (stepWord n (stepOf s)) t (D (λ i. zeroNumber))
+unfoldable pub letterAt : ℕ → Way → List Number → ℕ → Letter Number
+letterAt n way b t = getD (stepWord n (stepOf way b)) t (D (λ i. zeroNumber))
 
 -- D multiplies, for the inverse it divides
 abbrev pub scaling : Bool → Number → Number → Number
@@ -48,18 +44,18 @@ backwards Inverted = false
 backwards Conversed = true
 backwards Transposed = false
 
--- the entries of D that eight numbers hold, that of row 1 first
-unfoldable pub entriesOf : List Number → ℕ → Number
-entriesOf d i = getD d (i - 1) absent
-
-pub record StoredEntries (n : ℕ) (d : List Number) : Type 0 where
-  pub stored : (i : ℕ) → 1 ≤ i → i ≤ n → Stored (entriesOf d i)
-
 -- where the entry of row i stands: on the diagonal, backwards for the converse
 abbrev pub entryPlace : ℕ → Bool → ℕ → ℕ
 entryPlace n true i = cellOf (n + 1 - i) (n + 1 - i)
 entryPlace n false i = cellOf i i
 
--- d holds the entries of D of n rows with factors b
-pub record Entries (n : ℕ) (way : Way) (b d : List Number) : Type 0 where
-  pub entry : (i : ℕ) → 1 ≤ i → i ≤ n → entriesOf d i ≡ getD b (entryPlace n (backwards way) i) zeroNumber
+-- the entries of D, by their rows
+unfoldable pub entriesOf : ℕ → Bool → List Number → ℕ → Number
+entriesOf n back b i = getD b (entryPlace n back i) zeroNumber
+
+-- D on a state: the number of each set scaled by the entries of its rows
+abbrev pub diagonalOf : ℕ → Way → List Number → State rounded → State rounded
+diagonalOf n way b ω S = scaled rounded (scaling (divides way)) (entriesOf n (backwards way) b) S (ω S)
+
+pub record StoredEntries (n : ℕ) (e : ℕ → Number) : Type 0 where
+  pub stored : (i : ℕ) → 1 ≤ i → i ≤ n → Stored (e i)

@@ -1,21 +1,28 @@
 // Minors (document 01, "The rounded rule"): a number for every set of k rows is held, and the letters of a word are applied from right to left.
+// The numbers are held in words, changed in place; the tables of row sets, the letters and the factors are lent by the caller, who made them once.
 ghost use mathlib.Core.Path.{_≡_};
 ghost use mathlib.Core.Bool.{cond};
 ghost use Prim.Native.Nat.{_+_, _-_, _*_, _^_, _≤_, _<_};
+ghost use lib.ListN.{length};
 ghost use Rattle.number.specs.Number.{rounded, Ranged, Stored};
-ghost use Rattle.rowset.specs.Mask.{maskCount};
-ghost use Rattle.rowset.specs.Sets.{Neighbours};
+ghost use Rattle.rowset.specs.Mask.{maskCount, countBelow};
+ghost use Rattle.rowset.specs.Sets.{Neighbours, beginOf, Tables};
 ghost use Rattle.words.specs.RowSet.{ofMask};
 ghost use Rattle.words.specs.Walk.{moved, scaled, act, walk, minor};
 ghost use Rattle.words.specs.Operation.{stepWord, joinedWord};
 ghost use Rattle.words.specs.Sources.{StoredStep, StoredSteps};
 ghost use Rattle.walk.specs.Letters.{middle};
-ghost use Rattle.walk.specs.Held.{stateOf, startOf, Agree, Working, letterReach, stepReach};
-ghost use Rattle.walk.specs.Steps.{scaling, entriesOf, StoredEntries, divides, backwards, Entries, stepOf, stepsOf, letterAt};
+ghost use Rattle.walk.specs.Packed.{heldBy};
+ghost use Rattle.walk.specs.Held.{Agree, Working, letterReach, stepReach, scaledReach};
+ghost use Rattle.walk.specs.Steps.{scaling, entriesOf, StoredEntries, divides, backwards, diagonalOf, letterAt};
+ghost use Rattle.walk.specs.Lent.{tableIn, stepIn, Spelled, AllSpelled, stepsOf};
 use number::Number;
+use number::packed;
+use rowset::lent;
 use rowset::sets;
 
 pub mod letters; // letters.rt: the letters of a word by their numbers
+pub mod source; // source.rt: factors and letters as they are lent
 
 // The way that a source's word is taken.
 pub enum Way {
@@ -25,10 +32,9 @@ pub enum Way {
     Transposed,
 }
 
-// A source and its way. The factor of row i and column j stands at (i - 1) * 8 + (j - 1).
+// A step of a joined word. The factor of row i and column j of step c stands at c * 64 + (i - 1) * 8 + (j - 1) of the lent factors.
 pub struct Step {
     pub way: Way,
-    pub factors: [Number; 64],
 }
 
 // The first `count` of six steps, each of n rows: their words are joined in this order.
@@ -40,21 +46,37 @@ pub struct Joined {
 
 // Each set with row a and without row o gets its number plus w times that of the set with o in place of a, the product rounded first.
 // This is E_j(w) with a = j and o = j - 1, and Et_j(w) with a = j - 1 and o = j. In place, since no set that is read is changed.
-fn moved(v: [Number; 70], n: usize, k: usize, a: usize, o: usize, w: Number) -> [Number; 70]
+// A number that is zero is passed over: it adds nothing. There are `many` such sets, and those of k - 1 rows begin at `begin`.
+fn moved(
+    u: &mut [u64; 70],
+    tables: &[u8; 1408],
+    n: usize,
+    k: usize,
+    begin: usize,
+    many: usize,
+    a: usize,
+    o: usize,
+    w: Number,
+)
     requires { ⌜ (1 ≤ k) × (k ≤ n) × (n ≤ 8) × Neighbours n a o ⌝ }
-    requires { ⌜ Working letterReach n k (stateOf v) × Stored w ⌝ }
-    ensures { λ r. ⌜ Agree n k (stateOf r) (moved rounded a o w (stateOf v)) ⌝ }
+    requires { ⌜ (begin ≡ beginOf (k - 1)) × (many ≡ countBelow (k - 1) (2 ^ (n - 2))) × (many < 71) ⌝ }
+    requires { ⌜ Working letterReach n k (heldBy (now u)) × Stored w ⌝ }
+    requires { ⌜ (length (now u) ≡ 70) × Tables n (now tables) ⌝ }
+    ensures { λ _. ⌜ Agree n k (heldBy (now (u .exit))) (moved rounded a o w (heldBy (now (u .entry)))) ⌝ }
+    ensures { λ _. ⌜ length (now (u .exit)) ≡ 70 ⌝ }
 {
-    let mut u = v;
-    for p in 0..sets::sets_of(n - 2, k - 1) {
-        let s = sets::changed_at(k, a, o, p);
-        let to = rowset::position(s);
-        let from = rowset::position(rowset::replaced(s, a, o));
-        let x = u[to];
+    for p in 0..many {
+        let m = lent::set_in(tables, begin, k - 1, p);
+        let from = lent::changed_in(tables, n, o, a, m);
         let y = u[from];
-        u[to] = x.add_product(w, y);
+        let b = packed::unpack(y);
+        if b.m == 0 {
+            continue;
+        }
+        let to = lent::changed_in(tables, n, a, o, m);
+        let x = u[to];
+        u[to] = packed::pack(packed::unpack(x).add_product(w, b));
     }
-    u
 }
 
 fn scale(x: Number, e: Number, inverse: bool) -> Number
@@ -62,36 +84,6 @@ fn scale(x: Number, e: Number, inverse: bool) -> Number
     ensures { λ r. ⌜ r ≡ scaling inverse x e ⌝ }
 {
     if inverse { x.div(e) } else { x.mul(e) }
-}
-
-// x multiplied, for the inverse divided, by the entries of the rows of s in ascending order.
-fn scaled(d: [Number; 8], n: usize, s: usize, x: Number, inverse: bool) -> Number
-    requires { ⌜ (n ≤ 8) × Ranged letterReach x × StoredEntries n d ⌝ }
-    ensures { λ r. ⌜ r ≡ scaled rounded (scaling inverse) (entriesOf d) (ofMask n s) x ⌝ }
-{
-    let mut y = x;
-    for i in 0..n {
-        let row = i + 1;
-        if rowset::has(s, row) {
-            let e = d[row - 1];
-            y = scale(y, e, inverse);
-        }
-    }
-    y
-}
-
-// D: the number of each set of k rows.
-fn diagonal(v: [Number; 70], n: usize, k: usize, d: [Number; 8], inverse: bool) -> [Number; 70]
-    requires { ⌜ (k ≤ 8) × (n ≤ 8) ⌝ }
-    requires { ⌜ Working letterReach n k (stateOf v) × StoredEntries n d ⌝ }
-    ensures { λ r. ⌜ Agree n k (stateOf r) (λ S. scaled rounded (scaling inverse) (entriesOf d) S (stateOf v S)) ⌝ }
-{
-    let mut u = v;
-    for p in 0..sets::sets_of(n, k) {
-        let x = u[p];
-        u[p] = scaled(d, n, sets::set_at(k, p), x, inverse);
-    }
-    u
 }
 
 fn divides(way: Way) -> bool
@@ -125,85 +117,176 @@ fn entry_row(n: usize, i: usize, back: bool) -> usize
     if back { n - 1 - i } else { i }
 }
 
-// The entries of D, those of row 1 first; in the converse they are read backwards.
-fn entries(b: [Number; 64], n: usize, way: Way) -> [Number; 8]
-    requires { ⌜ n ≤ 8 ⌝ }
-    ensures { λ r. ⌜ Entries n way b r ⌝ }
+// x multiplied, for the inverse divided, by the entries of the rows of s in ascending order; in the converse the entries of D are read backwards.
+fn scaled(
+    factors: &[u64; 768],
+    c: usize,
+    n: usize,
+    s: usize,
+    x: Number,
+    inverse: bool,
+    back: bool,
+) -> Number
+    requires { ⌜ (n ≤ 8) × (c < 6) × Ranged letterReach x × StoredEntries n (entriesOf n back (tableIn (now factors) c)) ⌝ }
+    ensures { λ r. ⌜ r ≡ scaled rounded (scaling inverse) (entriesOf n back (tableIn (now (factors .entry)) c)) (ofMask n s) x ⌝ }
+    ensures { λ r. ⌜ Ranged scaledReach r ⌝ }
 {
-    let zero = Number::zero();
-    let mut d = [zero; 8];
-    let back = backwards(way);
+    let mut y = x;
     for i in 0..n {
-        d[i] = b[entry_row(n, i, back) * 9];
+        let row = i + 1;
+        if rowset::has(s, row) {
+            let e = source::factor_in(factors, c * 64 + entry_row(n, row - 1, back) * 9);
+            y = scale(y, e, inverse);
+        }
     }
-    d
+    y
 }
 
-// Letter t of the step's word.
-fn act(v: [Number; 70], n: usize, k: usize, s: Step, t: usize) -> [Number; 70]
-    requires { ⌜ (1 ≤ k) × (k ≤ n) × (n ≤ 8) × (t < 2 * middle n + 1) ⌝ }
-    requires { ⌜ Working letterReach n k (stateOf v) × StoredStep n (stepOf s) ⌝ }
-    ensures { λ r. ⌜ Agree n k (stateOf r) (act rounded (letterAt n s t) (stateOf v)) ⌝ }
+// D: the number of each set of k rows. Zero stays zero.
+fn diagonal(
+    u: &mut [u64; 70],
+    tables: &[u8; 1408],
+    factors: &[u64; 768],
+    c: usize,
+    n: usize,
+    k: usize,
+    way: Way,
+)
+    requires { ⌜ (k ≤ 8) × (n ≤ 8) × (c < 6) ⌝ }
+    requires { ⌜ Working letterReach n k (heldBy (now u)) × StoredEntries n (entriesOf n (backwards way) (tableIn (now factors) c)) ⌝ }
+    requires { ⌜ (length (now u) ≡ 70) × Tables n (now tables) ⌝ }
+    ensures { λ _. ⌜ Agree n k (heldBy (now (u .exit))) (diagonalOf n way (tableIn (now (factors .entry)) c) (heldBy (now (u .entry)))) ⌝ }
+    ensures { λ _. ⌜ length (now (u .exit)) ≡ 70 ⌝ }
 {
-    let way = s.way;
-    let b = s.factors;
+    let inverse = divides(way);
+    let back = backwards(way);
+    let begin = lent::begin(k);
+    for p in 0..sets::sets_of(n, k) {
+        let y = u[p];
+        let x = packed::unpack(y);
+        if x.m == 0 {
+            continue;
+        }
+        let s = lent::set_in(tables, begin, k, p);
+        u[p] = packed::pack(scaled(factors, c, n, s, x, inverse, back));
+    }
+}
+
+// Letter t of the word of step c.
+fn act(
+    u: &mut [u64; 70],
+    tables: &[u8; 1408],
+    letters: &[u16; 342],
+    factors: &[u64; 768],
+    n: usize,
+    k: usize,
+    begin: usize,
+    many: usize,
+    way: Way,
+    c: usize,
+    t: usize,
+)
+    requires { ⌜ (1 ≤ k) × (k ≤ n) × (n ≤ 8) × (c < 6) × (t < 2 * middle n + 1) ⌝ }
+    requires { ⌜ (begin ≡ beginOf (k - 1)) × (many ≡ countBelow (k - 1) (2 ^ (n - 2))) × (many < 71) ⌝ }
+    requires { ⌜ Working letterReach n k (heldBy (now u)) × StoredStep n (stepIn way (now factors) c) ⌝ }
+    requires { ⌜ (length (now u) ≡ 70) × Tables n (now tables) × Spelled n way c (now letters) ⌝ }
+    ensures { λ _. ⌜ Agree n k (heldBy (now (u .exit))) (act rounded (letterAt n way (tableIn (now (factors .entry)) c) t) (heldBy (now (u .entry)))) ⌝ }
+    ensures { λ _. ⌜ length (now (u .exit)) ≡ 70 ⌝ }
+{
     if t == letters::middle(n) {
-        return diagonal(v, n, k, entries(b, n, way), divides(way));
+        diagonal(&mut *u, tables, factors, c, n, k, way);
+        return;
     }
-    let l = letters::move_at(n, way, t);
-    let at = l.at;
-    let w = b[at];
-    moved(v, n, k, l.to, l.from, w)
+    let l = source::letter_in(letters, n, way, c, t);
+    let w = source::factor_in(factors, c * 64 + l.at);
+    moved(&mut *u, tables, n, k, begin, many, l.to, l.from, w);
 }
 
-// The word of a step, from right to left.
-fn walked(v: [Number; 70], n: usize, k: usize, s: Step) -> [Number; 70]
-    requires { ⌜ (1 ≤ k) × (k ≤ n) × (n ≤ 8) ⌝ }
-    requires { ⌜ Working stepReach n k (stateOf v) × StoredStep n (stepOf s) ⌝ }
-    ensures { λ r. ⌜ Agree n k (stateOf r) (walk rounded (stepWord n (stepOf s)) (stateOf v)) ⌝ }
+// The word of step c, from right to left.
+fn walked(
+    u: &mut [u64; 70],
+    tables: &[u8; 1408],
+    letters: &[u16; 342],
+    factors: &[u64; 768],
+    n: usize,
+    k: usize,
+    begin: usize,
+    many: usize,
+    way: Way,
+    c: usize,
+)
+    requires { ⌜ (1 ≤ k) × (k ≤ n) × (n ≤ 8) × (c < 6) ⌝ }
+    requires { ⌜ (begin ≡ beginOf (k - 1)) × (many ≡ countBelow (k - 1) (2 ^ (n - 2))) × (many < 71) ⌝ }
+    requires { ⌜ Working stepReach n k (heldBy (now u)) × StoredStep n (stepIn way (now factors) c) ⌝ }
+    requires { ⌜ (length (now u) ≡ 70) × Tables n (now tables) × Spelled n way c (now letters) ⌝ }
+    ensures { λ _. ⌜ Agree n k (heldBy (now (u .exit))) (walk rounded (stepWord n (stepIn way (now (factors .entry)) c)) (heldBy (now (u .entry)))) ⌝ }
+    ensures { λ _. ⌜ length (now (u .exit)) ≡ 70 ⌝ }
 {
-    let mut u = v;
     let mut t = 2 * letters::middle(n) + 1;
     while 0 < t {
         t -= 1;
-        let x = act(u, n, k, s, t);
-        u = x;
+        act(
+            &mut *u,
+            tables,
+            letters,
+            factors,
+            n,
+            k,
+            begin,
+            many,
+            way,
+            c,
+            t,
+        );
     }
-    u
 }
 
-// 1 at j, 0 elsewhere.
-fn one_at(j: usize) -> [Number; 70]
-    requires { ⌜ j < 256 ⌝ }
-    ensures { λ r. ⌜ r ≡ startOf j ⌝ }
+// How many sets of k rows out of n a letter changes: none where there is no letter.
+fn changes(n: usize, k: usize) -> usize
+    requires { ⌜ (n ≤ 8) × (1 ≤ k) × (k ≤ 8) ⌝ }
+    ensures { λ r. ⌜ r ≡ countBelow (k - 1) (2 ^ (n - 2)) ⌝ }
+    ensures { λ r. ⌜ r < 71 ⌝ }
 {
-    let zero = Number::zero();
-    let mut v = [zero; 70];
-    v[rowset::position(j)] = Number::one();
-    v
+    if n < 2 {
+        sets::sets_of(0, k - 1)
+    } else {
+        sets::sets_of(n - 2, k - 1)
+    }
 }
 
 impl Joined {
-    // The minor of the joined word with row set i and column set j.
-    pub fn minor(self, i: usize, j: usize) -> Number
+    // The minor of the joined word with row set i and column set j. The walk starts with 1 at j, 0 elsewhere.
+    pub fn minor(
+        self,
+        tables: &[u8; 1408],
+        letters: &[u16; 342],
+        factors: &[u64; 768],
+        i: usize,
+        j: usize,
+    ) -> Number
         requires { ⌜ (1 ≤ self .n) × (self .n ≤ 8) × (self .count ≤ 6) ⌝ }
         requires { ⌜ (i < 2 ^ self .n) × (j < 2 ^ self .n) × (maskCount i ≡ maskCount j) ⌝ }
-        requires { ⌜ StoredSteps (self .n) (stepsOf self) ⌝ }
-        ensures { λ r. ⌜ r ≡ minor rounded (joinedWord (self .n) (stepsOf self)) (ofMask (self .n) i) (ofMask (self .n) j) ⌝ }
+        requires { ⌜ StoredSteps (self .n) (stepsOf self (now factors)) ⌝ }
+        requires { ⌜ Tables (self .n) (now tables) × AllSpelled self (now letters) ⌝ }
+        ensures { λ r. ⌜ r ≡ minor rounded (joinedWord (self .n) (stepsOf self (now (factors .entry)))) (ofMask (self .n) i) (ofMask (self .n) j) ⌝ }
     {
         let n = self.n;
         if j == 0 {
             return Number::one();
         }
         let k = rowset::count(j);
-        let mut v = one_at(j);
+        let begin = lent::begin(k - 1);
+        let many = changes(n, k);
+        let zero = packed::pack(Number::zero());
+        let mut v = [zero; 70];
+        v[lent::position_in(tables, j)] = packed::pack(Number::one());
         let mut c = self.count;
         while 0 < c {
             c -= 1;
             let s = self.steps[c];
-            let u = walked(v, n, k, s);
-            v = u;
+            let way = s.way;
+            walked(&mut v, tables, letters, factors, n, k, begin, many, way, c);
         }
-        v[rowset::position(i)]
+        packed::unpack(v[lent::position_in(tables, i)])
     }
 }

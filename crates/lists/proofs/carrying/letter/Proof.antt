@@ -10,7 +10,7 @@ use Rattle.walk.specs.Letters.{middle}
 use Rattle.walk.specs.Table.{factorsOf, absent}
 use Rattle.walk.specs.declared.Way.the-variants.{Plain}
 use Rattle.walk.proofs.Acts.{letter-stored}
-use Rattle.walk.proofs.Diagonals.{read-default}
+use Rattle.walk.proofs.Lent.{read-default}
 use Rattle.lists.specs.Lists.{vectorOf}
 use Rattle.lists.specs.Carrying.{Carries, letterOf, workingReach}
 use Rattle.lists.proofs.Spelled.{carries-moved, carries-scaled}
@@ -58,7 +58,7 @@ stored c =
     let a = b .args in
     let m = c .before .move-at in
     let p = b .pre .0 in
-    letter-stored (a .n) (record { way = Plain; factors = a .t2 }) (b .pre .1 .1) (p .0) (p .1) (a .t) (p .2) (apart (c .before .before)) (m .result) (m .ensures .0) _ (factor c)
+    letter-stored (a .n) Plain (a .t2) (b .pre .1 .1) (p .0) (p .1) (a .t) (p .2) (apart (c .before .before)) (m .result) (m .ensures .0) _ (factor c)
 
 added-requires : tie.Need-added-requires
 added-requires c κs =

@@ -1,9 +1,8 @@
 -- `Number::mul` meets its contract: zero operands, and a product that fits a word.
 use mathlib.Core.Path.{sym, _∙_}
-use native.Mathlib.Nat.{mul-pos}
 use native.Mathlib.Omega.{arith}
 use borrow.Author.Needs.{needs}
-use Rattle.number.proofs.Exact.{product-fits}
+use Rattle.number.proofs.Digits.{product-low, product-high}
 use Rattle.number.proofs.Zero.{zero-is, product-zero-left, product-zero-right}
 use Rattle.number.specs.Number.{productOf}
 use Rattle.number.proofs.Number.mul.Statement.{statement}
@@ -19,26 +18,30 @@ returns-2 c =
     let b = c .before .before .before .before in
     zero-is (b .args .other) (b .pre .1) (c .if2 .taken) ∙ sym (product-zero-right (b .args .self) (b .args .other) (c .if2 .taken))
 
-mul-whole : tie.Need-mul-whole
-mul-whole c =
+mul-kept : tie.Need-mul-kept
+mul-kept c =
     let b = c .before .before .before .before .before .before in
-    omega (arith, product-fits (b .args .self .m) (b .args .other .m) (b .pre .0 .high) (b .pre .1 .high))
+    omega (arith, product-high (b .args .self .m) (b .args .other .m) (b .pre .0 .high) (b .pre .1 .high))
 
-add-whole : tie.Need-add-whole
-add-whole c = search needs
+add-kept : tie.Need-add-kept
+add-kept c = search needs
 
-sub-whole : tie.Need-sub-whole
-sub-whole c = search needs
+sub-kept : tie.Need-sub-kept
+sub-kept c = search needs
 
-whole-requires : tie.Need-whole-requires
-whole-requires c κs =
+kept-requires : tie.Need-kept-requires
+kept-requires c κs =
     let b = c .before .before .before .before .before .before .before .before in
-    omega (arith, mul-pos {m = b .args .self .m} {n = b .args .other .m} (omega arith) (omega arith))
+    let p = b .pre in (
+      product-low (b .args .self .m) (b .args .other .m) (p .0 .low (omega arith)) (p .1 .low (omega arith)),
+      product-high (b .args .self .m) (b .args .other .m) (p .0 .high) (p .1 .high),
+      omega (arith, p .0 .stop, p .1 .stop),
+    )
 
 returns-3 : tie.Need-returns-3
 unfolding productOf
-returns-3 c = c .whole .ensures
+returns-3 c = c .kept .ensures
 
 pub mul-spec : {M : Type 1} → statement M
 mul-spec =
-    tie.close (tie.spec returns returns-2 mul-whole add-whole sub-whole whole-requires returns-3)
+    tie.close (tie.spec returns returns-2 mul-kept add-kept sub-kept kept-requires returns-3)

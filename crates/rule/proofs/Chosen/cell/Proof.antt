@@ -2,6 +2,7 @@
 use mathlib.Core.Path.{sym, ap, ap₂, _∙_}
 use mathlib.Core.Bool.{Bool, cond, _&&_}
 use Prim.Native.Nat.{ℕ, _+_, _/_, _%_}
+use native.Mathlib.Omega.{arith}
 use borrow.Author.Tests.{le-leb, lt-leb}
 use lib.Dec.{leb}
 use Rattle.number.specs.Number.{rounded, zeroNumber}
@@ -25,7 +26,7 @@ returns c =
     let a = c .before .before .args in
     let i : ℕ = a .t / 8 + 1 in
     let j : ℕ = a .t % 8 + 1 in
-    let b = newFactor rounded (a .k) (chosenMinor (a .self)) in
+    let b = newFactor rounded (a .k) (chosenMinor (a .self) (a .sources .now)) in
     c .zero .ensures ∙ ap (λ (x : Bool). cond (x && leb j (a .k)) (b i j) zeroNumber) (sym (lt-leb i (a .k) (c .before .if1 .taken)))
 
 zero-requires-2 : tie.Need-zero-requires-2
@@ -36,11 +37,15 @@ returns-2 c =
     let a = c .before .before .before .args in
     let i : ℕ = a .t / 8 + 1 in
     let j : ℕ = a .t % 8 + 1 in
-    let b = newFactor rounded (a .k) (chosenMinor (a .self)) in
-    c .zero2 .ensures ∙ ap₂ (λ (x y : Bool). cond (x && y) (b i j) zeroNumber) (sym (le-leb i (a .k) (c .before .before .if1 .left))) (sym (lt-leb j (a .k) (c .before .if2 .taken)))
+    let b = newFactor rounded (a .k) (chosenMinor (a .self) (a .sources .now)) in
+    c .zero2 .ensures
+    ∙ ap₂ (λ (x y : Bool). cond (x && y) (b i j) zeroNumber)
+    (sym (le-leb i (a .k) (c .before .before .if1 .left))) (sym (lt-leb j (a .k) (c .before .if2 .taken)))
 
 factor-requires : tie.Need-factor-requires
-factor-requires c κs = search needs
+factor-requires c κs =
+    let p = c .before .before .pre in
+    ((p .0 .0, omega arith, omega arith, omega arith, omega arith), p .1)
 
 returns-3 : tie.Need-returns-3
 returns-3 c =
@@ -48,8 +53,8 @@ returns-3 c =
     let a = b .args in
     let i : ℕ = a .t / 8 + 1 in
     let j : ℕ = a .t % 8 + 1 in
-    c .factor .ensures ∙ ap (λ (k : ℕ). newFactor rounded k (chosenMinor (a .self)) i j) (sym (b .pre .1))
-    ∙ ap₂ (λ (x y : Bool). cond (x && y) (newFactor rounded (a .k) (chosenMinor (a .self)) i j) zeroNumber)
+    c .factor .ensures ∙ ap (λ (k : ℕ). newFactor rounded k (chosenMinor (a .self) (a .sources .now)) i j) (sym (b .pre .0 .1))
+    ∙ ap₂ (λ (x y : Bool). cond (x && y) (newFactor rounded (a .k) (chosenMinor (a .self) (a .sources .now)) i j) zeroNumber)
     (sym (le-leb i (a .k) (c .before .before .if1 .left))) (sym (le-leb j (a .k) (c .before .if2 .left)))
 
 pub cell-spec : {M : Type 1} → statement M

@@ -18,7 +18,8 @@ unfolding newFactor
 returns c =
     let a = c .before .before .args in
     c .on-diagonal .ensures
-    ∙ ap (λ (x : Bool). factorBy rounded (sizeOf (a .self)) x (ltb (a .j) (a .i)) (chosenMinor (a .self)) (a .i) (a .j)) (sym (eq-eqb (a .i) (a .j) (c .before .if1 .taken)))
+    ∙ ap (λ (x : Bool). factorBy rounded (sizeOf (a .self)) x (ltb (a .j) (a .i)) (chosenMinor (a .self) (a .sources .now)) (a .i) (a .j))
+    (sym (eq-eqb (a .i) (a .j) (c .before .if1 .taken)))
 
 off-diagonal-requires : tie.Need-off-diagonal-requires
 off-diagonal-requires c κs = search needs
@@ -28,7 +29,7 @@ unfolding newFactor
 returns-2 c =
     let a = c .before .before .before .args in
     c .off-diagonal .ensures
-    ∙ ap₂ (λ (x y : Bool). factorBy rounded (sizeOf (a .self)) x y (chosenMinor (a .self)) (a .i) (a .j))
+    ∙ ap₂ (λ (x y : Bool). factorBy rounded (sizeOf (a .self)) x y (chosenMinor (a .self) (a .sources .now)) (a .i) (a .j))
     (sym (ne-eqb (a .i) (a .j) (c .before .before .if1 .left))) (sym (lt-ltb (a .j) (a .i) (c .before .if2 .taken)))
 
 off-diagonal-requires-2 : tie.Need-off-diagonal-requires-2
@@ -39,7 +40,7 @@ unfolding newFactor
 returns-3 c =
     let a = c .before .before .before .args in
     c .off-diagonal2 .ensures
-    ∙ ap₂ (λ (x y : Bool). factorBy rounded (sizeOf (a .self)) x y (chosenMinor (a .self)) (a .i) (a .j))
+    ∙ ap₂ (λ (x y : Bool). factorBy rounded (sizeOf (a .self)) x y (chosenMinor (a .self) (a .sources .now)) (a .i) (a .j))
     (sym (ne-eqb (a .i) (a .j) (c .before .before .if1 .left))) (sym (le-ltb (a .j) (a .i) (c .before .if2 .left)))
 
 pub factor-spec : {M : Type 1} → statement M

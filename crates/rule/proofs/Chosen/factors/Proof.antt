@@ -13,19 +13,27 @@ use Rattle.rule.proofs.Chosen.factors.Statement.{statement}
 use Rattle.rule.proofs.Chosen.factors.Tie as tie
 
 abbrev Inv-loop : tie.InvT-loop
-Inv-loop self k b₀ t₀ b t = (t ≤ 64) × Tabled k (newFactor rounded k (chosenMinor self)) b t
+Inv-loop self letters sources n tables k b₀ t₀ b t = (t ≤ 64) × Tabled k (newFactor rounded k (chosenMinor self sources)) b t
 
 abbrev μ-loop : tie.MeasureT-loop
-μ-loop self k b₀ t₀ b t = 64 - t
+μ-loop self letters sources n tables k b₀ t₀ b t = 64 - t
+
+tables-requires : tie.Need-tables-requires Inv-loop μ-loop
+tables-requires c κs = c .before .pre .0 .few
 
 count-requires : tie.Need-count-requires Inv-loop μ-loop
-count-requires c κs = below-256 (c .args .self .word .n) (c .args .self .rows) (c .pre .few) (c .pre .rows)
+count-requires c κs =
+    let b = c .before .before in
+    below-256 (b .args .self .word .n) (b .args .self .rows) (b .pre .0 .few) (b .pre .0 .rows)
 
 loop-holds : tie.Need-loop-holds Inv-loop μ-loop
 loop-holds c = (search needs, tabled-none (search needs))
 
 cell-requires : tie.Need-cell-requires Inv-loop μ-loop
-cell-requires c κs = (c .before .before .before .pre, c .before .before .count .ensures .0, search needs)
+cell-requires c κs =
+    let m = c .before .before .before in
+    let p = m .before .before .before .pre in
+    ((p .0, m .count .ensures .0, omega arith), record { tables = m .before .tables .ensures; letters = p .1 })
 
 mul-b : tie.Need-mul-b Inv-loop μ-loop
 mul-b c = search needs
@@ -40,12 +48,13 @@ loop-less : tie.Need-loop-less Inv-loop μ-loop
 loop-less c = search needs
 
 loop-again : tie.Need-loop-again Inv-loop μ-loop
-loop-again c = (omega arith, tabled-next (c .before .before .loop .inv .1) (search needs) _ _ (c .cell .ensures) refl)
+loop-again c = (omega arith, tabled-next (c .before .before .before .loop .inv .1) (search needs) _ _ (c .cell .ensures) refl)
 
 returns : tie.Need-returns Inv-loop μ-loop
 returns c =
-    let b = c .before .before .before in
-    tabled-all (c .before .loop .inv .1) (omega arith) ∙ refactored-is (b .args .self) (b .pre) (c .before .before .count .result) (c .before .before .count .ensures .0)
+    let b = c .before .before .before .before .before in
+    tabled-all (c .before .loop .inv .1) (omega arith)
+    ∙ refactored-is (b .args .self) (b .pre .0) (c .before .before .count .result) (c .before .before .count .ensures .0)
 
 pub factors-spec : {M : Type 1} → statement M
 factors-spec =
@@ -53,6 +62,7 @@ factors-spec =
     (tie.spec
     Inv-loop
     μ-loop
+    tables-requires
     count-requires
     loop-holds
     cell-requires

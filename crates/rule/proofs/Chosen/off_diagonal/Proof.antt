@@ -1,6 +1,7 @@
 -- `Chosen::off_diagonal` meets its contract: the sets are the formula's.
 use mathlib.Core.Path.{sym, subst}
 use Prim.Native.Nat.{_<_}
+use native.Mathlib.Omega.{arith}
 use Rattle.number.specs.Number.{Ranged, reach}
 use Rattle.number.specs.declared.Number.{Number}
 use Rattle.rule.specs.Chosen.{sizeOf, chosenMinor, turnedBy}
@@ -28,7 +29,7 @@ sub-run-minor-4 : tie.Need-sub-run-minor-4
 sub-run-minor-4 c = search needs
 
 run-minor-requires-2 : tie.Need-run-minor-requires-2
-run-minor-requires-2 c κs = search needs
+run-minor-requires-2 c κs = let p = c .before .pre in ((p .0 .0, omega arith, omega arith, omega arith), p .1)
 
 sub-run-minor-5 : tie.Need-sub-run-minor-5
 sub-run-minor-5 c = search needs
@@ -43,7 +44,7 @@ sub-run-minor-7 : tie.Need-sub-run-minor-7
 sub-run-minor-7 c = search needs
 
 run-minor-requires-3 : tie.Need-run-minor-requires-3
-run-minor-requires-3 c κs = search needs
+run-minor-requires-3 c κs = let p = c .before .before .pre in ((p .0 .0, omega arith, omega arith, omega arith), p .1)
 
 sub-run-minor-8 : tie.Need-sub-run-minor-8
 sub-run-minor-8 c = search needs
@@ -52,7 +53,7 @@ sub-run-minor-9 : tie.Need-sub-run-minor-9
 sub-run-minor-9 c = search needs
 
 run-minor-requires-4 : tie.Need-run-minor-requires-4
-run-minor-requires-4 c κs = search needs
+run-minor-requires-4 c κs = let p = c .before .before .before .pre in ((p .0 .0, omega arith, omega arith, omega arith), p .1)
 
 mul-requires : tie.Need-mul-requires
 mul-requires c κs = (usable-reach (c .before .before .before .run-minor .ensures .1), usable-reach (c .before .before .run-minor2 .ensures .1))
@@ -73,8 +74,10 @@ div-requires c κs =
 
 returns : tie.Need-returns
 returns c =
-    let a = c .before .before .before .before .before .before .before .args in
-    below-answer (sizeOf (a .self)) (a .i) (a .j) (turnedBy (a .turned) (chosenMinor (a .self))) (search needs) (search needs) (search needs)
+    let b = c .before .before .before .before .before .before .before in
+    let a = b .args in
+    let p = b .pre .0 in
+    below-answer (sizeOf (a .self)) (a .i) (a .j) (turnedBy (a .turned) (chosenMinor (a .self) (a .sources .now))) (p .1) (p .2) (p .3)
     (c .before .before .before .before .before .before .run-minor .ensures .0) (c .before .before .before .before .before .run-minor2 .ensures .0)
     (c .before .before .before .before .run-minor3 .ensures .0) (c .before .before .before .run-minor4 .ensures .0)
     (c .before .before .mul .ensures) (c .before .mul2 .ensures) (c .div .ensures)
