@@ -1,4 +1,4 @@
-/* Document 01's product, written plainly in C. Nothing here is proved; the tests compare it with the proved module. */
+/* Document 01's product and re-signed inverse, written plainly in C. Nothing here is proved; bench/run compares it with the proved library. */
 #include "plain.h"
 
 static plain_number rounded(uint64_t n, int64_t e)
@@ -85,23 +85,44 @@ static void move(plain_number v[256], int k, int a, int o, plain_number w)
     }
 }
 
+static void diagonal(plain_number v[256], int n, int k, const plain_number b[64], int inverse)
+{
+    for (int t = 0; t < counts[k]; t++) {
+        int s = masks[k][t];
+        for (int i = 1; i <= n; i++)
+            if (s >> (i - 1) & 1) {
+                plain_number e = b[(i - 1) * 8 + i - 1];
+                v[s] = inverse ? plain_div(v[s], e) : plain_mul(v[s], e);
+            }
+    }
+}
+
+/* the letters from right to left */
 static void walk(plain_number v[256], int n, int k, const plain_number b[64])
 {
     for (int i = 1; i <= n - 1; i++)
         for (int j = n - i + 1; j <= n; j++)
             move(v, k, j - 1, j, b[(i + j - n - 1) * 8 + j - 1]);
-    for (int t = 0; t < counts[k]; t++) {
-        int s = masks[k][t];
-        for (int i = 1; i <= n; i++)
-            if (s >> (i - 1) & 1)
-                v[s] = plain_mul(v[s], b[(i - 1) * 8 + i - 1]);
-    }
+    diagonal(v, n, k, b, 0);
     for (int i = n - 1; i >= 1; i--)
         for (int j = n; j >= n - i + 1; j--)
             move(v, k, j, j - 1, b[(j - 1) * 8 + i + j - n - 1]);
 }
 
-static plain_number minor(int n, const plain_number left[64], const plain_number right[64], int rows, int columns)
+/* The word reversed, letters kept, D dividing: its letters from right to left are those of the word from left to right. */
+static void walk_inverse(plain_number v[256], int n, int k, const plain_number b[64])
+{
+    for (int i = 1; i <= n - 1; i++)
+        for (int j = n - i + 1; j <= n; j++)
+            move(v, k, j, j - 1, b[(j - 1) * 8 + i + j - n - 1]);
+    diagonal(v, n, k, b, 1);
+    for (int i = n - 1; i >= 1; i--)
+        for (int j = n; j >= n - i + 1; j--)
+            move(v, k, j - 1, j, b[(i + j - n - 1) * 8 + j - 1]);
+}
+
+/* right is null for the re-signed inverse of left */
+static plain_number minor(int n, const plain_number left[64], const plain_number *right, int rows, int columns)
 {
     plain_number v[256], zero = {0, 0}, one = {(uint64_t)1 << 31, -31};
     int k = __builtin_popcount(rows);
@@ -110,8 +131,11 @@ static plain_number minor(int n, const plain_number left[64], const plain_number
     for (int t = 0; t < counts[k]; t++)
         v[masks[k][t]] = zero;
     v[columns] = one;
-    walk(v, n, k, right);
-    walk(v, n, k, left);
+    if (right) {
+        walk(v, n, k, right);
+        walk(v, n, k, left);
+    } else
+        walk_inverse(v, n, k, left);
     return v[rows];
 }
 
@@ -120,7 +144,7 @@ static int run(int a, int b)
     return b < a ? 0 : (1 << b) - (1 << (a - 1));
 }
 
-void plain_product(int n, const plain_number left[64], const plain_number right[64], plain_number result[64])
+static void refactored(int n, const plain_number left[64], const plain_number *right, plain_number result[64])
 {
     list_masks(n);
     for (int i = 1; i <= n; i++)
@@ -137,4 +161,14 @@ void plain_product(int n, const plain_number left[64], const plain_number right[
                 m[t] = i > j ? minor(n, left, right, set[t][0], set[t][1]) : minor(n, left, right, set[t][1], set[t][0]);
             *r = plain_div(plain_mul(m[0], m[1]), plain_mul(m[2], m[3]));
         }
+}
+
+void plain_product(int n, const plain_number left[64], const plain_number right[64], plain_number result[64])
+{
+    refactored(n, left, right, result);
+}
+
+void plain_inverse(int n, const plain_number source[64], plain_number result[64])
+{
+    refactored(n, source, 0, result);
 }

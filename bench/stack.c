@@ -1,0 +1,184 @@
+/* How much stack each call of the library takes. Each call runs on a stack of its own that was painted before; afterwards the lowest byte that lost its
+ * paint tells the depth. Counted from the frame of a C function that makes the call, so with the shelf that is handed over and the answer that comes
+ * back. Every call works on eight rows. Exit status 1 if a call answers otherwise than wanted. */
+#define _XOPEN_SOURCE 700
+#include "../include/beechcrib.h"
+#include <stdio.h>
+#include <stdlib.h>
+#include <string.h>
+#include <ucontext.h>
+
+#define BIAS 4194304
+#define ROOM (1 << 20)
+
+static unsigned char area[ROOM];
+static ucontext_t outside, inside;
+
+static tnb_shelf shelf;
+static uint8_t bytes[449];
+static size_t length;
+static int64_t items[24], carried[24];
+static int number;
+
+/* Each as a program would write it: the shelf handed over, the answer kept in a variable. */
+static void call_new(void)
+{
+    tnb_shelf a = tnb_new();
+    number = a.sizes[0];
+}
+
+static void call_load(void)
+{
+    tnb_answer a = tnb_load(shelf, 2, bytes, length);
+    number = a.number;
+}
+
+static void call_write(void)
+{
+    tnb_length a = tnb_write(shelf, 0, bytes, sizeof bytes);
+    if (a.number == 0)
+        length = a.length;
+    number = a.number;
+}
+
+static void call_drop(void)
+{
+    tnb_answer a = tnb_drop(shelf, 0);
+    number = a.number;
+}
+
+static void call_product(void)
+{
+    tnb_answer a = tnb_product(shelf, 0, 1, 2);
+    number = a.number;
+}
+
+static void call_inverse(void)
+{
+    tnb_answer a = tnb_inverse(shelf, 0, 2);
+    number = a.number;
+}
+
+static void call_converse(void)
+{
+    tnb_answer a = tnb_converse(shelf, 0, 2);
+    number = a.number;
+}
+
+static void call_submatrix(void)
+{
+    tnb_answer a = tnb_submatrix(shelf, 0, 0xff, 0xff, 2);
+    number = a.number;
+}
+
+static void call_transpose(void)
+{
+    tnb_answer a = tnb_transpose(shelf, 0, 2);
+    number = a.number;
+}
+
+static void call_minor(void)
+{
+    tnb_value a = tnb_minor(shelf, 0, 0xf0, 0x0f);
+    number = a.number;
+}
+
+static void call_rest(void)
+{
+    number = tnb_rest(bytes, length) != 0;
+}
+
+static void call_carry(void)
+{
+    tnb_status a = tnb_carry(shelf, 0, items, 24, carried, 24);
+    number = a.number;
+}
+
+static void call_reversals(void)
+{
+    tnb_length a = tnb_reversals(items, 24);
+    number = a.number;
+}
+
+/* by value: what stands in the caller's frame for the shelf handed over and for the answer */
+static const struct {
+    const char *name;
+    void (*run)(void);
+    size_t by_value;
+} calls[] = {
+    {"tnb_new", call_new, sizeof(tnb_shelf)},
+    {"tnb_write", call_write, sizeof(tnb_shelf) + sizeof(tnb_length)},
+    {"tnb_load", call_load, sizeof(tnb_shelf) + sizeof(tnb_answer)},
+    {"tnb_rest", call_rest, 0},
+    {"tnb_drop", call_drop, sizeof(tnb_shelf) + sizeof(tnb_answer)},
+    {"tnb_product", call_product, sizeof(tnb_shelf) + sizeof(tnb_answer)},
+    {"tnb_inverse", call_inverse, sizeof(tnb_shelf) + sizeof(tnb_answer)},
+    {"tnb_converse", call_converse, sizeof(tnb_shelf) + sizeof(tnb_answer)},
+    {"tnb_submatrix", call_submatrix, sizeof(tnb_shelf) + sizeof(tnb_answer)},
+    {"tnb_transpose", call_transpose, sizeof(tnb_shelf) + sizeof(tnb_answer)},
+    {"tnb_minor", call_minor, sizeof(tnb_shelf) + sizeof(tnb_value)},
+    {"tnb_carry", call_carry, sizeof(tnb_shelf) + sizeof(tnb_status)},
+    {"tnb_reversals", call_reversals, sizeof(tnb_length)},
+};
+
+/* eight rows at places 0 and 1, mantissas that differ, and a list of eight items with both signs */
+static void fill(void)
+{
+    shelf = tnb_new();
+    for (int t = 0; t < 128; t++)
+        shelf.numbers[t] = (tnb_number){0x80000000u + 12345678u * (unsigned)t % 0x7fffffffu, BIAS - 31};
+    shelf.sizes[0] = shelf.sizes[1] = 8;
+    for (int t = 0; t < 8; t++) {
+        items[3 * t] = t % 3 ? 1 : -1;
+        items[3 * t + 1] = 0x80000000 + 1000 * t;
+        items[3 * t + 2] = -31;
+    }
+}
+
+static size_t depth(void (*run)(void), unsigned char paint)
+{
+    memset(area, paint, ROOM);
+    getcontext(&inside);
+    inside.uc_stack.ss_sp = area;
+    inside.uc_stack.ss_size = ROOM;
+    inside.uc_link = &outside;
+    makecontext(&inside, run, 0);
+    swapcontext(&outside, &inside);
+    size_t low = 0;
+    while (low < ROOM && area[low] == paint)
+        low++;
+    if (low == 0) {
+        printf("the painted stack is too small\n");
+        exit(1);
+    }
+    return ROOM - low;
+}
+
+/* two paints, since a byte may be written with the value of one */
+static size_t deepest(void (*run)(void))
+{
+    size_t a = depth(run, 0xa5), b = depth(run, 0x5a);
+    return a > b ? a : b;
+}
+
+int main(void)
+{
+    printf("| call            | stack, bytes | shelf and answer by value | the rest |\n");
+    printf("|:----------------|-------------:|--------------------------:|---------:|\n");
+    fill();
+    for (size_t c = 0; c < sizeof calls / sizeof calls[0]; c++) {
+        size_t good = deepest(calls[c].run);
+        if (number != 0) {
+            printf("%s: refused %d\n", calls[c].name, number);
+            return 1;
+        }
+        /* a shelf that is none of the library's takes another way */
+        shelf.sizes[7] = 9;
+        size_t foreign = deepest(calls[c].run);
+        shelf.sizes[7] = 0;
+        size_t most = good > foreign ? good : foreign;
+        printf("| `%s`%*s | %12zu | %25zu | %8zu |\n", calls[c].name, (int)(13 - strlen(calls[c].name)), "", most, calls[c].by_value,
+               most - calls[c].by_value);
+    }
+    return 0;
+}
