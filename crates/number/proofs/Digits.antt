@@ -2,18 +2,17 @@
 use mathlib.Core.Path.{_≡_, refl, sym, ap, ap₂, _∙_, subst}
 use mathlib.Core.Bool.{Bool, true, false, cond}
 use mathlib.Core.Logic.{_⊎_, ⊎-elim, inl, inr}
-use Prim.Native.Nat.{ℕ, suc, _+_, _-_, _*_, _/_, _%_, _^_, _≤_, _<_, min, max, compare, Ordering, Ordering·lt, Ordering·eq, Ordering·gt}
-use native.Mathlib.Nat.{div-add-mod', mod-lt, mul-pos, pow-succ', min-eq-left, min-eq-right, max-eq-left, max-eq-right, le-of-lt, eq-zero-or-pos, add-zero, mul-le-mul-right, div-le-self, mul-div-cancel, mul-div-mul-right, le-div-iff-mul-le, div-lt-iff-lt-mul}
+use Prim.Native.Nat.{ℕ, suc, _+_, _-_, _*_, _/_, _%_, _^_, _≤_, _<_, min, compare, Ordering, Ordering·lt, Ordering·eq, Ordering·gt}
+use native.Mathlib.Nat.{div-add-mod', mod-lt, mul-pos, pow-succ', min-eq-left, mul-le-mul-right, div-le-self, mul-div-cancel, mul-div-mul-right, le-div-iff-mul-le, div-lt-iff-lt-mul}
 use native.Mathlib.Omega.{arith}
 use borrow.Author.Tests.{ne-eqb, eq-eqb}
 use lib.Dec.{eqb}
-use lib.Pow.{pow-pos, pow-add, pow-mono, high, low, shr-mono}
+use lib.Pow.{pow-pos, pow-add, pow-mono, high, low}
 use lib.Ieee.{nearest}
 use Rattle.number.proofs.Closest.{Cmp, cmp, nearest-up, nearest-even, nearest-down}
 use Rattle.number.proofs.Rounding.{round-parts, round-same}
-use Rattle.number.proofs.Zero.{zero-is, product-zero, sum-is, sum-comm, sum-zero-right, round-back}
 use Rattle.number.proofs.Exact.{whole-wide, sum-far}
-use Rattle.number.specs.Number.{bias, zeroNumber, round, carried, Ranged, reach, sumOf, productOf}
+use Rattle.number.specs.Number.{round, carried}
 use Rattle.number.specs.declared.Number.{Number}
 use Rattle.number.specs.Digits.{unlikeOf, alignedOf}
 
@@ -221,7 +220,8 @@ module _ (b s : ℕ) (g : b < 2 ^ 32) (e : ((b % 4 ≡ 0) × (s ≡ 0)) ⊎ ((1 
   -- a units of 2 ^ 32 and b, at exponent j
   far-32 : (a j : ℕ) → 2 ^ 31 ≤ a → a < 2 ^ 32 → round (a * 2 ^ 31 + left) 1 (j + 1) ≡ round (a * 2 ^ 32 + b) 1 j
   far-32 a j lo hi =
-      let c : left < 2 ^ 31 = ⊎-elim (λ (k : (b % 4 ≡ 0) × (s ≡ 0)). omega (arith, k, quarter b)) (λ (k : (1 ≤ b % 4) × (s ≡ 1)). omega (arith, k, quarter b)) e in
+      let c : left < 2 ^ 31 =
+      ⊎-elim (λ (k : (b % 4 ≡ 0) × (s ≡ 0)). omega (arith, k, quarter b)) (λ (k : (1 ≤ b % 4) × (s ≡ 1)). omega (arith, k, quarter b)) e in
       let p : ℕ = a * 2 ^ 31 + left in
       let n : ℕ = a * 2 ^ 32 + b in
       let f₁ : nearest (p / 2 ^ 31) (compare (p % 2 ^ 31 * 2) (2 ^ 31)) ≡ nearest a (compare (left * 2) (2 ^ 31)) =
@@ -232,7 +232,8 @@ module _ (b s : ℕ) (g : b < 2 ^ 32) (e : ((b % 4 ≡ 0) × (s ≡ 0)) ⊎ ((1 
       parted p (j + 1) 31 (omega arith) (omega arith) ∙ ap₂ carried (f₁ ∙ half-same a ∙ sym f₂) x ∙ sym (parted n j 32 (omega arith) (omega arith))
 
 -- whether digits of b are dropped 32 places down
-dropped-32 : (b : ℕ) → ((b % 4 ≡ 0) × (unlikeOf (b * 2 ^ 30 / 2 ^ 32 * 2 ^ 32) (b * 2 ^ 30) ≡ 0)) ⊎ ((1 ≤ b % 4) × (unlikeOf (b * 2 ^ 30 / 2 ^ 32 * 2 ^ 32) (b * 2 ^ 30) ≡ 1))
+dropped-32 : (b : ℕ) → ((b % 4 ≡ 0) × (unlikeOf (b * 2 ^ 30 / 2 ^ 32 * 2 ^ 32) (b * 2 ^ 30) ≡ 0))
+    ⊎ ((1 ≤ b % 4) × (unlikeOf (b * 2 ^ 30 / 2 ^ 32 * 2 ^ 32) (b * 2 ^ 30) ≡ 1))
 dropped-32 b =
     rw (quarter b)
     (⊎-elim
@@ -241,7 +242,8 @@ dropped-32 b =
     (split (b % 4) 1))
 
 -- ---- the sum of a * 2 ^ k and b at exponent j, as it is aligned
-near : (a b j k : ℕ) → 2 ^ 31 ≤ a → a < 2 ^ 32 → b < 2 ^ 32 → k ≤ 31 → 31 ≤ j + k → alignedOf a b k ≡ (a * 2 ^ k + b) * 2 ^ (31 - k) → round (alignedOf a b k) 1 (j + k - 31) ≡ round (a * 2 ^ k + b) 1 j
+near : (a b j k : ℕ) → 2 ^ 31 ≤ a → a < 2 ^ 32 → b < 2 ^ 32 → k ≤ 31 → 31 ≤ j + k
+    → alignedOf a b k ≡ (a * 2 ^ k + b) * 2 ^ (31 - k) → round (alignedOf a b k) 1 (j + k - 31) ≡ round (a * 2 ^ k + b) 1 j
 near a b j k lo hi hb hk hj e =
     let n : ℕ = a * 2 ^ k + b in
     let pn : 0 < n = omega (arith, mul-pos {m = a} {n = 2 ^ k} (omega arith) (pow-pos k)) in
@@ -279,15 +281,20 @@ aligned-is a b j k lo hi hb hj = ⊎-elim below above (split k 32)
     just i e l g = subst Goal (sym (min-eq-left (omega arith))) g
 
     at-31 : k ≡ 31 → Goal k
-    at-31 e = near a b j k lo hi hb (omega arith) hj (subst (λ (i : ℕ). alignedOf a b i ≡ (a * 2 ^ i + b) * 2 ^ (31 - i)) (sym e) (aligned-31 a b ∙ omega arith))
+    at-31 e =
+        near a b j k lo hi hb (omega arith) hj
+        (subst (λ (i : ℕ). alignedOf a b i ≡ (a * 2 ^ i + b) * 2 ^ (31 - i)) (sym e) (aligned-31 a b ∙ omega arith))
 
     below : k < 32 → Goal (min k 63)
-    below h = just k refl (omega arith) (⊎-elim (λ (l : k < 31). near a b j k lo hi hb (omega arith) hj (aligned-near a b k (omega arith))) (λ (l : 31 ≤ k). at-31 (omega arith)) (split k 31))
+    below h =
+        just k refl (omega arith)
+        (⊎-elim (λ (l : k < 31). near a b j k lo hi hb (omega arith) hj (aligned-near a b k (omega arith))) (λ (l : 31 ≤ k). at-31 (omega arith)) (split k 31))
 
     at-32 : k ≡ 32 → Goal k
     at-32 e =
         subst (λ (i : ℕ). round (alignedOf a b i) 1 (j + i - 31) ≡ round (a * 2 ^ i + b) 1 j) (sym e)
-        (ap₂ (λ (p x : ℕ). round p 1 x) (aligned-32 a b) (omega arith) ∙ far-32 b (unlikeOf (b * 2 ^ 30 / 2 ^ 32 * 2 ^ 32) (b * 2 ^ 30)) hb (dropped-32 b) a j lo hi)
+        (ap₂ (λ (p x : ℕ). round p 1 x) (aligned-32 a b) (omega arith)
+        ∙ far-32 b (unlikeOf (b * 2 ^ 30 / 2 ^ 32 * 2 ^ 32) (b * 2 ^ 30)) hb (dropped-32 b) a j lo hi)
 
     above : 32 ≤ k → Goal (min k 63)
     above h =

@@ -1,4 +1,5 @@
--- The sets of k rows in the order of their masks: where each stands (position-lt, position-within), the table of all sets (table, set-at) and how many there are (counts, count-at).
+-- The sets of k rows in the order of their masks: where each stands (position-lt, position-within), the table of all sets (table, set-at) and how many there
+-- are (counts, count-at).
 use mathlib.Core.Path.{_≡_, refl, ap, ap₂, _∙_}
 use mathlib.Core.Bool.{Bool, true, false}
 use mathlib.Core.List.{List, [], _∷_, _++_}
@@ -48,7 +49,8 @@ record Stands (k i c p s : ℕ) : Type 0 where
   rows : maskCount s ≡ k
   before : countBelow k s ≡ countBelow k i + p
 
-stands-next : (k i c : ℕ) (b : Bool) → eqb (maskCount i) k ≡ b → ((p : ℕ) → p < length (those k (suc i) c) → Stands k (suc i) c p (getD (those k (suc i) c) p 0))
+stands-next : (k i c : ℕ) (b : Bool) → eqb (maskCount i) k ≡ b
+    → ((p : ℕ) → p < length (those k (suc i) c) → Stands k (suc i) c p (getD (those k (suc i) c) p 0))
     → (p : ℕ) → p < length (kept b i (those k (suc i) c)) → Stands k i (suc c) p (getD (kept b i (those k (suc i) c)) p 0)
 unfolding countBelow
 stands-next k i c true e ih zero h = record { below = omega arith; rows = eqb-true (maskCount i) k e; before = omega arith }

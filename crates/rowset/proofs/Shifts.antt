@@ -1,4 +1,5 @@
--- What shifts and masks of numbers compute: a bit tested (shift-has), rows beyond n (shift-beyond), a row put in place of another (shift-replaced), rows counted (ones-count),
+-- What shifts and masks of numbers compute: a bit tested (shift-has), rows beyond n (shift-beyond), a row put in place of another (shift-replaced), rows
+-- counted (ones-count),
 -- consecutive rows (shift-run, run-none), one more row among chosen ones (Gathered, among-in, among-out).
 use mathlib.Core.Path.{_≡_, refl, sym, ap, ap₂, _∙_}
 use mathlib.Core.Bool.{Bool, true, false, _&&_, not}

@@ -1,4 +1,5 @@
--- Row sets as masks of eight bits, bit 0 for row 1 (document 01, "The rounded rule"): membership, replacement, count, position, consecutive rows, sets among chosen rows.
+-- Row sets as masks of eight bits, bit 0 for row 1 (document 01, "The rounded rule"): membership, replacement, count, position, consecutive rows, sets among
+-- chosen rows.
 -- Each has the name of its counterpart on lists of Bools (RowSet) with `mask` before it; `maskOf` makes a mask of a list.
 use mathlib.Core.Bool.{Bool, true, false, not, _&&_}
 use mathlib.Core.List.{[], _∷_}

@@ -1,4 +1,5 @@
--- The sets of k rows as masks, one after the other: the set at a position (SetAt), and the sets that a letter changes, numbered by their other rows (ChangedAt);
+-- The sets of k rows as masks, one after the other: the set at a position (SetAt), and the sets that a letter changes, numbered by their other rows
+-- (ChangedAt);
 -- the tables of both that a caller holds once and lends (Tables).
 use mathlib.Core.Path.{_≡_}
 use mathlib.Core.Bool.{Bool, true, cond, _||_}

@@ -1,4 +1,5 @@
--- The products and the quotient of the formulas: within what numbers take (usable-reach, product-reach), by no zero (product-nonzero), and the formula below the diagonal (below-answer).
+-- The products and the quotient of the formulas: within what numbers take (usable-reach, product-reach), by no zero (product-nonzero), and the formula below
+-- the diagonal (below-answer).
 use mathlib.Core.Path.{_≡_, sym, ap, ap₂, _∙_}
 use Prim.Native.Nat.{ℕ, _+_, _-_, _≤_, _<_}
 use native.Mathlib.Omega.{arith}
@@ -24,7 +25,8 @@ product-nonzero {a} {b} u v = product-positive a b (u .nonzero) (v .nonzero)
 
 -- the four minors as document 01 writes them
 module _ (k i j : ℕ) (M : RowSet → RowSet → Number) (low : 1 ≤ j) (order : j < i) (high : i ≤ k) where
-  pub below-answer : {corner before run above p q r : Number} → corner ≡ M (rows k (i - j + 1) i) (rows k 1 j) → before ≡ M (rows k (i - j) (i - 2)) (rows k 1 (j - 1))
+  pub below-answer : {corner before run above p q r : Number} → corner ≡ M (rows k (i - j + 1) i) (rows k 1 j)
+      → before ≡ M (rows k (i - j) (i - 2)) (rows k 1 (j - 1))
       → run ≡ M (rows k (i - j + 1) (i - 1)) (rows k 1 (j - 1)) → above ≡ M (rows k (i - j) (i - 1)) (rows k 1 j)
       → p ≡ productOf corner before → q ≡ productOf run above → r ≡ quotientOf p q → r ≡ belowDiagonal rounded k (runBefore k) M i j
   unfolding belowDiagonal

@@ -30,7 +30,8 @@ pub each-length : {A B : Type 0} (P : Letter A → Letter B → Type 0) (U : Wor
 each-length P [] [] h = refl
 each-length P (x ∷ U) (y ∷ X) h = ap suc (each-length P U X (h .1))
 
-pub each-at : {A B : Type 0} (P : Letter A → Letter B → Type 0) (U : Word A) (X : Word B) → Matched P U X → (t : ℕ) → t < length X → (d : Letter A) (e : Letter B) → P (getD U t d) (getD X t e)
+pub each-at : {A B : Type 0} (P : Letter A → Letter B → Type 0) (U : Word A) (X : Word B) → Matched P U X → (t : ℕ) → t < length X
+    → (d : Letter A) (e : Letter B) → P (getD U t d) (getD X t e)
 each-at P [] [] h t l d e = absurd (not-suc-le-zero l)
 each-at P (x ∷ U) (y ∷ X) h zero l d e = h .0
 each-at P (x ∷ U) (y ∷ X) h (suc t) l d e = each-at P U X (h .1) t (omega arith) d e

@@ -1,4 +1,5 @@
--- States that agree on the sets of k rows (agree-refl, agree-trans), the state that 70 numbers hold by masks (held-back, agree-masks), and letters on states that agree (act-agree).
+-- States that agree on the sets of k rows (agree-refl, agree-trans), the state that 70 numbers hold by masks (held-back, agree-masks), and letters on states
+-- that agree (act-agree).
 use mathlib.Core.Path.{_≡_, refl, sym, ap, ap₂, _∙_, subst}
 use mathlib.Core.Bool.{Bool, true, false, not, _&&_}
 use mathlib.Core.List.{List}
@@ -43,7 +44,8 @@ module _ (n : ℕ) (S : RowSet) (e : length S ≡ n) where
 pub held-back : (v : List Number) (n s : ℕ) → s < 2 ^ n → stateOf v (ofMask n s) ≡ heldAt v s
 held-back v n s h = ap (heldAt v) (mask-back n s h)
 
-pub agree-masks : (n k : ℕ) (v : List Number) (ω : State rounded) → n ≤ 8 → ((s : ℕ) → s < 2 ^ n → maskCount s ≡ k → heldAt v s ≡ ω (ofMask n s)) → Agree n k (stateOf v) ω
+pub agree-masks : (n k : ℕ) (v : List Number) (ω : State rounded) → n ≤ 8 → ((s : ℕ) → s < 2 ^ n → maskCount s ≡ k → heldAt v s ≡ ω (ofMask n s))
+    → Agree n k (stateOf v) ω
 agree-masks n k v ω l h = record { same = λ S e f. h (maskOf S) (mask-lt n S e) (mask-rows n S e l ∙ f) ∙ ap ω (mask-set n S e) }
 
 pub held-working : {r n k : ℕ} (v : List Number) → n ≤ 8 → Working r n k (stateOf v) → (s : ℕ) → s < 2 ^ n → maskCount s ≡ k → Ranged r (heldAt v s)
@@ -51,7 +53,8 @@ held-working {r} {n} {k} v l w s h c = subst (Ranged r) (held-back v n s h) (w .
 
 -- LETTERS ON STATES THAT AGREE
 -- a move keeps the count of rows
-replaced-rows : (n a o : ℕ) (S : RowSet) → length S ≡ n → n ≤ 8 → 1 ≤ a → a ≤ n → 1 ≤ o → o ≤ n → (has a S && not (has o S)) ≡ true → count (replaced a o S) ≡ count S
+replaced-rows : (n a o : ℕ) (S : RowSet) → length S ≡ n → n ≤ 8 → 1 ≤ a → a ≤ n → 1 ≤ o → o ≤ n → (has a S && not (has o S)) ≡ true
+    → count (replaced a o S) ≡ count S
 replaced-rows n a o S e ln ha la ho lo t =
     let s : ℕ = maskOf S in
     let b : s < 2 ^ n = mask-lt n S e in
@@ -63,7 +66,8 @@ replaced-rows n a o S e ln ha la ho lo t =
     ∙ replaced-count s a o (omega arith) (omega arith) (omega arith) m ∙ mask-rows n S e ln
 
 module _ {n k : ℕ} (ln : n ≤ 8) where
-  moved-agree : (a o : ℕ) (w : Number) (ω η : State rounded) → 1 ≤ a → a ≤ n → 1 ≤ o → o ≤ n → Agree n k ω η → Agree n k (moved rounded a o w ω) (moved rounded a o w η)
+  moved-agree : (a o : ℕ) (w : Number) (ω η : State rounded) → 1 ≤ a → a ≤ n → 1 ≤ o → o ≤ n → Agree n k ω η
+      → Agree n k (moved rounded a o w ω) (moved rounded a o w η)
   unfolding moved
   moved-agree a o w ω η ha la ho lo h = record { same = λ S e c. go S e c (has a S && not (has o S)) refl }
     where

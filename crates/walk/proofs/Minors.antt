@@ -1,4 +1,5 @@
--- A minor from its start (joined-start) through the steps of a joined word, the last first (joined-next), within range (joined-working), to the number at its row set (minor-held);
+-- A minor from its start (joined-start) through the steps of a joined word, the last first (joined-next), within range (joined-working), to the number at
+-- its row set (minor-held);
 -- the empty minor is 1 (minor-empty); the steps of a joined word as they are lent (joined-step).
 use mathlib.Core.Path.{_≡_, refl, sym, ap, ap₂, _∙_, subst}
 use mathlib.Core.Bool.{Bool, true, false, not, cond, _&&_}
@@ -170,7 +171,8 @@ empty-rows : maskCount 0 ≡ 0
 unfolding maskCount countTo maskHas
 empty-rows = refl
 
-pub minor-none : (n i j : ℕ) (W : Word Number) → n ≤ 8 → i < 2 ^ n → j < 2 ^ n → maskCount i ≡ maskCount j → j ≡ 0 → minor rounded W (ofMask n i) (ofMask n j) ≡ oneNumber
+pub minor-none : (n i j : ℕ) (W : Word Number) → n ≤ 8 → i < 2 ^ n → j < 2 ^ n → maskCount i ≡ maskCount j → j ≡ 0
+    → minor rounded W (ofMask n i) (ofMask n j) ≡ oneNumber
 minor-none n i j W ln bi bj c z =
     let e : maskCount j ≡ 0 = ap maskCount z ∙ empty-rows in
     minor-empty rounded W (ofMask n i) (ofMask n j) (ofMask-length n i ∙ sym (ofMask-length n j)) (mask-count n i ln bi ∙ c ∙ e) (mask-count n j ln bj ∙ e)

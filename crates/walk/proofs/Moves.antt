@@ -1,4 +1,5 @@
--- A letter E or Et on 70 numbers: what it makes of a set by masks (moved-changed, moved-still), how far it takes the exponents (move-ready), and its sets one after the other (move-next, move-all).
+-- A letter E or Et on 70 numbers: what it makes of a set by masks (moved-changed, moved-still), how far it takes the exponents (move-ready), and its sets
+-- one after the other (move-next, move-all).
 use mathlib.Core.Path.{_≡_, sym, ap, ap₂, _∙_, subst}
 use mathlib.Core.Bool.{Bool, true, false, false≢true}
 use mathlib.Core.List.{List}
@@ -73,7 +74,8 @@ module _ (n k a o : ℕ) (w : Number) (v : List Number) where
           let b' = below-256 n s ln b in
           position-lt (k - 1) (closedOf (min a o) s) (2 ^ (n - 2)) (closed-rows s b' c m) (closed-below s a o b' (N .to-low) la (N .from-low) lo (N .beside) n ln (N .to-high) (N .from-high) b)
 
-      rank-only : (s t : ℕ) → s < 256 → t < 256 → maskCount s ≡ k → maskCount t ≡ k → maskMoves a o s ≡ true → maskMoves a o t ≡ true → rankOf t ≡ rankOf s → t ≡ s
+      rank-only : (s t : ℕ) → s < 256 → t < 256 → maskCount s ≡ k → maskCount t ≡ k → maskMoves a o s ≡ true → maskMoves a o t ≡ true
+          → rankOf t ≡ rankOf s → t ≡ s
       unfolding rankOf
       rank-only s t bs bt cs ct ms mt e =
           sym (closed-changed t a o bt (N .to-low) la (N .from-low) lo (N .beside) mt)
@@ -118,7 +120,8 @@ module _ (n k a o : ℕ) (w : Number) (v : List Number) where
                 move-reach (subst (Ranged letterReach) (sym here) (held-working v ln r s changed-lt (C .rows))) t
                 (subst (Ranged letterReach) (sym there) (held-working v ln r (maskReplaced a o s) read-lt read-rows))
 
-            pub move-next : (z : Number) (u' : List Number) → z ≡ sumOf (getD u i absent) (productOf w (getD u j absent)) → u' ≡ set u i z → SweptMove u' (p + 1)
+            pub move-next : (z : Number) (u' : List Number) → z ≡ sumOf (getD u i absent) (productOf w (getD u j absent)) → u' ≡ set u i z
+                → SweptMove u' (p + 1)
             unfolding rankOf
             move-next z u' ez eu =
                 swept-next S s ln changed-lt (C .rows) (C .moves) (C .others)

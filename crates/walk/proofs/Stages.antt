@@ -1,4 +1,5 @@
--- The letters of the first half of a plain word and their counterparts in the second half (lower-at, upper-at), by the stage of a letter; one computed test for the numbers on the way (Stage, stage-at).
+-- The letters of the first half of a plain word and their counterparts in the second half (lower-at, upper-at), by the stage of a letter; one computed test
+-- for the numbers on the way (Stage, stage-at).
 use mathlib.Core.Path.{_≡_, ap, _∙_}
 use mathlib.Core.Bool.{Bool, _&&_}
 use Prim.Native.Nat.{ℕ, _+_, _-_, _*_, _/_, _≤_, _<_}

@@ -1,4 +1,5 @@
--- 70 numbers that are gone through in place, set after set (Swept): of the sets that are touched, those of a lower rank than p have their new number, all others their old one.
+-- 70 numbers that are gone through in place, set after set (Swept): of the sets that are touched, those of a lower rank than p have their new number, all
+-- others their old one.
 use mathlib.Core.Path.{_≡_, refl, sym, ap, _∙_, subst}
 use mathlib.Core.Bool.{Bool, true, false, false≢true}
 use mathlib.Core.List.{List}
@@ -62,7 +63,8 @@ module _ {n k : ℕ} {touched : ℕ → Bool} {rank : ℕ → ℕ} {new old : �
         more : {i : ℕ} → p + 1 ≤ i → p ≤ i
         more h = omega arith
 
-    pub swept-all : ((s : ℕ) → s < 2 ^ n → maskCount s ≡ k → touched s ≡ true → rank s < p) → ((s : ℕ) → s < 2 ^ n → maskCount s ≡ k → touched s ≡ false → new s ≡ old s)
+    pub swept-all : ((s : ℕ) → s < 2 ^ n → maskCount s ≡ k → touched s ≡ true → rank s < p)
+        → ((s : ℕ) → s < 2 ^ n → maskCount s ≡ k → touched s ≡ false → new s ≡ old s)
         → (s : ℕ) → s < 2 ^ n → maskCount s ≡ k → heldAt u s ≡ new s
     swept-all h g s b c = go (touched s) refl
       where

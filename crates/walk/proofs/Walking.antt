@@ -1,4 +1,5 @@
--- The walk of a step's word from its last letter on (walk-start, walk-next): states that agree stay so (walk-agree), and no number on the way leaves its range (step-working).
+-- The walk of a step's word from its last letter on (walk-start, walk-next): states that agree stay so (walk-agree), and no number on the way leaves its
+-- range (step-working).
 use mathlib.Core.Path.{_≡_, refl, sym, ap, _∙_, subst}
 use mathlib.Core.Bool.{Bool, true, false, cond}
 use mathlib.Core.List.{[], _∷_, _++_}
@@ -78,7 +79,8 @@ unfolding walk
 walk-start X t ω e = rw (e, drop-length X) (agree-refl ω)
 
 module _ {n k : ℕ} (ln : n ≤ 8) (X : Word Number) (rows : All (Rows n) X) (ω : State rounded) where
-  pub walk-next : (t : ℕ) → t < length X → (d : Letter Number) (η θ : State rounded) → Agree n k η (walk rounded (drop (t + 1) X) ω) → Agree n k θ (act rounded (getD X t d) η)
+  pub walk-next : (t : ℕ) → t < length X → (d : Letter Number) (η θ : State rounded) → Agree n k η (walk rounded (drop (t + 1) X) ω)
+      → Agree n k θ (act rounded (getD X t d) η)
       → Agree n k θ (walk rounded (drop t X) ω)
   unfolding walk
   walk-next t l d η θ p q =

@@ -34,7 +34,8 @@ pub record MoveWithin (n : ℕ) (m : Move) : Type 0 where
   pub rows : Neighbours n (m .to) (m .from)
   pub place : m .at < 64
 
--- letter t of the first half of a word is E j with the factor of row j and a column c; its counterpart in the second half is Et j with that of row c and column j
+-- letter t of the first half of a word is E j with the factor of row j and a column c; its counterpart in the second half is Et j with that of row c and
+-- column j
 pub record CellAt (n t : ℕ) (x : Cell) : Type 0 where
   pub below : moveAt n Plain t ≡ record { to = x .row; from = x .row - 1; at = cellOf (x .row) (x .column) }
   pub above : moveAt n Plain (2 * middle n - t) ≡ record { to = x .row - 1; from = x .row; at = cellOf (x .column) (x .row) }

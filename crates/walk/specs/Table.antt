@@ -1,4 +1,5 @@
--- Factors as the code holds them, 64 numbers in rows of eight: the factor of row i and column j stands at cellOf i j (factorsOf), and a number that is no factor is zero (tableOf).
+-- Factors as the code holds them, 64 numbers in rows of eight: the factor of row i and column j stands at cellOf i j (factorsOf), and a number that is no
+-- factor is zero (tableOf).
 use Prim.Native.Nat.{ℕ, _+_, _-_, _*_}
 use mathlib.Core.Bool.{cond, _&&_}
 use mathlib.Core.List.{List}

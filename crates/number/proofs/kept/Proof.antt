@@ -1,12 +1,9 @@
 -- `kept` meets its contract: the digits that are kept are the nearest, and fit.
-use mathlib.Core.Path.{_∙_}
 use native.Mathlib.Omega.{arith}
 use borrow.Author.Needs.{needs}
 use Rattle.number.proofs.Digits.{kept-is, rounded-fits}
 use Rattle.number.proofs.kept.Statement.{statement}
 use Rattle.number.proofs.kept.Tie as tie
-use Rattle.number.proofs.kept.Reads as reads
-use Rattle.number.proofs.kept.Lts as lts
 
 add-r : tie.Need-add-r
 add-r c = search needs

@@ -64,7 +64,8 @@ plain-at-requires-5 : tie.Need-plain-at-requires-5
 plain-at-requires-5 c κs = search needs
 
 -- the letter is the one asked for, so it lies within
-answered : (n : ℕ) (way : Way) (t : ℕ) (m : Move) → 1 ≤ n → n ≤ 8 → t < 2 * middle n + 1 → (t ≡ middle n → ⊥) → m ≡ moveAt n way t → (m ≡ moveAt n way t) × MoveWithin n m
+answered : (n : ℕ) (way : Way) (t : ℕ) (m : Move) → 1 ≤ n → n ≤ 8 → t < 2 * middle n + 1 → (t ≡ middle n → ⊥) → m ≡ moveAt n way t
+    → (m ≡ moveAt n way t) × MoveWithin n m
 answered n way t m ln hn l e q = (q, within n way t m q ln hn l e)
 
 returns : tie.Need-returns
