@@ -1,5 +1,5 @@
 // Numbers of 32 binary digits: add, multiply and divide give the exact result rounded once, to nearest, ties to even.
-// Each operation brings its exact result to the form n / d at an exponent x; `round` alone rounds.
+// Each operation brings its exact result to the form n / d at an exponent x. Sums and products are rounded by `kept`, quotients and differences by `round`.
 ghost use mathlib.Core.Path.{_≡_};
 ghost use mathlib.Core.Bool.{false, cond};
 ghost use Prim.Native.Nat.{_+_, _-_, _*_, _^_, _≤_, _<_, min};
@@ -34,7 +34,7 @@ fn carried(m: u64, x: u64) -> Number
     Number { m, x }
 }
 
-// The one rounding: q and rest / d, with 32 digits before the point, to the nearest whole number, at a tie to the even one.
+// q and rest / d, with 32 digits before the point, to the nearest whole number, at a tie to the even one.
 fn round(q: u64, rest: u64, d: u64, x: u64) -> Number
     requires { ⌜ (2 ^ 31 ≤ q) × (q < 2 ^ 32) × (rest < d) × (d ≤ 2 ^ 62) × (x < 2 ^ 62) ⌝ }
     ensures { λ r. ⌜ r ≡ round (q * d + rest) d x ⌝ }
@@ -94,7 +94,8 @@ fn quotient(a: u64, b: u64, x: u64) -> Number
     round(n / b, n % b, b, x - 32)
 }
 
-// p, of 63 or 64 digits, at exponent x: 32 digits are kept, by no branch.
+// p, of 63 or 64 digits, at exponent x, to 32 digits, at a tie to the even mantissa: no branch. Half a unit less one is added, and one more where the last
+// digit that is kept is odd.
 fn kept(p: u64, x: u64) -> Number
     requires { ⌜ (2 ^ 62 ≤ p) × (p < 2 ^ 64 - 2 ^ 32 + 2) × (x < 2 ^ 61) ⌝ }
     ensures { λ r. ⌜ r ≡ round p 1 x ⌝ }
