@@ -303,8 +303,12 @@ static int by_size(const void *a, const void *b)
     return (x > y) - (x < y);
 }
 
-/* One call with new factors after other work has filled the near caches: the middle one of ROUNDS such times. */
-static double single(int operation, int n, int rounds)
+/* One call with new factors after other work has filled the near caches: the middle one and the slowest of ROUNDS such times. */
+typedef struct {
+    double middle, slowest;
+} single_times;
+
+static single_times single(int operation, int n, int rounds)
 {
     static unsigned char other[1 << 24];
     double *times = malloc((size_t)rounds * sizeof *times);
@@ -320,17 +324,19 @@ static double single(int operation, int n, int rounds)
             exit(1);
     }
     qsort(times, (size_t)rounds, sizeof *times, by_size);
-    double middle = times[rounds / 2];
+    single_times r = {times[rounds / 2], times[rounds - 1]};
     free(times);
-    return middle;
+    return r;
 }
 
 static void singles(int rounds)
 {
     printf("### Single calls, new factors, caches filled by other work: microseconds of the proved form\n\n");
-    printf("| n | product | re-signed inverse |\n|--:|--------:|------------------:|\n");
-    for (int n = 2; n <= 8; n += 2)
-        printf("| %d | %7.2f | %17.2f |\n", n, 1e6 * single(PRODUCT, n, rounds), 1e6 * single(INVERSE, n, rounds));
+    printf("| n | product, middle | slowest | re-signed inverse, middle | slowest |\n|--:|----------------:|--------:|--------------------------:|--------:|\n");
+    for (int n = 2; n <= 8; n += 2) {
+        single_times p = single(PRODUCT, n, rounds), i = single(INVERSE, n, rounds);
+        printf("| %d | %15.2f | %7.2f | %25.2f | %7.2f |\n", n, 1e6 * p.middle, 1e6 * p.slowest, 1e6 * i.middle, 1e6 * i.slowest);
+    }
     printf("\n");
 }
 
