@@ -1,21 +1,21 @@
-/* How much stack each call of the library takes. Each call runs on a stack of its own that was painted before; afterwards the lowest byte that lost its
- * paint tells the depth. Counted from the frame of a C function that makes the call, so with the shelf that is handed over and the answer that comes
- * back. Every call works on eight rows. Exit status 1 if a call answers otherwise than wanted. */
+/* The sizes of the structs, and how much stack each call of the library takes. Each call runs on a stack of its own that was painted before;
+ * afterwards the lowest byte that lost its paint tells the depth. Counted from the frame of a C function that makes the call, so with the shelf that
+ * is handed over and the answer that comes back. Every call works on eight rows. Exit status 1 if a call answers otherwise than wanted. */
 #define _XOPEN_SOURCE 700
 #include "../include/beechcrib.h"
+#include "bytes.h"
 #include <stdio.h>
 #include <stdlib.h>
 #include <string.h>
 #include <ucontext.h>
 
-#define BIAS 4194304
 #define ROOM (1 << 20)
 
 static unsigned char area[ROOM];
 static ucontext_t outside, inside;
 
 static tnb_shelf shelf;
-static uint8_t bytes[449];
+static uint8_t bytes[MOST_BYTES];
 static size_t length;
 static int64_t items[24], carried[24];
 static int number;
@@ -24,7 +24,8 @@ static int number;
 static void call_new(void)
 {
     tnb_shelf a = tnb_new();
-    number = a.sizes[0];
+    (void)a;
+    number = 0;
 }
 
 static void call_load(void)
@@ -36,7 +37,7 @@ static void call_load(void)
 static void call_write(void)
 {
     tnb_length a = tnb_write(shelf, 0, bytes, sizeof bytes);
-    if (a.number == 0)
+    if (a.number == TNB_ACCEPTED)
         length = a.length;
     number = a.number;
 }
@@ -88,6 +89,18 @@ static void call_rest(void)
     number = tnb_rest(bytes, length) != 0;
 }
 
+static void call_rows(void)
+{
+    tnb_length a = tnb_rows(shelf, 0);
+    number = a.number;
+}
+
+static void call_factor(void)
+{
+    tnb_value a = tnb_factor(shelf, 0, 8, 8);
+    number = a.number;
+}
+
 static void call_carry(void)
 {
     tnb_status a = tnb_carry(shelf, 0, items, 24, carried, 24);
@@ -117,6 +130,8 @@ static const struct {
     {"tnb_submatrix", call_submatrix, sizeof(tnb_shelf) + sizeof(tnb_answer)},
     {"tnb_transpose", call_transpose, sizeof(tnb_shelf) + sizeof(tnb_answer)},
     {"tnb_minor", call_minor, sizeof(tnb_shelf) + sizeof(tnb_value)},
+    {"tnb_rows", call_rows, sizeof(tnb_shelf) + sizeof(tnb_length)},
+    {"tnb_factor", call_factor, sizeof(tnb_shelf) + sizeof(tnb_value)},
     {"tnb_carry", call_carry, sizeof(tnb_shelf) + sizeof(tnb_status)},
     {"tnb_reversals", call_reversals, sizeof(tnb_length)},
 };
@@ -125,9 +140,15 @@ static const struct {
 static void fill(void)
 {
     shelf = tnb_new();
-    for (int t = 0; t < 128; t++)
-        shelf.numbers[t] = (tnb_number){0x80000000u + 12345678u * (unsigned)t % 0x7fffffffu, BIAS - 31};
-    shelf.sizes[0] = shelf.sizes[1] = 8;
+    for (unsigned p = 0; p < 2; p++) {
+        plain_number factors[64];
+        for (unsigned t = 0; t < 64; t++)
+            factors[t] = (plain_number){0x80000000u + 12345678u * (64 * p + t) % 0x7fffffffu, -31};
+        tnb_answer a = tnb_load(shelf, p, bytes, matrix_bytes(8, factors, bytes));
+        if (a.number != TNB_ACCEPTED)
+            exit(1);
+        shelf = a.shelf;
+    }
     for (int t = 0; t < 8; t++) {
         items[3 * t] = t % 3 ? 1 : -1;
         items[3 * t + 1] = 0x80000000 + 1000 * t;
@@ -161,21 +182,31 @@ static size_t deepest(void (*run)(void))
     return a > b ? a : b;
 }
 
+static void print_sizes(void)
+{
+    printf("| struct | bytes |\n|:--|--:|\n");
+    printf("| `tnb_shelf` | %zu |\n| `tnb_answer` | %zu |\n", sizeof(tnb_shelf), sizeof(tnb_answer));
+    printf("| `tnb_value` | %zu |\n| `tnb_length` | %zu |\n| `tnb_status` | %zu |\n\n", sizeof(tnb_value), sizeof(tnb_length), sizeof(tnb_status));
+}
+
 int main(void)
 {
+    print_sizes();
     printf("| call            | stack, bytes | shelf and answer by value | the rest |\n");
     printf("|:----------------|-------------:|--------------------------:|---------:|\n");
     fill();
     for (size_t c = 0; c < sizeof calls / sizeof calls[0]; c++) {
         size_t good = deepest(calls[c].run);
-        if (number != 0) {
+        if (number != TNB_ACCEPTED) {
             printf("%s: refused %d\n", calls[c].name, number);
             return 1;
         }
         /* a shelf that is none of the library's takes another way */
-        shelf.sizes[7] = 9;
+        static tnb_shelf kept;
+        kept = shelf;
+        memset(&shelf, 0xff, sizeof shelf);
         size_t foreign = deepest(calls[c].run);
-        shelf.sizes[7] = 0;
+        shelf = kept;
         size_t most = good > foreign ? good : foreign;
         printf("| `%s`%*s | %12zu | %25zu | %8zu |\n", calls[c].name, (int)(13 - strlen(calls[c].name)), "", most, calls[c].by_value,
                most - calls[c].by_value);

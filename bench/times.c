@@ -3,13 +3,13 @@
  * how far the library's time depends on the factors, then single calls. Exit status 1 if a result differs or is refused. */
 #define _POSIX_C_SOURCE 199309L
 #include "../include/beechcrib.h"
+#include "bytes.h"
 #include "fast.h"
 #include "plain.h"
 #include <stdio.h>
 #include <stdlib.h>
 #include <time.h>
 
-#define BIAS 4194304
 #define INPUTS 8
 
 enum { PRODUCT, INVERSE, OPERATIONS };
@@ -40,10 +40,9 @@ static double seconds(void)
     return (double)t.tv_sec + 1e-9 * (double)t.tv_nsec;
 }
 
-/* m times 2 to the power e, as a shelf keeps it */
-static tnb_number stored(uint64_t m, int64_t e)
+static plain_number stored(uint64_t m, int64_t e)
 {
-    tnb_number r = {m, (uint64_t)(e + BIAS)};
+    plain_number r = {m, e};
     return r;
 }
 
@@ -53,43 +52,43 @@ static int64_t about(int64_t most)
     return (int64_t)(next() % (uint64_t)(2 * most + 1)) - most;
 }
 
-static tnb_number any(void)
+static plain_number any(void)
 {
     uint64_t m = (next() & 0x7fffffff) | 0x80000000;
     return stored(m, about(3) - 31);
 }
 
-static tnb_number one(void)
+static plain_number one(void)
 {
     return stored(0x80000000, -31);
 }
 
-static tnb_number power(void)
+static plain_number power(void)
 {
     return stored(0x80000000, about(3) - 31);
 }
 
 /* most sums have digits that fall off, many have a term that falls off whole */
-static tnb_number far(void)
+static plain_number far(void)
 {
     uint64_t m = (next() & 0x7fffffff) | 0x80000000;
     return stored(m, about(60) - 31);
 }
 
 /* just below a power of two: sums carry into a new digit */
-static tnb_number full(void)
+static plain_number full(void)
 {
     return stored(0xffffffff, about(3) - 31);
 }
 
 /* just above a power of two: products keep 63 digits, and ties are near */
-static tnb_number slight(void)
+static plain_number slight(void)
 {
     uint64_t m = 0x80000000 | (next() & 15);
     return stored(m, about(3) - 31);
 }
 
-typedef tnb_number draw_number(void);
+typedef plain_number draw_number(void);
 
 enum { KINDS = 6 };
 static draw_number *const kinds[KINDS] = {any, one, power, far, full, slight};
@@ -105,20 +104,27 @@ typedef struct {
 
 static input inputs[KINDS][INPUTS];
 
+static void load(tnb_shelf *shelf, size_t place, int n, const plain_number factors[64])
+{
+    uint8_t bytes[MOST_BYTES];
+    tnb_answer answer = tnb_load(*shelf, place, bytes, matrix_bytes(n, factors, bytes));
+    if (answer.number != TNB_ACCEPTED) {
+        printf("load: refused %d\n", answer.number);
+        exit(1);
+    }
+    *shelf = answer.shelf;
+}
+
 /* places 0 and 1 with n rows each */
 static void draw(input *in, int n, draw_number *number)
 {
     in->shelf = tnb_new();
     for (int p = 0; p < 2; p++) {
-        in->shelf.sizes[p] = (uint8_t)n;
         for (int t = 0; t < 64; t++) {
-            if (t / 8 < n && t % 8 < n)
-                in->shelf.numbers[p * 64 + t] = number();
-            tnb_number a = in->shelf.numbers[p * 64 + t];
-            int64_t e = (int64_t)a.x - BIAS;
-            in->plain[p][t] = (plain_number){a.m, e};
-            in->fast[p][t] = fast_pack(a.m, e);
+            in->plain[p][t] = t / 8 < n && t % 8 < n ? number() : stored(0, 0);
+            in->fast[p][t] = fast_pack(in->plain[p][t].m, in->plain[p][t].e);
         }
+        load(&in->shelf, (size_t)p, n, in->plain[p]);
     }
 }
 
@@ -163,14 +169,14 @@ static double (*const timers[FORMS])(int, int, input *) = {time_plain, time_fast
 
 static int same(int n, const input *in)
 {
-    if (in->answer.number != 0)
+    if (in->answer.number != TNB_ACCEPTED || tnb_rows(in->answer.shelf, 2).length != (size_t)n)
         return 0;
     for (int t = 0; t < 64; t++) {
         if (t / 8 >= n || t % 8 >= n)
             continue;
-        tnb_number a = in->answer.shelf.numbers[128 + t];
-        int64_t e = (int64_t)a.x - BIAS;
-        if (in->plain_result[t].m != a.m || in->plain_result[t].e != e || in->fast_result[t] != fast_pack(a.m, e))
+        tnb_value b = tnb_factor(in->answer.shelf, 2, (size_t)(t / 8 + 1), (size_t)(t % 8 + 1));
+        if (b.number != TNB_ACCEPTED || in->plain_result[t].m != b.mantissa || in->plain_result[t].e != b.exponent ||
+            in->fast_result[t] != fast_pack(b.mantissa, b.exponent))
             return 0;
     }
     return 1;
@@ -181,7 +187,7 @@ static void compare(int operation, int n, const input *in, const char *kind)
     if (same(n, in))
         return;
     printf("%s, n = %d, %s: ", names[operation], n, kind);
-    if (in->answer.number != 0)
+    if (in->answer.number != TNB_ACCEPTED)
         printf("refused %d\n", in->answer.number);
     else
         printf("results differ\n");
@@ -320,7 +326,7 @@ static single_times single(int operation, int n, int rounds)
         double start = seconds();
         tnb_answer answer = operation == PRODUCT ? tnb_product(in->shelf, 0, 1, 2) : tnb_inverse(in->shelf, 0, 2);
         times[r] = seconds() - start;
-        if (answer.number != 0)
+        if (answer.number != TNB_ACCEPTED)
             exit(1);
     }
     qsort(times, (size_t)rounds, sizeof *times, by_size);
@@ -332,7 +338,8 @@ static single_times single(int operation, int n, int rounds)
 static void singles(int rounds)
 {
     printf("### Single calls, new factors, caches filled by other work: microseconds of the proved form\n\n");
-    printf("| n | product, middle | slowest | re-signed inverse, middle | slowest |\n|--:|----------------:|--------:|--------------------------:|--------:|\n");
+    printf("| n | product, middle | slowest | re-signed inverse, middle | slowest |\n");
+    printf("|--:|----------------:|--------:|--------------------------:|--------:|\n");
     for (int n = 2; n <= 8; n += 2) {
         single_times p = single(PRODUCT, n, rounds), i = single(INVERSE, n, rounds);
         printf("| %d | %15.2f | %7.2f | %25.2f | %7.2f |\n", n, 1e6 * p.middle, 1e6 * p.slowest, 1e6 * i.middle, 1e6 * i.slowest);

@@ -9,8 +9,9 @@ minors, b(i,i) is M(1..i | 1..i) / M(1..i-1 | 1..i-1), and below the diagonal b(
 - pascal: all factors one, five rows: entry (i,j) is the binomial number of i+j-2 over i-1. The minors named above are all one.
 - hilbert: entry (i,j) is 1/(i+j-1), eight rows. Its minors are Cauchy's determinants, which leave b(i,j) = (i-1)^2 / ((i+j-2)(i+j-1)) below
   the diagonal and b(i,i) = (i-1)!^4 / ((2i-2)! (2i-1)!).
+- mixed: left the three rows of hilbert, right those of pascal, so that the two files differ.
 
-Before a pair is written, the exact factors are multiplied out as fractions and held to the entries.
+Before a matrix is written, the exact factors are multiplied out as fractions and held to the entries.
 """
 import os
 from fractions import Fraction
@@ -38,8 +39,12 @@ def hilbert_entry(i, j):
     return Fraction(1, i + j - 1)
 
 
-# folder: rows, factors, entries
-PAIRS = {"ones": (2, one, pascal_entry), "pascal": (5, one, pascal_entry), "hilbert": (8, hilbert, hilbert_entry)}
+# factors and entries of a matrix
+PASCAL = (one, pascal_entry)
+HILBERT = (hilbert, hilbert_entry)
+
+# folder: rows, left, right
+PAIRS = {"ones": (2, PASCAL, PASCAL), "pascal": (5, PASCAL, PASCAL), "hilbert": (8, HILBERT, HILBERT), "mixed": (3, HILBERT, PASCAL)}
 
 
 def word(n, factor):
@@ -83,10 +88,10 @@ def encoding(n, factor):
 
 
 def main():
-    for folder, (n, factor, entry) in PAIRS.items():
-        assert multiplied_out(n, factor) == [[entry(i, j) for j in range(1, n + 1)] for i in range(1, n + 1)], folder
+    for folder, (n, left, right) in PAIRS.items():
         os.makedirs(os.path.join(HERE, folder), exist_ok=True)
-        for side in ("left", "right"):
+        for side, (factor, entry) in (("left", left), ("right", right)):
+            assert multiplied_out(n, factor) == [[entry(i, j) for j in range(1, n + 1)] for i in range(1, n + 1)], (folder, side)
             with open(os.path.join(HERE, folder, side + ".tnb"), "wb") as file:
                 file.write(encoding(n, factor))
 

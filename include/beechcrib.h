@@ -6,27 +6,13 @@
  *
  * Places count from 0 to 7. Row and column sets are masks, bit 0 for row 1.
  *
- * Every answer has a number: 0 for accepted, 1 to 14 for a refusal, 255 where the shelf handed over is not one that these calls can have made.
- * A refused call changes neither the shelf nor lent memory. Where several conditions hold, the order is 1 (sources, then target), 11, 12,
- * 13, 8, 9, 14, 10; a load tests 1, 12, then bytes from the left.
+ * Every answer has a number: 0 for accepted, 1 to 14 for a refusal, 255 where the shelf handed over is not one that these calls can have made;
+ * they have names below. A refused call changes neither the shelf nor lent memory. Where several conditions hold, the order is 1 (sources, then
+ * target), 11, 12, 13, 8, 9, 14, 10; a load tests 1, 12, then bytes from the left.
  *
- *    1  place above 7
- *    2  bytes end early
- *    3  group number not shortest, or 2^32 or more, or a fifth byte with its top bit set
- *    4  n not 1 to 8
- *    5  exponent code above 2001, or mantissa part above 2^31 - 1
- *    6  zero factor
- *    7  bytes behind the matrix
- *    8  sets of unequal count, empty, or beyond n
- *    9  list length wrong, or an item not of the stated form
- *   10  lent output shorter than needed
- *   11  source place empty
- *   12  target place holds a matrix
- *   13  sizes differ
- *   14  a new factor, an answered minor or a nonzero carried item has an exponent outside -1000 to 1000
- *  255  no shelf of this library: a size above 8, a factor that is no stored number, or a number elsewhere that is not zero
+ * The offset: for 3 to 6 the first byte of the group number at fault, for 2 the length of the input, for 7 the first byte behind the matrix, else 0.
  *
- * The offset: for 3 to 6 the first byte of the group number at fault, for 2 the length of the input, for 7 the first byte behind the matrix, else 0. */
+ * A pointer may be NULL where the length beside it is 0: nothing is then read or written there. */
 #ifndef BEECHCRIB_H
 #define BEECHCRIB_H
 #include <stddef.h>
@@ -36,17 +22,36 @@
 extern "C" {
 #endif
 
-/* m times 2 to the power x - 4194304, as a shelf keeps it. Zero has m 0 and x 4194304. */
-typedef struct {
-    uint64_t m;
-    uint64_t x;
-} tnb_number;
+/* The version of this header and of the archive built beside it. It rises whenever a struct changes its size or a call or a number is added. A
+ * program that uses only what stands here, and not the inside of a shelf, compiles again with every later version; it is compiled again for
+ * each, since structs go by value. Later versions may refuse with numbers that are not listed yet: test for TNB_ACCEPTED. */
+#define TNB_VERSION 1
 
-/* Eight places of 64 numbers; factor (i, j) of the matrix at place p is numbers[p * 64 + (i - 1) * 8 + (j - 1)], and sizes[p] its rows,
- * 0 where the place is empty. May be read and copied; a shelf put together by hand is tested like any other. */
+/* The numbers of answers. */
+enum {
+    TNB_ACCEPTED = 0,
+    TNB_PLACE_ABOVE_7 = 1,       /* place above 7 */
+    TNB_BYTES_END_EARLY = 2,     /* bytes end early */
+    TNB_BAD_GROUP_NUMBER = 3,    /* group number not shortest, or 2^32 or more, or a fifth byte with its top bit set */
+    TNB_ROWS_NOT_1_TO_8 = 4,     /* n not 1 to 8 */
+    TNB_CODE_TOO_LARGE = 5,      /* exponent code above 2001, or mantissa part above 2^31 - 1 */
+    TNB_ZERO_FACTOR = 6,         /* zero factor */
+    TNB_BYTES_BEHIND_MATRIX = 7, /* bytes behind the matrix */
+    TNB_BAD_SETS = 8,            /* sets of unequal count, empty, or beyond n */
+    TNB_BAD_LIST = 9,            /* list length wrong, or an item not of the stated form */
+    TNB_OUTPUT_TOO_SHORT = 10,   /* lent output shorter than needed */
+    TNB_SOURCE_EMPTY = 11,       /* source place empty */
+    TNB_TARGET_FULL = 12,        /* target place holds a matrix */
+    TNB_SIZES_DIFFER = 13,       /* sizes differ */
+    TNB_EXPONENT_OUTSIDE = 14,   /* a new factor, an answered minor or a nonzero carried item has an exponent outside -1000 to 1000 */
+    TNB_FOREIGN_SHELF = 255      /* the shelf handed over is not one that these calls can have made */
+};
+
+/* Eight places, each empty or holding a matrix. What is inside is private to the library and changes between versions: a shelf comes from tnb_new or
+ * an answer, is copied whole, and is read by tnb_rows, tnb_factor and tnb_write. Words in place of fields, so that no program can come to use
+ * one; size and alignment are the library's. */
 typedef struct {
-    tnb_number numbers[512];
-    uint8_t sizes[8];
+    uint64_t private_[1025];
 } tnb_shelf;
 
 /* What a call answers that may change the shelf: the bound of an operation (0 for a load or drop), and the shelf after the call. */
@@ -57,7 +62,7 @@ typedef struct {
     tnb_shelf shelf;
 } tnb_answer;
 
-/* How many bytes were written, or reversals counted; 0 for a refusal. */
+/* How many bytes were written, reversals counted, or rows a place has; 0 for a refusal. */
 typedef struct {
     uint8_t number;
     size_t offset;
@@ -70,7 +75,7 @@ typedef struct {
     size_t offset;
 } tnb_status;
 
-/* A minor: mantissa times 2 to the power exponent; both 0 for a refusal. */
+/* A minor or a factor: mantissa times 2 to the power exponent. Mantissa from 2^31 to 2^32 - 1; both 0 for zero and for a refusal. */
 typedef struct {
     uint8_t number;
     size_t offset;
@@ -80,6 +85,13 @@ typedef struct {
 
 /* A shelf with all places empty. */
 tnb_shelf tnb_new(void);
+
+/* The rows of the matrix at a place; 0 where the place is empty or above 7. Never refused, but for 255. */
+tnb_length tnb_rows(tnb_shelf shelf, size_t place);
+
+/* Factor b(i, j) of the matrix at a place, i and j from 1 to its rows; zero (mantissa and exponent 0) for any other i or j, for an empty place
+ * and for a place above 7. A stored factor is never zero. Never refused, but for 255. */
+tnb_value tnb_factor(tnb_shelf shelf, size_t place, size_t i, size_t j);
 
 /* Loads an empty place from the bytes of one matrix. Refusals 1, 12, 2 to 7. */
 tnb_answer tnb_load(tnb_shelf shelf, size_t place, const uint8_t *bytes, size_t count);

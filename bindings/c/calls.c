@@ -1,12 +1,12 @@
-/* Every call once, with the values that document 01 gives. Prints the first call that answers otherwise; exit status 1 then. */
+/* Every call once, with the values that document 01 gives, and NULL with length 0. Prints the first call that answers otherwise; exit status 1 then. */
 #include "beechcrib.h"
 #include <stdio.h>
 #include <stdlib.h>
-
-#define BIAS 4194304
+#include <string.h>
 
 static const uint8_t two[] = {2, 0xca, 7, 0, 0xca, 7, 0, 0xca, 7, 0, 0xca, 7, 0, 0xff};
 static const uint8_t three[] = {3, 0xca, 7, 0, 0xca, 7, 0, 0xca, 7, 0, 0xca, 7, 0, 0xca, 7, 0, 0xca, 7, 0, 0xca, 7, 0, 0xca, 7, 0, 0xca, 7, 0};
+static const int64_t list[] = {1, 2147483648, -31, -1, 2147483648, -31};
 
 static void want(int right, const char *call)
 {
@@ -16,36 +16,33 @@ static void want(int right, const char *call)
     exit(1);
 }
 
-static int factor(const tnb_shelf *s, size_t place, int i, int j, uint64_t m, int64_t e)
+static int factor(const tnb_shelf *s, size_t place, size_t i, size_t j, uint64_t m, int64_t e)
 {
-    tnb_number b = s->numbers[place * 64 + (size_t)(i - 1) * 8 + (size_t)(j - 1)];
-    return b.m == m && (int64_t)b.x - BIAS == e;
+    tnb_value b = tnb_factor(*s, place, i, j);
+    return b.number == TNB_ACCEPTED && b.offset == 0 && b.mantissa == m && b.exponent == e;
 }
 
 static tnb_shelf accepted(tnb_answer a, uint32_t bound, const char *call)
 {
-    want(a.number == 0 && a.offset == 0 && a.bound == bound, call);
+    want(a.number == TNB_ACCEPTED && a.offset == 0 && a.bound == bound, call);
     return a.shelf;
 }
 
 /* place holds two rows, all factors of mantissa m, with these exponents */
 static int square(const tnb_shelf *s, size_t place, uint64_t m, int64_t a, int64_t b, int64_t c, int64_t d)
 {
-    return s->sizes[place] == 2 && factor(s, place, 1, 1, m, a) && factor(s, place, 1, 2, m, b) && factor(s, place, 2, 1, m, c) && factor(s, place, 2, 2, m, d);
+    return tnb_rows(*s, place).length == 2 && factor(s, place, 1, 1, m, a) && factor(s, place, 1, 2, m, b) && factor(s, place, 2, 1, m, c) &&
+           factor(s, place, 2, 2, m, d);
 }
 
-int main(void)
+/* places 2 to 6: product, inverse, converse, submatrix, transpose */
+static tnb_shelf operations(tnb_shelf s)
 {
     const uint64_t m = 2147483648u;
-    tnb_shelf s = tnb_new();
-    s = accepted(tnb_load(s, 0, two, 13), 0, "load");
-    s = accepted(tnb_load(s, 1, three, sizeof three), 0, "load");
-    want(tnb_load(s, 2, two, 14).number == 7 && tnb_load(s, 2, two, 14).offset == 13, "load, bytes behind");
-    want(tnb_rest(two, 14) == 1 && tnb_rest(two, 5) == 5, "rest");
-
     s = accepted(tnb_product(s, 0, 0, 2), 51, "product");
     want(factor(&s, 2, 1, 1, m, -30) && factor(&s, 2, 1, 2, 3221225472u, -31) && factor(&s, 2, 2, 2, m, -32), "product");
-    want(tnb_product(s, 0, 1, 3).number == 13, "product, sizes differ");
+    want(tnb_product(s, 0, 1, 3).number == TNB_SIZES_DIFFER, "product, sizes differ");
+    want(tnb_product(s, 0, 0, 1).number == TNB_TARGET_FULL, "product, target full");
     s = accepted(tnb_inverse(s, 0, 3), 27, "inverse");
     want(square(&s, 3, m, -30, -32, -32, -32), "inverse");
     s = accepted(tnb_converse(s, 0, 4), 27, "converse");
@@ -54,27 +51,77 @@ int main(void)
     want(square(&s, 5, m, -31, -30, -31, -31), "submatrix");
     s = accepted(tnb_transpose(s, 5, 6), 0, "transpose");
     want(square(&s, 6, m, -31, -31, -30, -31), "transpose");
-    want(tnb_submatrix(s, 1, 6, 1, 7).number == 8, "submatrix, unequal sets");
+    want(tnb_submatrix(s, 1, 6, 1, 7).number == TNB_BAD_SETS, "submatrix, unequal sets");
+    return s;
+}
 
+static void reading(tnb_shelf s)
+{
+    want(tnb_rows(s, 0).length == 2 && tnb_rows(s, 1).length == 3 && tnb_rows(s, 7).length == 0 && tnb_rows(s, 8).length == 0, "rows");
+    want(tnb_rows(s, 8).number == TNB_ACCEPTED && tnb_rows(s, 8).offset == 0, "rows, never refused");
+    want(factor(&s, 5, 1, 2, 2147483648u, -30) && factor(&s, 5, 2, 1, 2147483648u, -31), "factor, row and column");
+    want(factor(&s, 0, 0, 1, 0, 0) && factor(&s, 0, 1, 3, 0, 0) && factor(&s, 7, 1, 1, 0, 0) && factor(&s, 8, 1, 1, 0, 0), "factor, none");
     tnb_value v = tnb_minor(s, 1, 5, 5);
-    want(v.number == 0 && v.mantissa == 2684354560u && v.exponent == -29, "minor");
-    want(tnb_minor(s, 8, 1, 1).number == 1, "minor, place above 7");
+    want(v.number == TNB_ACCEPTED && v.mantissa == 2684354560u && v.exponent == -29, "minor");
+    want(tnb_minor(s, 8, 1, 1).number == TNB_PLACE_ABOVE_7, "minor, place above 7");
+}
 
-    const int64_t list[] = {1, 2147483648, -31, -1, 2147483648, -31};
+static void lists(tnb_shelf s)
+{
     int64_t out[7] = {7, 7, 7, 7, 7, 7, 7};
-    want(tnb_reversals(list, 6).length == 1 && tnb_reversals(list, 5).number == 9, "reversals");
-    want(tnb_carry(s, 0, list, 6, out, 5).number == 10 && out[0] == 7, "carry, no room");
-    want(tnb_carry(s, 0, list, 6, out, 7).number == 0, "carry");
+    want(tnb_reversals(list, 6).length == 1 && tnb_reversals(list, 5).number == TNB_BAD_LIST, "reversals");
+    want(tnb_carry(s, 0, list, 6, out, 5).number == TNB_OUTPUT_TOO_SHORT && out[0] == 7, "carry, no room");
+    want(tnb_carry(s, 0, list, 6, out, 7).number == TNB_ACCEPTED, "carry");
     want(out[0] == 0 && out[1] == 0 && out[2] == 0 && out[3] == -1 && out[4] == 2147483648 && out[5] == -31 && out[6] == 7, "carry");
+}
 
-    s = accepted(tnb_drop(s, 6), 0, "drop");
+static void writing(tnb_shelf s)
+{
     uint8_t bytes[14] = {0};
-    want(tnb_write(s, 6, bytes, 14).number == 11, "write, empty");
-    want(tnb_write(s, 0, bytes, 12).number == 10 && bytes[0] == 0, "write, no room");
+    s = accepted(tnb_drop(s, 6), 0, "drop");
+    want(tnb_write(s, 6, bytes, 14).number == TNB_SOURCE_EMPTY, "write, empty");
+    want(tnb_write(s, 0, bytes, 12).number == TNB_OUTPUT_TOO_SHORT && bytes[0] == 0, "write, no room");
     want(tnb_write(s, 0, bytes, 14).length == 13 && bytes[12] == 0 && bytes[1] == 0xca && bytes[13] == 0, "write");
+}
 
-    s.numbers[511].m = 1;
-    want(tnb_drop(s, 0).number == 255 && tnb_minor(s, 1, 1, 1).number == 255 && tnb_carry(s, 0, list, 6, out, 7).number == 255, "foreign shelf");
+/* nothing is read or written where a length is 0 */
+static void null(tnb_shelf s)
+{
+    tnb_answer a = tnb_load(s, 7, NULL, 0);
+    want(a.number == TNB_BYTES_END_EARLY && a.offset == 0, "load, NULL");
+    want(tnb_rest(NULL, 0) == 0, "rest, NULL");
+    want(tnb_write(s, 0, NULL, 0).number == TNB_OUTPUT_TOO_SHORT, "write, NULL");
+    want(tnb_carry(s, 0, NULL, 0, NULL, 0).number == TNB_BAD_LIST, "carry, NULL");
+    want(tnb_carry(s, 0, list, 6, NULL, 0).number == TNB_OUTPUT_TOO_SHORT, "carry, NULL for room");
+    want(tnb_reversals(NULL, 0).number == TNB_BAD_LIST, "reversals, NULL");
+}
+
+/* memory that never was a shelf */
+static void foreign(void)
+{
+    tnb_shelf s;
+    int64_t out[6] = {0};
+    memset(&s, 0xff, sizeof s);
+    tnb_answer a = tnb_drop(s, 0);
+    want(a.number == TNB_FOREIGN_SHELF && memcmp(&a.shelf, &s, sizeof s) == 0, "foreign shelf");
+    want(tnb_minor(s, 1, 1, 1).number == TNB_FOREIGN_SHELF && tnb_carry(s, 0, list, 6, out, 6).number == TNB_FOREIGN_SHELF, "foreign shelf");
+    want(tnb_rows(s, 0).number == TNB_FOREIGN_SHELF && tnb_rows(s, 0).length == 0, "rows, foreign shelf");
+    want(tnb_factor(s, 0, 1, 1).number == TNB_FOREIGN_SHELF && tnb_factor(s, 0, 1, 1).mantissa == 0, "factor, foreign shelf");
+}
+
+int main(void)
+{
+    tnb_shelf s = tnb_new();
+    s = accepted(tnb_load(s, 0, two, 13), 0, "load");
+    s = accepted(tnb_load(s, 1, three, sizeof three), 0, "load");
+    want(tnb_load(s, 2, two, 14).number == TNB_BYTES_BEHIND_MATRIX && tnb_load(s, 2, two, 14).offset == 13, "load, bytes behind");
+    want(tnb_rest(two, 14) == 1 && tnb_rest(two, 5) == 5, "rest");
+    s = operations(s);
+    reading(s);
+    lists(s);
+    writing(s);
+    null(s);
+    foreign();
     printf("calls: all as in document 01\n");
     return 0;
 }

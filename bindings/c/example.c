@@ -1,15 +1,16 @@
 /* Loads two matrices, multiplies them, prints the product's factors and its bytes; then shows a refusal. */
 #include "beechcrib.h"
 #include <stdio.h>
+#include <string.h>
 
 /* n = 2, all factors one */
 static const uint8_t ones[] = {0x02, 0xca, 0x07, 0x00, 0xca, 0x07, 0x00, 0xca, 0x07, 0x00, 0xca, 0x07, 0x00};
 
 static int refused(uint8_t number, size_t offset)
 {
-    if (number != 0)
+    if (number != TNB_ACCEPTED)
         printf("refused %d at %zu\n", number, offset);
-    return number != 0;
+    return number != TNB_ACCEPTED;
 }
 
 int main(void)
@@ -27,12 +28,12 @@ int main(void)
         return 1;
     shelf = a.shelf;
 
-    int n = shelf.sizes[2];
-    printf("%d rows, within %u unit roundings\n", n, a.bound);
-    for (int i = 1; i <= n; i++)
-        for (int j = 1; j <= n; j++) {
-            tnb_number b = shelf.numbers[2 * 64 + (i - 1) * 8 + (j - 1)];
-            printf("%d %d %llu %lld\n", i, j, (unsigned long long)b.m, (long long)b.x - 4194304);
+    size_t n = tnb_rows(shelf, 2).length;
+    printf("%zu rows, within %u unit roundings\n", n, a.bound);
+    for (size_t i = 1; i <= n; i++)
+        for (size_t j = 1; j <= n; j++) {
+            tnb_value b = tnb_factor(shelf, 2, i, j);
+            printf("%zu %zu %llu %lld\n", i, j, (unsigned long long)b.mantissa, (long long)b.exponent);
         }
 
     uint8_t bytes[449];
@@ -47,10 +48,10 @@ int main(void)
     /* a refusal: the last byte is missing, and the shelf stays as it was */
     a = tnb_load(shelf, 3, ones, sizeof ones - 1);
     refused(a.number, a.offset);
-    printf("place 3 holds %d rows\n", a.shelf.sizes[3]);
+    printf("place 3 holds %zu rows\n", tnb_rows(a.shelf, 3).length);
 
     /* a shelf that this library did not make */
-    shelf.sizes[0] = 9;
+    memset(&shelf, 0xff, sizeof shelf);
     w = tnb_write(shelf, 2, bytes, sizeof bytes);
     refused(w.number, w.offset);
     return 0;

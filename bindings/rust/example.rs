@@ -1,18 +1,11 @@
 // Loads two matrices, multiplies them, prints the product's factors and its bytes; then shows a refusal.
 use std::process::exit;
 
-#[repr(C)]
-#[derive(Clone, Copy)]
-pub struct Number {
-    pub m: u64,
-    pub x: u64,
-}
-
+// Private to the library; size and alignment are those of `tnb_shelf` in include/beechcrib.h.
 #[repr(C)]
 #[derive(Clone, Copy)]
 pub struct Shelf {
-    pub numbers: [Number; 512],
-    pub sizes: [u8; 8],
+    private: [u64; 1025],
 }
 
 #[repr(C)]
@@ -30,12 +23,22 @@ pub struct Length {
     pub length: usize,
 }
 
+#[repr(C)]
+pub struct Value {
+    pub number: u8,
+    pub offset: usize,
+    pub mantissa: u64,
+    pub exponent: i64,
+}
+
 // A slice crosses the border as a pointer and a length.
 extern "C" {
     fn tnb_new() -> Shelf;
     fn tnb_load(shelf: Shelf, place: usize, bytes: *const u8, count: usize) -> Answer;
     fn tnb_product(shelf: Shelf, left: usize, right: usize, target: usize) -> Answer;
     fn tnb_write(shelf: Shelf, place: usize, out: *mut u8, room: usize) -> Length;
+    fn tnb_rows(shelf: Shelf, place: usize) -> Length;
+    fn tnb_factor(shelf: Shelf, place: usize, i: usize, j: usize) -> Value;
 }
 
 // What turned a call down.
@@ -71,6 +74,17 @@ fn write(shelf: Shelf, place: usize, out: &mut [u8]) -> Result<usize, Refusal> {
     }
 }
 
+// The rows of a place, 0 where it is empty.
+fn rows(shelf: Shelf, place: usize) -> usize {
+    unsafe { tnb_rows(shelf, place) }.length
+}
+
+// Mantissa and exponent of the factor of row i and column j.
+fn factor(shelf: Shelf, place: usize, i: usize, j: usize) -> (u64, i64) {
+    let b = unsafe { tnb_factor(shelf, place, i, j) };
+    (b.mantissa, b.exponent)
+}
+
 fn say(why: &Refusal) {
     println!("refused {} at {}", why.number, why.offset);
 }
@@ -84,7 +98,7 @@ fn multiplied(ones: &[u8]) -> Result<(Shelf, u32), Refusal> {
 fn main() {
     // n = 2, all factors one
     let ones = [0x02, 0xca, 0x07, 0x00, 0xca, 0x07, 0x00, 0xca, 0x07, 0x00, 0xca, 0x07, 0x00];
-    let (mut shelf, bound) = match multiplied(&ones) {
+    let (shelf, bound) = match multiplied(&ones) {
         Ok(r) => r,
         Err(why) => {
             say(&why);
@@ -92,12 +106,12 @@ fn main() {
         }
     };
 
-    let n = shelf.sizes[2] as usize;
+    let n = rows(shelf, 2);
     println!("{} rows, within {} unit roundings", n, bound);
     for i in 1..=n {
         for j in 1..=n {
-            let b = shelf.numbers[2 * 64 + (i - 1) * 8 + (j - 1)];
-            println!("{} {} {} {}", i, j, b.m, b.x as i64 - 4194304);
+            let (mantissa, exponent) = factor(shelf, 2, i, j);
+            println!("{} {} {} {}", i, j, mantissa, exponent);
         }
     }
 
@@ -117,11 +131,11 @@ fn main() {
     if let Err(why) = load(shelf, 3, &ones[..ones.len() - 1]) {
         say(&why);
     }
-    println!("place 3 holds {} rows", shelf.sizes[3]);
+    println!("place 3 holds {} rows", rows(shelf, 3));
 
     // a shelf that this library did not make
-    shelf.sizes[0] = 9;
-    if let Err(why) = write(shelf, 2, &mut bytes) {
+    let foreign = Shelf { private: [u64::MAX; 1025] };
+    if let Err(why) = write(foreign, 2, &mut bytes) {
         say(&why);
     }
 }

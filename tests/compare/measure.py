@@ -1,13 +1,14 @@
 """How far rounded factors lie from the exact run: the largest distance seen, by operation and size, in unit roundings.
 
-Measure: sources, their operations as request lines, and the worst seen. Half of the tries change a number or two of the
-worst source so far. read_table, write_table: the figures beside the bounds, as comma-separated values. merged: the largest of
-earlier runs and this one.
+Measure: sources, their operations as request lines, and the worst seen. Every operation and size gets equally many accepted cases.
+Half of the tries change a number or two of the worst source so far. read_table, write_table: the figures beside the bounds, as
+comma-separated values. merged: the largest of earlier runs and this one.
 """
 import csv
 import os
 import random
-from collections import namedtuple
+from collections import Counter, namedtuple
+from itertools import product
 
 from console_model import text_of_bytes
 from encoding import encode
@@ -18,23 +19,21 @@ from words import Matrix, bound
 
 Row = namedtuple("Row", "operation n bound largest cases")
 OPERATIONS = ("product", "inverse", "converse", "submatrix")
-# Tries of each size in one round: the exact run of eight rows costs about as much as five hundred of two.
-TRIES = (3, 12, 16, 16, 12, 10, 6, 4)
 
 
 class Measure:
-    def __init__(self, seed):
+    def __init__(self, seed, cases):
         self.rng = random.Random(f"measure {seed}")
-        self.worst, self.cases = {}, {}
-        self.turns = self.all_turns()
+        self.worst, self.cases = {}, Counter()
+        self.turns, self.done = self.all_turns(cases), False
 
-    @staticmethod
-    def all_turns():
-        while True:
-            for n, tries in enumerate(TRIES, 1):
-                for _ in range(tries):
-                    for kind in OPERATIONS:
-                        yield kind, n
+    def all_turns(self, cases):
+        """Round by round each operation and size once; one that is refused is tried again with other sources."""
+        for made in range(cases):
+            for kind, n in product(OPERATIONS, range(1, 9)):
+                while self.cases[kind, n] == made:
+                    yield kind, n
+        self.done = True
 
     def changed(self, source):
         factors = list(source.factors)
@@ -70,7 +69,7 @@ class Measure:
     def note(self, kind, sources, sets, result):
         n = sources[0].n
         error = largest_units(kind, sources, result, *sets)
-        self.cases[kind, n] = self.cases.get((kind, n), 0) + 1
+        self.cases[kind, n] += 1
         if (kind, n) not in self.worst or error > self.worst[kind, n][0]:
             self.worst[kind, n] = (error, sources, sets)
 

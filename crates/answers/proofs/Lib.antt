@@ -1,4 +1,5 @@
 -- Laws that belong to no one function.
+pub mod Reports
 pub mod Turns
 pub mod Lists
 pub mod Places

@@ -10,7 +10,7 @@ use lib.Seq.{drop-cons}
 use Rattle.lines.specs.Ascii.{ascii}
 use Rattle.lines.specs.Text.{Puts}
 use Rattle.lines.proofs.Text.{Left, left-all, left-none, left-behind}
-use Rattle.answers.specs.Items.{itemAt, moreItems, itemsText}
+use Rattle.answers.specs.Items.{itemTextAt, moreItems, itemsText}
 
 pub items-none : (L : List ℤ) → length L < 3 → itemsText L ≡ ascii "-"
 unfolding itemsText
@@ -19,7 +19,7 @@ items-none (s ∷ []) h = refl
 items-none (s ∷ m ∷ []) h = refl
 items-none (s ∷ m ∷ e ∷ z) h = absurd (omega arith)
 
-pub items-some : (L : List ℤ) → 3 ≤ length L → itemsText L ≡ itemAt L 0 ++ moreItems (drop 3 L)
+pub items-some : (L : List ℤ) → 3 ≤ length L → itemsText L ≡ itemTextAt L 0 ++ moreItems (drop 3 L)
 unfolding itemsText
 items-some [] h = absurd (omega arith)
 items-some (s ∷ []) h = absurd (omega arith)
@@ -42,7 +42,7 @@ module _ (L : List ℤ) (k : ℕ) (h : k + 2 < length L) where
       let d : k + 2 ≡ suc (k + 1) = omega arith in
       rw (drop-cons L k (pos 0) a, ← add-one k, drop-cons L (k + 1) (pos 0) b, ← d, drop-cons L (k + 2) (pos 0) h, e)
 
-  more-at : moreItems (drop k L) ≡ ascii " " ++ (itemAt L k ++ moreItems (drop (k + 3) L))
+  more-at : moreItems (drop k L) ≡ ascii " " ++ (itemTextAt L k ++ moreItems (drop (k + 3) L))
   unfolding moreItems
   more-at = rw three
 
@@ -60,5 +60,6 @@ module _ {L : List ℤ} {out₀ : List ℕ} {at : ℕ} {out : List ℕ} {to k : 
       let few : length (drop k L) < 3 = simp length-drop h in
       left-none (rw (more-none (drop k L) few) at (p .left))
 
-  pub listed-more : {out′ out″ : List ℕ} {to′ to″ : ℕ} → 3 ≤ length L - k → Puts out to (ascii " ") out′ to′ → Puts out′ to′ (itemAt L k) out″ to″ → Listed L out₀ at out″ to″ (k + 3)
+  pub listed-more : {out′ out″ : List ℕ} {to′ to″ : ℕ} → 3 ≤ length L - k → Puts out to (ascii " ") out′ to′ → Puts out′ to′ (itemTextAt L k) out″ to″
+      → Listed L out₀ at out″ to″ (k + 3)
   listed-more h q r = record { within = omega (arith, p); left = left-behind (left-behind (rw (more-at L k (omega arith)) at (p .left)) q) r }

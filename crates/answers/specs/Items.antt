@@ -11,8 +11,8 @@ unfoldable pub itemText : (sign mantissa exponent : ℤ) → List ℕ
 itemText s m e = integerText s ++ (ascii "," ++ (integerText m ++ (ascii "," ++ integerText e)))
 
 -- the item whose numbers stand from index k on
-abbrev pub itemAt : List ℤ → ℕ → List ℕ
-itemAt L k = itemText (getD L k (pos 0)) (getD L (k + 1) (pos 0)) (getD L (k + 2) (pos 0))
+abbrev pub itemTextAt : List ℤ → ℕ → List ℕ
+itemTextAt L k = itemText (getD L k (pos 0)) (getD L (k + 1) (pos 0)) (getD L (k + 2) (pos 0))
 
 -- the items behind another one
 unfoldable pub moreItems : List ℤ → List ℕ
@@ -26,3 +26,7 @@ itemsText [] = ascii "-"
 itemsText (s ∷ []) = ascii "-"
 itemsText (s ∷ m ∷ []) = ascii "-"
 itemsText (s ∷ m ∷ e ∷ z) = itemText s m e ++ moreItems z
+
+-- a text, and items behind it
+abbrev pub withItems : List ℕ → List ℤ → List ℕ
+withItems text items = text ++ (ascii " " ++ itemsText items)

@@ -2,7 +2,7 @@
 ghost use Prim.Native.Nat.{_+_, _<_};
 ghost use lib.ListN.{length};
 ghost use Rattle.lines.specs.Text.{Puts};
-ghost use Rattle.answers.specs.Items.{itemText, itemAt, moreItems, itemsText};
+ghost use Rattle.answers.specs.Items.{itemText, itemTextAt, moreItems, itemsText};
 use crate::put_integer;
 
 // An item.
@@ -19,7 +19,7 @@ fn put_item(out: &mut [u8], at: usize, sign: i64, mantissa: i64, exponent: i64) 
 // The item whose numbers stand from an index of the list on.
 fn put_item_at(out: &mut [u8], at: usize, list: &[i64], k: usize) -> usize
     requires { ⌜ k + 2 < length (now list) ⌝ }
-    ensures { λ r. ⌜ Puts (now (out .entry)) at (itemAt (now (list .entry)) k) (now (out .exit)) r ⌝ }
+    ensures { λ r. ⌜ Puts (now (out .entry)) at (itemTextAt (now (list .entry)) k) (now (out .exit)) r ⌝ }
 {
     let sign = list[k];
     let mantissa = list[k + 1];

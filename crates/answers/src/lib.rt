@@ -1,8 +1,14 @@
-// Answer lines, put into a buffer: numbers, refusals, and the answers of the calls.
-ghost use mathlib.Core.List.{_++_};
+// Answer lines, put into a buffer: numbers, refusals, and the answers of the calls by what they report.
+ghost use mathlib.Core.List.{_++_, [], _∷_};
+ghost use lib.IntN.{pos};
+ghost use Rattle.lines.specs.Ascii.{ascii};
 ghost use Rattle.lines.specs.Text.{Puts, decimal};
-ghost use Rattle.answers.specs.Answers.{integerText, numberText, refusalText, verdictText, boundedText, writtenText, valuedText, reversalsText, restText, badText};
-use lists::whole;
+ghost use Rattle.verdict.specs.Report.{accepted, verdictReport};
+ghost use Rattle.writer.specs.Encoding.{writtenReport};
+ghost use Rattle.lists.specs.Lists.{reversalsReport};
+ghost use Rattle.operations.specs.Reports.{boundedReport, valuedReport};
+ghost use Rattle.answers.specs.Answers.{integerText, valuesText, refusalText, reportText, withBytes, badText};
+use number::integer;
 use shelf::Bounded;
 use shelf::Refusal;
 use shelf::Reversals;
@@ -21,21 +27,29 @@ pub use matrix::put_place;
 pub fn put_integer(out: &mut [u8], at: usize, x: i64) -> usize
     ensures { λ r. ⌜ Puts (now (out .entry)) at (integerText x) (now (out .exit)) r ⌝ }
 {
-    lines::put_signed(out, at, whole::is_negative(x), whole::magnitude(x))
+    lines::put_signed(out, at, integer::is_negative(x), integer::magnitude(x))
 }
 
-// Mantissa and exponent, with a space between them.
-pub fn put_number(out: &mut [u8], at: usize, mantissa: u64, exponent: i64) -> usize
-    ensures { λ r. ⌜ Puts (now (out .entry)) at (numberText mantissa exponent) (now (out .exit)) r ⌝ }
+// A number behind a space.
+fn put_value(out: &mut [u8], at: usize, n: u64) -> usize
+    ensures { λ r. ⌜ Puts (now (out .entry)) at (ascii " " ++ decimal n) (now (out .exit)) r ⌝ }
 {
-    let space = lines::put_whole(out, at, mantissa);
+    let number = lines::put(out, at, b" ");
+    lines::put_whole(out, number, n)
+}
+
+// Mantissa and exponent, each behind a space.
+pub fn put_number(out: &mut [u8], at: usize, mantissa: u64, exponent: i64) -> usize
+    ensures { λ r. ⌜ Puts (now (out .entry)) at (valuesText (pos mantissa ∷ exponent ∷ [])) (now (out .exit)) r ⌝ }
+{
+    let space = put_value(out, at, mantissa);
     let second = lines::put(out, space, b" ");
     put_integer(out, second, exponent)
 }
 
 // `refused N at O`.
 pub fn put_refusal(out: &mut [u8], at: usize, why: Refusal) -> usize
-    ensures { λ r. ⌜ Puts (now (out .entry)) at (refusalText why) (now (out .exit)) r ⌝ }
+    ensures { λ r. ⌜ Puts (now (out .entry)) at (refusalText (why .number) (why .offset)) (now (out .exit)) r ⌝ }
 {
     let number = lines::put(out, at, b"refused ");
     let middle = lines::put_whole(out, number, why.number as u64);
@@ -44,61 +58,61 @@ pub fn put_refusal(out: &mut [u8], at: usize, why: Refusal) -> usize
 }
 
 // A call that answers no more than a word where it was accepted.
-pub fn put_verdict(out: &mut [u8], at: usize, verdict: Verdict, done: &[u8]) -> usize
-    ensures { λ r. ⌜ Puts (now (out .entry)) at (verdictText (now (done .entry)) verdict) (now (out .exit)) r ⌝ }
+pub fn put_verdict(out: &mut [u8], at: usize, verdict: Verdict, word: &[u8]) -> usize
+    ensures { λ r. ⌜ Puts (now (out .entry)) at (reportText (now (word .entry)) (verdictReport verdict)) (now (out .exit)) r ⌝ }
 {
     match verdict {
-        Verdict::Accepted => lines::put(out, at, done),
+        Verdict::Accepted => lines::put(out, at, word),
         Verdict::Refused(why) => put_refusal(out, at, why),
     }
 }
 
-// A number behind a word.
+// A call that returned a number.
 fn put_count(out: &mut [u8], at: usize, word: &[u8], n: u64) -> usize
-    ensures { λ r. ⌜ Puts (now (out .entry)) at (now (word .entry) ++ decimal n) (now (out .exit)) r ⌝ }
+    ensures { λ r. ⌜ Puts (now (out .entry)) at (reportText (now (word .entry)) (accepted (pos n ∷ []))) (now (out .exit)) r ⌝ }
 {
-    let number = lines::put(out, at, word);
-    lines::put_whole(out, number, n)
+    let space = lines::put(out, at, word);
+    put_value(out, space, n)
 }
 
 // `bound K`.
 pub fn put_bounded(out: &mut [u8], at: usize, answer: Bounded) -> usize
-    ensures { λ r. ⌜ Puts (now (out .entry)) at (boundedText answer) (now (out .exit)) r ⌝ }
+    ensures { λ r. ⌜ Puts (now (out .entry)) at (reportText (ascii "bound") (boundedReport answer)) (now (out .exit)) r ⌝ }
 {
     match answer {
-        Bounded::Bound(k) => put_count(out, at, b"bound ", k as u64),
+        Bounded::Bound(k) => put_count(out, at, b"bound", k as u64),
         Bounded::Refused(why) => put_refusal(out, at, why),
     }
 }
 
 // `wrote N`.
 pub fn put_written(out: &mut [u8], at: usize, answer: Written) -> usize
-    ensures { λ r. ⌜ Puts (now (out .entry)) at (writtenText answer) (now (out .exit)) r ⌝ }
+    ensures { λ r. ⌜ Puts (now (out .entry)) at (reportText (ascii "wrote") (writtenReport answer)) (now (out .exit)) r ⌝ }
 {
     match answer {
-        Written::Length(n) => put_count(out, at, b"wrote ", n as u64),
+        Written::Length(n) => put_count(out, at, b"wrote", n as u64),
         Written::Refused(why) => put_refusal(out, at, why),
     }
 }
 
 // `reversals N`.
 pub fn put_reversals(out: &mut [u8], at: usize, answer: Reversals) -> usize
-    ensures { λ r. ⌜ Puts (now (out .entry)) at (reversalsText answer) (now (out .exit)) r ⌝ }
+    ensures { λ r. ⌜ Puts (now (out .entry)) at (reportText (ascii "reversals") (reversalsReport answer)) (now (out .exit)) r ⌝ }
 {
     match answer {
-        Reversals::Count(n) => put_count(out, at, b"reversals ", n),
+        Reversals::Count(n) => put_count(out, at, b"reversals", n),
         Reversals::Refused(why) => put_refusal(out, at, why),
     }
 }
 
 // `number M E`.
 pub fn put_valued(out: &mut [u8], at: usize, answer: Valued) -> usize
-    ensures { λ r. ⌜ Puts (now (out .entry)) at (valuedText answer) (now (out .exit)) r ⌝ }
+    ensures { λ r. ⌜ Puts (now (out .entry)) at (reportText (ascii "number") (valuedReport answer)) (now (out .exit)) r ⌝ }
 {
     match answer {
         Valued::Value { mantissa, exponent } => {
-            let number = lines::put(out, at, b"number ");
-            put_number(out, number, mantissa, exponent)
+            let space = lines::put(out, at, b"number");
+            put_number(out, space, mantissa, exponent)
         }
         Valued::Refused(why) => put_refusal(out, at, why),
     }
@@ -106,7 +120,7 @@ pub fn put_valued(out: &mut [u8], at: usize, answer: Valued) -> usize
 
 // `rest BYTES`.
 pub fn put_rest(out: &mut [u8], at: usize, bytes: &[u8]) -> usize
-    ensures { λ r. ⌜ Puts (now (out .entry)) at (restText (now (bytes .entry))) (now (out .exit)) r ⌝ }
+    ensures { λ r. ⌜ Puts (now (out .entry)) at (withBytes (reportText (ascii "rest") (accepted [])) (now (bytes .entry))) (now (out .exit)) r ⌝ }
 {
     let part = lines::put(out, at, b"rest ");
     lines::put_bytes(out, part, bytes)

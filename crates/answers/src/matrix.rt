@@ -1,7 +1,10 @@
 // What a place of the shelf holds.
 ghost use Rattle.lines.specs.Text.{Puts};
 ghost use Rattle.places.specs.Shelf.{Good};
-ghost use Rattle.answers.specs.Matrix.{factorText, rowText, factorsText, placeText};
+ghost use mathlib.Core.List.{[]};
+ghost use Rattle.shelf.specs.Reports.{factorReport};
+ghost use Rattle.answers.specs.Answers.{reportText};
+ghost use Rattle.answers.specs.Matrix.{rowText, factorsText, placeText};
 use crate::put_count;
 use crate::put_number;
 use shelf::Factor;
@@ -9,10 +12,9 @@ use shelf::Shelf;
 
 // A factor, behind a space.
 pub fn put_factor(out: &mut [u8], at: usize, factor: Factor) -> usize
-    ensures { λ r. ⌜ Puts (now (out .entry)) at (factorText factor) (now (out .exit)) r ⌝ }
+    ensures { λ r. ⌜ Puts (now (out .entry)) at (reportText [] (factorReport factor)) (now (out .exit)) r ⌝ }
 {
-    let number = lines::put(out, at, b" ");
-    put_number(out, number, factor.mantissa, factor.exponent)
+    put_number(out, at, factor.mantissa, factor.exponent)
 }
 
 // The factors of row i.
@@ -52,6 +54,6 @@ pub fn put_place(out: &mut [u8], at: usize, shelf: Shelf, place: usize) -> usize
     if n == 0 {
         return lines::put(out, at, b"empty");
     }
-    let first = put_count(out, at, b"matrix ", n as u64);
+    let first = put_count(out, at, b"matrix", n as u64);
     put_factors(out, first, shelf, place, n)
 }

@@ -1,6 +1,6 @@
--- THE ERROR OF A RUN: a letter E or Et rounds twice, an entry of D once (near-related); so minors (minor-near) and new factors (factor-near).
+-- THE ERROR OF A RUN: a letter E or Et rounds twice, an entry of D once (near-related); new factors of minors that are near are near (factor-near).
 -- A letter's own error c is a parameter: 0 for a stored number taken as exact.
-use mathlib.Core.Path.{_≡_, refl}
+use mathlib.Core.Path.{_≡_}
 use Prim.Native.Nat.{ℕ, _+_, _*_, _≤_, _<_}
 use native.Mathlib.Omega.{arith}
 use lib.ListN.{length}
@@ -9,12 +9,10 @@ use Rattle.fraction.proofs.Fraction.{product-positive}
 use Rattle.number.specs.declared.Number.{Number}
 use Rattle.number.specs.Number.{bias, rounded}
 use Rattle.words.specs.RowSet.{RowSet, count}
-use Rattle.words.specs.Word.{Word}
-use Rattle.words.specs.Walk.{minor}
-use Rattle.words.specs.Formula.{newFactor}
-use Rattle.words.proofs.Related.{Related, Matched, Letters, total, letterCost, after, after-measure, minor-related}
+use Rattle.words.specs.Formula.{justBefore, newFactor}
+use Rattle.words.proofs.Related.{Related}
 use Rattle.words.proofs.Formulas.{newFactor-related}
-use Rattle.factors.proofs.Near.{Near, near-more, near-zero, near-one, near-sum, near-product, near-quotient}
+use Rattle.factors.proofs.Near.{Near, near-more, near-sum, near-product, near-quotient}
 
 -- THE GRADES: k unit roundings so far, exponents from -r to r
 abbrev pub Grade : Type 0
@@ -65,29 +63,11 @@ module _ (c : ℕ) where
     rel-over = λ g x e y f h k room. near-more (omega arith) (omega arith) (near-quotient (h (omega arith)) (k .0) (k .1) (omega arith));
   }
 
-  module _ (n : ℕ) where
-    -- the grades after a word, and where the exponents have room after it
-    abbrev pub roundings : Word Number → ℕ
-    roundings W = total (letterCost (2 + c) (n * (1 + c))) W
-
-    abbrev pub exponents : Word Number → ℕ
-    exponents W = 31 + total (letterCost 1035 (n * 1035)) W
-
-    -- A MINOR of words whose letters are near
-    pub minor-near : (W : Word Number) (X : Word Fraction) → Matched (Letters (NearWeight c) (NearEntry c) n) W X → Room (exponents W) → (I J : RowSet) → length I ≡ n
-        → Near (roundings W) (exponents W) (minor rounded W I J) (minor exact X I J)
-    minor-near W X h room I J i =
-        let e : after rounded exact Grade NearBy near-related n W (0, 31) .0 ≡ 0 + roundings W =
-        after-measure rounded exact Grade NearBy near-related n (λ g. g .0) (2 + c) (1 + c) (λ g. refl) (λ g. refl) W (0, 31) in
-        let f : after rounded exact Grade NearBy near-related n W (0, 31) .1 ≡ exponents W =
-        after-measure rounded exact Grade NearBy near-related n (λ g. g .1) 1035 1035 (λ g. refl) (λ g. refl) W (0, 31) in
-        near-more (omega arith) (omega arith)
-        (minor-related rounded exact Grade NearBy near-related n W X h (0, 31) (λ r. near-zero 31) (λ r. near-one) I J i (omega arith))
-
 -- NEW FACTORS of minors within κ, the exact ones positive: four minors, two products and a quotient
 pub factor-near : (κ r k : ℕ) → 4 * r + 194 ≤ bias → (M : RowSet → RowSet → Number) (N : RowSet → RowSet → Fraction)
     → ((I J : RowSet) → length I ≡ k → length J ≡ k → count I ≡ count J → Near κ r (M I J) (N I J) × (0 < N I J .top))
-    → (i j : ℕ) → 1 ≤ i → i ≤ k → 1 ≤ j → j ≤ k → Near (4 * κ + 3) (4 * r + 98) (newFactor rounded k M i j) (newFactor exact k N i j)
+    → (i j : ℕ) → 1 ≤ i → i ≤ k → 1 ≤ j → j ≤ k
+    → Near (4 * κ + 3) (4 * r + 98) (newFactor rounded k (justBefore k) M i j) (newFactor exact k (justBefore k) N i j)
 factor-near κ r k room M N h i j a b c d =
     newFactor-related rounded exact k
     (λ x y. Near κ r x y × (0 < y .top)) (λ x y. Near (κ + κ + 1) (r + r + 33) x y × (0 < y .top)) (λ x y. Near (4 * κ + 3) (4 * r + 98) x y)

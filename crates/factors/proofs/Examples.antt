@@ -1,33 +1,34 @@
--- Document 01's all-ones product of two rows: the exact run answers 2, 3/2, 3/2, 1/2 (exact-examples), and so does the rounded run (rounded-examples), by computing.
--- Its sources are stored, so that demand 3 holds of it (ones-demand).
+-- Document 01's all-ones product of two rows: the exact run answers 2, 3/2, 3/2, 1/2 (exact-examples), and so does the rounded run (rounded-examples), by
+-- computing. Its sources are stored, so that demand 3 holds of it (ones-demand).
 use mathlib.Core.Path.{refl}
 use native.Mathlib.Omega.{arith}
 use lib.Ieee.{size}
-use Rattle.number.specs.Number.{oneNumber, round, carried, sumOf, productOf, quotientOf, value, Stored}
+use Rattle.number.specs.Number.{oneNumber, round, renormalised, sumOf, productOf, quotientOf, value, Stored}
 use Rattle.number.specs.Examples.{AllHold}
 use Rattle.words.specs.RowSet.{has, put, count, equal, rows, among}
 use Rattle.words.specs.Word.{ascending, descending, word}
 use Rattle.words.specs.Walk.{oneAt, moved, scaled, act, walk, minor}
 use Rattle.words.specs.Formula.{onDiagonal, belowDiagonal, newFactor}
-use Rattle.words.specs.Operation.{joinedWord, refactored}
+use Rattle.words.specs.Operation.{joinedWord, result}
 use Rattle.factors.specs.Demand.{Proper, Demand}
 use Rattle.factors.specs.Examples.{onesProduct, exactTable, roundedTable}
 use Rattle.factors.proofs.Demanded.{demand}
 
 pub exact-examples : AllHold exactTable
-unfolding exactTable has put count equal rows among ascending descending word joinedWord oneAt moved scaled act walk minor onDiagonal belowDiagonal newFactor refactored value
+unfolding exactTable has put count equal rows among ascending descending word joinedWord oneAt moved scaled act walk minor onDiagonal belowDiagonal newFactor
+    result value
 exact-examples = (refl, (refl, (refl, (refl, tt))))
 
 pub rounded-examples : AllHold roundedTable
-unfolding roundedTable has put count equal rows among ascending descending word joinedWord oneAt moved scaled act walk minor onDiagonal belowDiagonal newFactor refactored
-    value round carried sumOf productOf quotientOf size lib.Ieee.span lib.Ieee.climb
+unfolding roundedTable has put count equal rows among ascending descending word joinedWord oneAt moved scaled act walk minor onDiagonal belowDiagonal newFactor
+    result value round renormalised sumOf productOf quotientOf size lib.Ieee.span lib.Ieee.climb
 rounded-examples = (refl, (refl, (refl, (refl, tt))))
 
 one-stored : Stored oneNumber
 one-stored = record { low = omega arith; high = omega arith; start = omega arith; stop = omega arith }
 
 pub ones-stored : Proper Stored 2 onesProduct
-ones-stored = (λ i j x y. one-stored, λ i j x y. one-stored)
+ones-stored = record { sources = (λ i j x y. one-stored, (λ i j x y. one-stored, tt)); fit = omega arith }
 
 pub ones-demand : Demand 2 onesProduct
-ones-demand = demand 2 onesProduct (omega arith) (omega arith) ones-stored
+ones-demand = demand 2 onesProduct (omega arith) (omega arith) (omega arith) ones-stored

@@ -1,4 +1,4 @@
-pub mod Refactored
+pub mod Result
 pub mod Exact
 pub mod Requested
 pub mod Near

@@ -1,7 +1,8 @@
--- A rounded number near a fraction: its exponent in range and the two within k unit roundings. Laws: near-sum, near-product, near-quotient. Zero is near zero only.
+-- A rounded number near a fraction: its exponent in range and the two within k unit roundings. Laws: near-sum, near-product, near-quotient. Zero is near zero
+-- only.
 use Prim.Native.Nat.{ℕ, _+_, _≤_, _<_}
 use native.Mathlib.Omega.{arith}
-use Rattle.fraction.specs.Fraction.{Fraction, whole, sum, product, quotient}
+use Rattle.fraction.specs.Fraction.{Fraction, natural, fractionSum, fractionProduct, fractionQuotient}
 use Rattle.fraction.specs.Within.{Within}
 use Rattle.fraction.proofs.Within.{within-refl, within-same, within-trans, within-mono, within-sum, within-mul, within-div, within-positive}
 use Rattle.number.specs.declared.Number.{Number}
@@ -21,24 +22,26 @@ pub near-positive : {k r : ℕ} {x : Number} {y : Fraction} → Near k r x y →
 near-positive {k} {r} {x} u h = value-positive x .1 (within-positive (u .within) h)
 
 -- THE START: zero, one, and a stored number with the fraction that it stands for
-pub near-zero : (r : ℕ) → Near 0 r zeroNumber (whole 0)
-near-zero r = record { ranged = ranged-zero r; within = within-same (value zeroNumber) (whole 0) value-zero }
+pub near-zero : (r : ℕ) → Near 0 r zeroNumber (natural 0)
+near-zero r = record { ranged = ranged-zero r; within = within-same (value zeroNumber) (natural 0) value-zero }
 
-pub near-one : Near 0 31 oneNumber (whole 1)
-near-one = record { ranged = ranged-one; within = within-same (value oneNumber) (whole 1) value-one }
+pub near-one : Near 0 31 oneNumber (natural 1)
+near-one = record { ranged = ranged-one; within = within-same (value oneNumber) (natural 1) value-one }
 
 pub near-stored : {a : Number} → Stored a → Near 0 1000 a (value a)
 near-stored {a} s = record { ranged = ranged-stored s; within = within-refl (value a) }
 
 -- EACH OPERATION, rounded once
-pub near-sum : {k r : ℕ} {x x′ : Number} {y y′ : Fraction} → Near k r x y → Near k r x′ y′ → r + r + 64 ≤ bias → Near (k + 1) (r + 2) (sumOf x x′) (sum y y′)
+pub near-sum : {k r : ℕ} {x x′ : Number} {y y′ : Fraction} → Near k r x y → Near k r x′ y′ → r + r + 64 ≤ bias
+    → Near (k + 1) (r + 2) (sumOf x x′) (fractionSum y y′)
 near-sum {k} {r} u v h =
     record {
       ranged = ranged-sum (u .ranged) (v .ranged) (omega arith);
       within = within-mono (omega arith) (within-trans (sum-within (u .ranged) (v .ranged) (omega arith)) (within-sum (u .within) (v .within)));
     }
 
-pub near-product : {j k r s : ℕ} {x x′ : Number} {y y′ : Fraction} → Near j r x y → Near k s x′ y′ → r + s + 64 ≤ bias → Near (j + k + 1) (r + s + 33) (productOf x x′) (product y y′)
+pub near-product : {j k r s : ℕ} {x x′ : Number} {y y′ : Fraction} → Near j r x y → Near k s x′ y′ → r + s + 64 ≤ bias
+    → Near (j + k + 1) (r + s + 33) (productOf x x′) (fractionProduct y y′)
 near-product {j} {k} u v h =
     record {
       ranged = ranged-product (u .ranged) (v .ranged) h;
@@ -46,10 +49,11 @@ near-product {j} {k} u v h =
     }
 
 pub near-quotient : {j k r s : ℕ} {x x′ : Number} {y y′ : Fraction} → Near j r x y → Near k s x′ y′ → 0 < y′ .top → r + s + 64 ≤ bias
-    → Near (j + k + 1) (r + s + 32) (quotientOf x x′) (quotient y y′)
+    → Near (j + k + 1) (r + s + 32) (quotientOf x x′) (fractionQuotient y y′)
 near-quotient {j} {k} {r} {s} {x} {x′} u v p h =
     let m : 0 < x′ .m = near-positive v p in
     record {
       ranged = ranged-quotient (u .ranged) (v .ranged) h m;
-      within = within-mono (omega arith) (within-trans (quotient-within (u .ranged) (v .ranged) h m) (within-div (u .within) (v .within) (value-positive x′ .0 m)));
+      within =
+          within-mono (omega arith) (within-trans (quotient-within (u .ranged) (v .ranged) h m) (within-div (u .within) (v .within) (value-positive x′ .0 m)));
     }

@@ -1,27 +1,28 @@
--- THE REQUESTED MATRIX is one matrix (requested-same, multiplied-same), and the exact factors of product, re-signed inverse, converse and submatrix multiply out to it (exact-requested).
-use mathlib.Core.Path.{_≡_, refl, sym, ap, ap₂, _∙_, subst}
+-- THE REQUESTED MATRIX of an operation is one matrix (requested-same, multiplied-same). Of positive sources it is that of the operation's words (requested-is),
+-- to which the exact factors multiply out (exact-requested). Document 01's four sentences say the same (sentences).
+use mathlib.Core.Path.{_≡_, refl, sym, ap, _∙_, subst}
 use mathlib.Core.List.{List, [], _∷_}
 use Prim.Native.Nat.{ℕ, _+_ as _+ℕ_}
-use lib.ListN.{length}
 use Rattle.fraction.specs.Fraction.{Fraction, exact}
 use Rattle.fraction.specs.Ring.{CRing, Ordered}
 use Rattle.fraction.specs.Rational.{rationals, rationals-ordered, rational}
 use Rattle.fraction.proofs.Ring.{*-assoc, one-*}
-use Rattle.words.specs.RowSet.{rows, count}
 use Rattle.words.specs.Word.{Factors, word, inverseWord}
-use Rattle.words.specs.Operation.{Step, step, plain, inverted, conversed, joinedWord, refactored, Operation, product, inverse, converse, submatrix, size, result, eachFactor, eachSteps}
-use Rattle.words.specs.Sources.{Sources}
-use Rattle.words.proofs.RowSets.{length-rows}
-use Rattle.words.proofs.Chosen.{count-all, chosen-all}
+use Rattle.words.specs.Operation.{Step, step, plain, inverted, conversed, transposed, stepWord, joinedWord, Operation, joined, submatrix, steps, size, result}
+use Rattle.words.specs.Operation.{eachSource}
+use Rattle.words.proofs.Walks.{All}
 use Rattle.words.proofs.Stages.{word-rows}
-use Rattle.minors.specs.Matrix.{In, Matrix, Equal, identity, times, sign, resigned, wordMatrix, multiplied, Positive}
-use Rattle.minors.proofs.Products.{times-equal-left, times-equal-right}
-use Rattle.minors.proofs.Complement.{word-diagonal}
-use Rattle.minors.proofs.Multiply.{wordMatrix-converse, joined-multiplied}
+use Rattle.words.proofs.Operations.{size-each}
+use Rattle.minors.specs.Matrix.{Matrix, Equal, identity, times, sign, resigned, wordMatrix, multiplied}
+use Rattle.minors.proofs.Products.{times-equal, times-equal-left, times-equal-right}
+use Rattle.minors.proofs.Positive.{PositiveStep, PositiveSteps}
+use Rattle.minors.proofs.Complement.{Diagonal, word-diagonal}
+use Rattle.minors.proofs.Multiply.{wordMatrix-converse, joined-multiplied, multiplied-exchanged}
 use Rattle.minors.proofs.Inverse.{inverse-unique, inverse-left, inverse-right, sign-square}
-use Rattle.factors.specs.Requested.{ResignedInverse, Requested}
+use Rattle.factors.specs.Requested.{ResignedInverse, StepMatrix, StepsMatrix, Requested, Sentences}
 use Rattle.factors.specs.Demand.{Proper, AboveZero, multipliedOut, GivesRequested}
-use Rattle.factors.proofs.Exact.{exact-multiplied}
+use Rattle.factors.proofs.Result.{operationMatrix}
+use Rattle.factors.proofs.Exact.{rational-positive, exact-multiplied}
 
 -- THE RE-SIGNED INVERSE: the matrix of the inverse's word is it
 module _ (K : CRing) (O : Ordered K) where
@@ -31,7 +32,8 @@ module _ (K : CRing) (O : Ordered K) where
   signed-twice : (i : ℕ) (x y : R) → y ≡ sign K i * x → x ≡ sign K i * y
   signed-twice i x y e = sym (one-* K x) ∙ ap (λ z. z * x) (sym (sign-square K i)) ∙ *-assoc K _ _ _ ∙ ap (λ z. sign K i * z) (sym e)
 
-  pub inverse-resigned : (n : ℕ) (b : Factors R) → Positive K O n b → (X : Matrix K) → Equal K n X (wordMatrix K O n (inverseWord (word n b))) → ResignedInverse K n (multiplied K O n b) X
+  pub inverse-resigned : (n : ℕ) (b : Factors R) → All (Diagonal K O n) (word n b) → (X : Matrix K) → Equal K n X (wordMatrix K O n (inverseWord (word n b)))
+      → ResignedInverse K n (multiplied K O n b) X
   inverse-resigned n b p X e =
       record {
         left = left;
@@ -44,53 +46,90 @@ module _ (K : CRing) (O : Ordered K) where
       signs i j x y = ap (λ z. sign K (i +ℕ j) * z) (e i j x y)
 
       left : Equal K n (times K n (resigned K X) (multiplied K O n b)) (identity K)
-      left i j x y = times-equal-left K n _ _ (multiplied K O n b) signs i j x y ∙ inverse-left K O n (word n b) (word-rows n b) (word-diagonal K O n b p) i j x y
+      left i j x y = times-equal-left K n _ _ (multiplied K O n b) signs i j x y
+          ∙ inverse-left K O n (word n b) (word-rows n b) p i j x y
 
       right : Equal K n (times K n (multiplied K O n b) (resigned K X)) (identity K)
-      right i j x y = times-equal-right K n (multiplied K O n b) _ _ signs i j x y ∙ inverse-right K O n (word n b) (word-rows n b) (word-diagonal K O n b p) i j x y
+      right i j x y = times-equal-right K n (multiplied K O n b) _ _ signs i j x y
+          ∙ inverse-right K O n (word n b) (word-rows n b) p i j x y
 
--- ONE MATRIX is requested
 module _ (K : CRing) (O : Ordered K) (n : ℕ) where
-  -- of all rows
-  all-equal : (X Y : Matrix K) → Equal K n X Y → Equal K (count (rows n 1 n)) X Y
-  all-equal X Y e i j x y = e i j (subst (λ k. In k i) (count-all n) x) (subst (λ k. In k j) (count-all n) y)
+  open CRing K using (R)
 
+  -- THE MATRIX OF THE WORDS is requested
+  step-requested : (s : Step R) → PositiveStep K O n s → (X : Matrix K) → Equal K n X (wordMatrix K O n (stepWord n s)) → StepMatrix K O n s X
+  step-requested (step plain b) h X e = e
+  step-requested (step inverted b) h X e = inverse-resigned K O n b (word-diagonal K O n b (λ i x. h i i x x)) X e
+  step-requested (step conversed b) h X e = λ i j x y. e i j x y ∙ wordMatrix-converse K O n (word n b) (word-rows n b) i j x y
+  step-requested (step transposed b) h X e = λ i j x y. e i j x y ∙ multiplied-exchanged K O n b i j x y
+
+  steps-requested : (L : List (Step R)) → PositiveSteps K O n L → (X : Matrix K) → Equal K n X (wordMatrix K O n (joinedWord n L)) → StepsMatrix K O n L X
+  unfolding joinedWord wordMatrix
+  steps-requested [] h X e = e
+  steps-requested (s ∷ []) h X e = step-requested s (h .0) X e
+  steps-requested (s ∷ t ∷ L) h X e = (
+    wordMatrix K O n (stepWord n s),
+    wordMatrix K O n (joinedWord n (t ∷ L)),
+    step-requested s (h .0) _ (λ i j x y. refl),
+    steps-requested (t ∷ L) (h .1) _ (λ i j x y. refl),
+    λ i j x y. e i j x y ∙ joined-multiplied K O n s t L i j x y,
+  )
+
+  pub requested-is : (o : Operation R) → PositiveSteps K O n (steps o) → (X : Matrix K) → Equal K (size n o) X (operationMatrix K O n o) → Requested K O n o X
+  requested-is (joined L) h X e = steps-requested L h X e
+  requested-is (submatrix b P Q) h X e = e
+
+  -- AND NO OTHER
   resigned-same : (A X Y : Matrix K) → ResignedInverse K n A X → ResignedInverse K n A Y → Equal K n X Y
   resigned-same A X Y h g i j x y = h .only-left (resigned K Y) (g .left) i j x y ∙ sym (signed-twice K O (i +ℕ j) (Y i j) (resigned K Y i j) refl)
 
-  pub requested-same : (o : Operation (K .R)) (X Y : Matrix K) → Requested K O n o X → Requested K O n o Y → Equal K (size n o) X Y
-  requested-same (product b c) X Y h g = all-equal X Y (λ i j x y. h i j x y ∙ sym (g i j x y))
-  requested-same (inverse b) X Y h g = all-equal X Y (resigned-same (multiplied K O n b) X Y h g)
-  requested-same (converse b) X Y h g = all-equal X Y (λ i j x y. h i j x y ∙ sym (g i j x y))
-  requested-same (submatrix b P Q) X Y h g = λ i j x y. h i j x y ∙ sym (g i j x y)
+  equal-same : (k : ℕ) (A X Y : Matrix K) → Equal K k X A → Equal K k Y A → Equal K k X Y
+  equal-same k A X Y h g i j x y = h i j x y ∙ sym (g i j x y)
 
-module _ (n : ℕ) where
-  all-rows : length (rows n 1 n) ≡ n
-  all-rows = length-rows n 1 n
+  step-same : (s : Step R) (X Y : Matrix K) → StepMatrix K O n s X → StepMatrix K O n s Y → Equal K n X Y
+  step-same (step plain b) X Y h g = equal-same n _ X Y h g
+  step-same (step inverted b) X Y h g = resigned-same (multiplied K O n b) X Y h g
+  step-same (step conversed b) X Y h g = equal-same n _ X Y h g
+  step-same (step transposed b) X Y h g = equal-same n _ X Y h g
 
-  -- of all rows and columns
-  whole-multiplied : (s : Step Fraction) (L : List (Step Fraction)) → Sources AboveZero n (s ∷ L)
-      → Equal rationals n (multipliedOut (count (rows n 1 n)) (refactored exact n (s ∷ L) (rows n 1 n) (rows n 1 n)))
-      (wordMatrix rationals rationals-ordered n (joinedWord n (eachSteps rational (s ∷ L))))
-  whole-multiplied s L h i j x y =
-      exact-multiplied n s L h (rows n 1 n) (rows n 1 n) all-rows all-rows refl i j (subst (λ k. In k i) (sym (count-all n)) x) (subst (λ k. In k j) (sym (count-all n)) y)
-      ∙ ap₂ (wordMatrix rationals rationals-ordered n (joinedWord n (eachSteps rational (s ∷ L)))) (chosen-all n i x) (chosen-all n j y)
+  steps-same : (L : List (Step R)) (X Y : Matrix K) → StepsMatrix K O n L X → StepsMatrix K O n L Y → Equal K n X Y
+  steps-same [] X Y h g = equal-same n _ X Y h g
+  steps-same (s ∷ []) X Y h g = step-same s X Y h g
+  steps-same (s ∷ t ∷ L) X Y h g = λ i j x y.
+      h .4 i j x y
+      ∙ times-equal K n (h .0) (g .0) (h .1) (g .1) (step-same s (h .0) (g .0) (h .2) (g .2)) (steps-same (t ∷ L) (h .1) (g .1) (h .3) (g .3)) i j x y
+      ∙ sym (g .4 i j x y)
 
-  pub exact-requested : (o : Operation Fraction) → Proper AboveZero n o → GivesRequested n o (result exact n o)
-  unfolding joinedWord
-  exact-requested (product b c) h = λ i j x y.
-      whole-multiplied (step plain b) (step plain c ∷ []) (h .0, (h .1, tt)) i j x y
-      ∙ joined-multiplied rationals rationals-ordered n (step plain (eachFactor rational b)) (step plain (eachFactor rational c)) [] i j x y
-  exact-requested (inverse b) h = inverse-resigned rationals rationals-ordered n (eachFactor rational b) h _ (whole-multiplied (step inverted b) [] (h, tt))
-  exact-requested (converse b) h = λ i j x y.
-      whole-multiplied (step conversed b) [] (h, tt) i j x y
-      ∙ wordMatrix-converse rationals rationals-ordered n (word n (eachFactor rational b)) (word-rows n (eachFactor rational b)) i j x y
-  exact-requested (submatrix b P Q) h = exact-multiplied n (step plain b) [] (h .0, tt) P Q (h .1) (h .2) (h .3)
+  pub requested-same : (o : Operation R) (X Y : Matrix K) → Requested K O n o X → Requested K O n o Y → Equal K (size n o) X Y
+  requested-same (joined L) X Y h g = steps-same L X Y h g
+  requested-same (submatrix b P Q) X Y h g = equal-same _ _ X Y h g
+
+  -- DOCUMENT 01'S SENTENCES
+  pub sentences : Sentences K O n
+  sentences = record {
+    product-requested = λ b c X. (
+      λ h i j x y. h .4 i j x y ∙ times-equal K n (h .0) (multiplied K O n b) (h .1) (multiplied K O n c) (h .2) (h .3) i j x y,
+      λ e. (multiplied K O n b, multiplied K O n c, λ i j x y. refl, λ i j x y. refl, e),
+    );
+    inverse-requested = λ b X. (λ h. h, λ h. h);
+    converse-requested = λ b X. (λ h. h, λ h. h);
+    submatrix-requested = λ b P Q X. (λ h. h, λ h. h);
+  }
+
+module _ (n : ℕ) (o : Operation Fraction) where
+  same : size n (eachSource rational o) ≡ size n o
+  same = size-each rational n o
+
+  pub exact-requested : Proper AboveZero n o → GivesRequested n o (result exact n o)
+  exact-requested h =
+      requested-is rationals rationals-ordered n (eachSource rational o) (rational-positive n o h) _
+      (subst (λ k. Equal rationals k (multipliedOut (size n o) (result exact n o)) (operationMatrix rationals rationals-ordered n (eachSource rational o)))
+      (sym same)
+      (exact-multiplied n o h))
 
   -- so fractions that multiply out to it multiply out to one matrix
-  pub multiplied-same : (o : Operation Fraction) (c d : Factors Fraction) → GivesRequested n o c → GivesRequested n o d
+  pub multiplied-same : (c d : Factors Fraction) → GivesRequested n o c → GivesRequested n o d
       → Equal rationals (size n o) (multipliedOut (size n o) c) (multipliedOut (size n o) d)
-  multiplied-same (product a b) c d = requested-same rationals rationals-ordered n (product (eachFactor rational a) (eachFactor rational b)) _ _
-  multiplied-same (inverse b) c d = requested-same rationals rationals-ordered n (inverse (eachFactor rational b)) _ _
-  multiplied-same (converse b) c d = requested-same rationals rationals-ordered n (converse (eachFactor rational b)) _ _
-  multiplied-same (submatrix b P Q) c d = requested-same rationals rationals-ordered n (submatrix (eachFactor rational b) P Q) _ _
+  multiplied-same c d h g =
+      subst (λ k. Equal rationals k (multipliedOut (size n o) c) (multipliedOut (size n o) d)) same
+      (requested-same rationals rationals-ordered n (eachSource rational o) _ _ h g)

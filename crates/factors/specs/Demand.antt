@@ -2,26 +2,22 @@
 use mathlib.Core.Path.{_≡_}
 use Prim.Native.Nat.{ℕ, _<_}
 use lib.ListN.{length}
-use Rattle.fraction.specs.Arithmetic.{Arithmetic}
 use Rattle.fraction.specs.Fraction.{Fraction, Same, exact}
 use Rattle.fraction.specs.Within.{Within}
 use Rattle.fraction.specs.Rational.{rationals, rationals-ordered, rational}
 use Rattle.number.specs.declared.Number.{Number}
 use Rattle.number.specs.Number.{rounded, value, Ranged, reach}
-use Rattle.words.specs.RowSet.{RowSet, count, among}
-use Rattle.words.specs.Walk.{minor}
+use Rattle.words.specs.RowSet.{RowSet, count}
 use Rattle.words.specs.Word.{Factors}
-use Rattle.words.specs.Sources.{Each}
-use Rattle.words.specs.Operation.{Operation, product, inverse, converse, submatrix, steps, joinedWord, keptRows, keptColumns, size, bound, rowByRow, result, eachFactor, eachSource}
+use Rattle.words.specs.Sources.{Each, Sources}
+use Rattle.words.specs.Operation.{Operation, steps, size, Fit, bound, rowByRow, askedMinor, result, eachFactor, eachSource}
 use Rattle.minors.specs.Matrix.{In, Matrix, multiplied}
 use Rattle.factors.specs.Requested.{Requested}
 
--- sources of n rows whose every factor has a property; chosen rows and columns of n, equally many
-abbrev pub Proper : {A : Type 0} → (A → Type 0) → ℕ → Operation A → Type 0
-Proper P n (product b c) = Each P n b × Each P n c
-Proper P n (inverse b) = Each P n b
-Proper P n (converse b) = Each P n b
-Proper P n (submatrix b I J) = Each P n b × (length I ≡ n) × (length J ≡ n) × (count J ≡ count I)
+-- sources of n rows whose every factor has a property, and an operation that fits them
+pub record Proper {A : Type 0} (P : A → Type 0) (n : ℕ) (o : Operation A) : Type 0 where
+  pub sources : Sources (Each P n) (steps o)
+  pub fit : Fit n o
 
 -- a positive fraction
 abbrev pub AboveZero : Fraction → Type 0
@@ -35,17 +31,14 @@ multipliedOut k c = multiplied rationals rationals-ordered k (eachFactor rationa
 abbrev pub GivesRequested : ℕ → Operation Fraction → Factors Fraction → Type 0
 GivesRequested n o c = Requested rationals rationals-ordered n (eachSource rational o) (multipliedOut (size n o) c)
 
--- the minor that the formulas of an operation ask for at row set I and column set J, which count among the kept rows and columns
-abbrev pub askedMinor : (K : Arithmetic) → ℕ → Operation (K .Num) → RowSet → RowSet → K .Num
-askedMinor K n o I J = minor K (joinedWord n (steps o)) (among (keptRows n o) I) (among (keptColumns n o) J)
-
 -- sets of k rows with equally many members
 pub record Pair (k : ℕ) (I J : RowSet) : Type 0 where
   pub rows : length I ≡ k
   pub columns : length J ≡ k
   pub counts : count I ≡ count J
 
--- THE EXACT RUN of an operation on fractions: no divisor is zero; its factors are positive and multiply out to the requested matrix, and no other positive fractions do.
+-- THE EXACT RUN of an operation on fractions: no divisor is zero; its factors are positive and multiply out to the requested matrix, and no other positive
+-- fractions do.
 pub record Factored (n : ℕ) (o : Operation Fraction) : Type 0 where
   pub divisors : (I J : RowSet) → Pair (size n o) I J → AboveZero (askedMinor exact n o I J)
   pub positive : Each AboveZero (size n o) (result exact n o)

@@ -2,7 +2,7 @@
 use mathlib.Core.List.{List, [], _∷_}
 use Prim.Native.Nat.{ℕ, _*_}
 use native.Mathlib.Omega.{arith}
-use Rattle.fraction.specs.Fraction.{Fraction, whole, exact}
+use Rattle.fraction.specs.Fraction.{Fraction, natural, exact}
 use Rattle.number.specs.declared.Number.{Number}
 use Rattle.number.specs.Number.{rounded, value}
 use Rattle.number.specs.Examples.{Row, row}
@@ -13,11 +13,11 @@ use Rattle.factors.specs.Demand.{exactly}
 abbrev pub onesProduct : Operation Number
 onesProduct = product ones ones
 
-abbrev pub threeHalves : Fraction
-threeHalves = record { top = 3; low = 2; above-zero = omega arith }
+abbrev pub threeHalvesFraction : Fraction
+threeHalvesFraction = record { top = 3; low = 2; above-zero = omega arith }
 
-abbrev pub half : Fraction
-half = record { top = 1; low = 2; above-zero = omega arith }
+abbrev pub halfFraction : Fraction
+halfFraction = record { top = 1; low = 2; above-zero = omega arith }
 
 -- two fractions are the same when their cross products are equal
 abbrev sameRow : Fraction → Fraction → Row
@@ -25,7 +25,7 @@ sameRow x y = row (x .top * y .low) (y .top * x .low)
 
 -- the four factors of a run
 abbrev answers : (ℕ → ℕ → Fraction) → List Row
-answers b = sameRow (b 1 1) (whole 2) ∷ sameRow (b 1 2) threeHalves ∷ sameRow (b 2 1) threeHalves ∷ sameRow (b 2 2) half ∷ []
+answers b = sameRow (b 1 1) (natural 2) ∷ sameRow (b 1 2) threeHalvesFraction ∷ sameRow (b 2 1) threeHalvesFraction ∷ sameRow (b 2 2) halfFraction ∷ []
 
 unfoldable pub exactTable : List Row
 exactTable = answers (result exact 2 (exactly onesProduct))

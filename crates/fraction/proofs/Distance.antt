@@ -1,5 +1,5 @@
--- Unit roundings as a distance: (1 - u) ^ k is at least 1 - k u, u being 2 ^ -32 (power-least), so that within k is a ratio from 1 - k u to its reciprocal (within-linear);
--- up to 1000 unit roundings are a quarter of a millionth at most (within-close).
+-- Unit roundings as a distance: (1 - u) ^ k is at least 1 - k u, u being 2 ^ -32 (power-least), so that within k is a ratio from 1 - k u
+-- to its reciprocal (within-linear); up to 1000 unit roundings are a quarter of a millionth at most (within-close).
 use mathlib.Core.Path.{_≡_}
 use Prim.Native.Nat.{ℕ, zero, suc, _-_, _*_, _^_, _≤_, _<_}
 use native.Mathlib.Nat.{mul-le-mul-left, mul-le-mul-right, le-of-mul-le-mul-left, one-le-pow, pow-zero, pow-suc}

@@ -58,7 +58,8 @@ module _ (K : CRing) (O : Ordered K) where
 
   -- a factor that both parts of a quotient share
   pub quotient-cancel : (m x y : R) → Nonzero m → Nonzero y → x * m * inv (y * m) ≡ x * inv y
-  quotient-cancel m x y n o = sym (quotient-unique (x * m) (y * m) (x * inv y) (nonzero-mul y m o n) (sym (*-assoc K _ _ _) ∙ ap (λ z. z * m) (quotient-mul x y o)))
+  quotient-cancel m x y n o =
+      sym (quotient-unique (x * m) (y * m) (x * inv y) (nonzero-mul y m o n) (sym (*-assoc K _ _ _) ∙ ap (λ z. z * m) (quotient-mul x y o)))
 
   -- POSITIVE OR ZERO
   pub positive-add-nonnegative : (x y : R) → Pos x → NonNegative K O y → Pos (x + y)

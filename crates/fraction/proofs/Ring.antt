@@ -47,7 +47,8 @@ module _ (K : CRing) where
   pub difference-zero : (a b : R) → a + neg b ≡ 𝟘 → a ≡ b
   difference-zero a b h = sym (neg-neg a) ∙ ap neg (neg-unique a (neg b) h) ∙ neg-neg b
 
-  -- An element and its negative with one to six terms between them, at the end of a sum or, by the rules -t, before a term t: `simp` sorts a sum, and that parts the two.
+  -- An element and its negative with one to six terms between them, at the end of a sum or, by the rules -t, before a term t:
+  -- `simp` sorts a sum, and that parts the two.
   pub cancel1 : (a b : R) → a + (b + (neg a)) ≡ b
   cancel1 a b = +-left a b _ ∙ ap (λ x. b + x) (+-neg a) ∙ +-zero b
 
@@ -120,6 +121,9 @@ module _ (K : CRing) where
   pub neg-* : (a b : R) → neg a * b ≡ neg (a * b)
   neg-* a b = *-comm _ b ∙ *-neg b a ∙ ap neg (*-comm b a)
 
-  pub ruleset cancels = (+-neg, +-cancel-neg, cancel1, cancel1-t, cancel2, cancel2-t, cancel3, cancel3-t, cancel4, cancel4-t, cancel5, cancel5-t, cancel6, cancel6-t)
+  pub ruleset cancels =
+      (+-neg, +-cancel-neg, cancel1, cancel1-t, cancel2, cancel2-t, cancel3, cancel3-t, cancel4, cancel4-t, cancel5, cancel5-t, cancel6, cancel6-t)
 
-  pub ruleset ring = (+-assoc, +-comm, +-left, +-zero, zero-+, cancels, neg-neg, neg-zero, neg-+, *-assoc, *-comm, *-left, *-one, one-*, *-zero, zero-*, *-neg, neg-*, *-+, +-*)
+  pub ruleset sums = (+-assoc, +-comm, +-left, +-zero, zero-+, cancels, neg-neg, neg-zero, neg-+)
+
+  pub ruleset ring = (sums, *-assoc, *-comm, *-left, *-one, one-*, *-zero, zero-*, *-neg, neg-*, *-+, +-*)

@@ -5,7 +5,8 @@ use mathlib.Core.List.{List, [], _∷_}
 use Prim.Native.Nat.{ℕ, zero, suc, compare, Ordering, Ordering·lt, Ordering·eq, Ordering·gt}
 use lib.Dec.{T, isEq, eqb→eq}
 use Rattle.fraction.specs.Ring.{CRing}
-use Rattle.fraction.proofs.Ring.{+-assoc, +-left, +-zero, zero-+, +-cancel-neg, neg-cancel-+, neg-neg, neg-zero, neg-+, *-assoc, *-left, *-one, one-*, zero-*, *-zero, *-neg, neg-*, *-+, +-*}
+use Rattle.fraction.proofs.Ring.{+-assoc, +-left, +-zero, zero-+, +-cancel-neg, neg-cancel-+, neg-neg, neg-zero, neg-+, *-assoc, *-left, *-one, one-*}
+use Rattle.fraction.proofs.Ring.{zero-*, *-zero, *-neg, neg-*, *-+, +-*}
 
 infixl 65 _⊕_ _⊝_
 infixl 70 _⊗_

@@ -2,10 +2,11 @@
 -- (`within-sum`, `within-mul`, `within-div`). The powers of `less` and `unit` are never computed.
 use mathlib.Core.Path.{_≡_, refl, sym}
 use Prim.Native.Nat.{ℕ, _+_, _-_, _*_, _^_, _≤_, _<_, max}
-use native.Mathlib.Nat.{add-comm, mul-pos, mul-le-mul, mul-le-mul-left, le-of-mul-le-mul-right, one-le-pow, pow-le-pow-left, pow-zero, le-max-left, le-max-right}
+use native.Mathlib.Nat.{add-comm, mul-pos, mul-le-mul, mul-le-mul-left, le-of-mul-le-mul-right, one-le-pow, pow-le-pow-left, pow-zero, le-max-left}
+use native.Mathlib.Nat.{le-max-right}
 use native.Mathlib.Omega.{arith}
 use lib.Pow.{pow-add}
-use Rattle.fraction.specs.Fraction.{Fraction, Same, sum, product, quotient}
+use Rattle.fraction.specs.Fraction.{Fraction, Same, fractionSum, fractionProduct, fractionQuotient}
 use Rattle.fraction.specs.Within.{less, unit, Within}
 use Rattle.fraction.proofs.Fraction.{factor-positive, quotient-top, quotient-low}
 
@@ -32,14 +33,15 @@ least-trans j k x y z g h =
 least-more : (j k : ℕ) (x y : Fraction) → AtLeast j x y → AtLeast (j + k) x y
 least-more j k x y g = rw (pow-add less j k, pow-add unit j k) (omega (arith, mul-le-mul (less-power-le k) g))
 
-least-sum : (k : ℕ) (x x' y y' : Fraction) → AtLeast k x x' → AtLeast k y y' → AtLeast k (sum x y) (sum x' y')
+least-sum : (k : ℕ) (x x' y y' : Fraction) → AtLeast k x x' → AtLeast k y y' → AtLeast k (fractionSum x y) (fractionSum x' y')
 least-sum k x x' y y' g h = omega (arith, mul-le-mul-left (y .low * y' .low) g, mul-le-mul-left (x .low * x' .low) h)
 
-least-mul : (j k : ℕ) (x x' y y' : Fraction) → AtLeast j x x' → AtLeast k y y' → AtLeast (j + k) (product x y) (product x' y')
+least-mul : (j k : ℕ) (x x' y y' : Fraction) → AtLeast j x x' → AtLeast k y y' → AtLeast (j + k) (fractionProduct x y) (fractionProduct x' y')
 least-mul j k x x' y y' g h = rw (pow-add less j k, pow-add unit j k) (omega (arith, mul-le-mul g h))
 
 -- of the divisors, the other half
-least-div : (j k : ℕ) (x x' y y' : Fraction) → 0 < y .top → 0 < y' .top → AtLeast j x x' → AtLeast k y' y → AtLeast (j + k) (quotient x y) (quotient x' y')
+least-div : (j k : ℕ) (x x' y y' : Fraction) → 0 < y .top → 0 < y' .top → AtLeast j x x' → AtLeast k y' y
+    → AtLeast (j + k) (fractionQuotient x y) (fractionQuotient x' y')
 least-div j k x x' y y' p q g h =
     rw (quotient-top x y p, quotient-low x y p, quotient-top x' y' q, quotient-low x' y' q, pow-add less j k, pow-add unit j k) (omega (arith, mul-le-mul g h))
 
@@ -80,14 +82,14 @@ pub within-congruence : {k : ℕ} {x y : Fraction} (x' y' : Fraction) → Within
 within-congruence {k} {x} {y} x' y' u h g =
     within-mono (omega arith) (within-trans (within-same x' x (sym h)) (within-trans u (within-same y y' g)))
 
-pub within-sum : {k : ℕ} {x x' y y' : Fraction} → Within k x x' → Within k y y' → Within k (sum x y) (sum x' y')
+pub within-sum : {k : ℕ} {x x' y y' : Fraction} → Within k x x' → Within k y y' → Within k (fractionSum x y) (fractionSum x' y')
 within-sum {k} {x} {x'} {y} {y'} u v =
     record { above = least-sum k x x' y y' (u .above) (v .above); below = least-sum k x' x y' y (u .below) (v .below) }
 
-pub within-sum-max : {j k : ℕ} {x x' y y' : Fraction} → Within j x x' → Within k y y' → Within (max j k) (sum x y) (sum x' y')
+pub within-sum-max : {j k : ℕ} {x x' y y' : Fraction} → Within j x x' → Within k y y' → Within (max j k) (fractionSum x y) (fractionSum x' y')
 within-sum-max {j} {k} u v = within-sum (within-mono (le-max-left j k) u) (within-mono (le-max-right j k) v)
 
-pub within-mul : {j k : ℕ} {x x' y y' : Fraction} → Within j x x' → Within k y y' → Within (j + k) (product x y) (product x' y')
+pub within-mul : {j k : ℕ} {x x' y y' : Fraction} → Within j x x' → Within k y y' → Within (j + k) (fractionProduct x y) (fractionProduct x' y')
 within-mul {j} {k} {x} {x'} {y} {y'} u v =
     record { above = least-mul j k x x' y y' (u .above) (v .above); below = least-mul j k x' x y' y (u .below) (v .below) }
 
@@ -96,7 +98,7 @@ pub within-positive : {k : ℕ} {x y : Fraction} → Within k x y → 0 < y .top
 within-positive {k} {x} {y} u p =
     factor-positive (x .top) (unit ^ k * y .low) (omega (arith, u .above, mul-pos (less-power-positive k) (mul-pos p (x .above-zero))))
 
-pub within-div : {j k : ℕ} {x x' y y' : Fraction} → Within j x x' → Within k y y' → 0 < y .top → Within (j + k) (quotient x y) (quotient x' y')
+pub within-div : {j k : ℕ} {x x' y y' : Fraction} → Within j x x' → Within k y y' → 0 < y .top → Within (j + k) (fractionQuotient x y) (fractionQuotient x' y')
 within-div {j} {k} {x} {x'} {y} {y'} u v p =
     let q = within-positive (within-sym v) p in
     record { above = least-div j k x x' y y' p q (u .above) (v .below); below = least-div j k x' x y' y q p (u .below) (v .above) }

@@ -5,6 +5,7 @@ use native.Mathlib.Nat.{mul-pos}
 use native.Mathlib.Omega.{arith}
 use Rattle.fraction.specs.Arithmetic.{Arithmetic}
 
+-- top / low
 pub record Fraction : Type 0 where
   pub top : ℕ
   pub low : ℕ
@@ -14,24 +15,27 @@ pub record Fraction : Type 0 where
 abbrev pub Same : Fraction → Fraction → Type 0
 Same x y = x .top * y .low ≡ y .top * x .low
 
--- a whole number
-abbrev pub whole : ℕ → Fraction
-whole n = record { top = n; low = 1; above-zero = omega arith }
+-- a natural number, over 1
+abbrev pub natural : ℕ → Fraction
+natural n = record { top = n; low = 1; above-zero = omega arith }
 
-abbrev pub sum : Fraction → Fraction → Fraction
-sum x y = record { top = x .top * y .low + y .top * x .low; low = x .low * y .low; above-zero = mul-pos (x .above-zero) (y .above-zero) }
+-- the exact sum, over the product of both lower numbers; nothing is cancelled
+abbrev pub fractionSum : Fraction → Fraction → Fraction
+fractionSum x y = record { top = x .top * y .low + y .top * x .low; low = x .low * y .low; above-zero = mul-pos (x .above-zero) (y .above-zero) }
 
-abbrev pub product : Fraction → Fraction → Fraction
-product x y = record { top = x .top * y .top; low = x .low * y .low; above-zero = mul-pos (x .above-zero) (y .above-zero) }
+-- the exact product
+abbrev pub fractionProduct : Fraction → Fraction → Fraction
+fractionProduct x y = record { top = x .top * y .top; low = x .low * y .low; above-zero = mul-pos (x .above-zero) (y .above-zero) }
 
 -- x divided by t / l; by zero, which is not met, zero
 abbrev pub dividedBy : Fraction → (t l : ℕ) → Fraction
-dividedBy x zero l = whole 0
+dividedBy x zero l = natural 0
 dividedBy x (suc t) l = record { top = x .top * l; low = x .low * suc t; above-zero = mul-pos (x .above-zero) (omega arith) }
 
-abbrev pub quotient : Fraction → Fraction → Fraction
-quotient x y = dividedBy x (y .top) (y .low)
+-- the exact quotient
+abbrev pub fractionQuotient : Fraction → Fraction → Fraction
+fractionQuotient x y = dividedBy x (y .top) (y .low)
 
 -- the exact run's arithmetic: every sum, product and quotient is the exact fraction
 abbrev pub exact : Arithmetic
-exact = record { Num = Fraction; zero = whole 0; one = whole 1; add = sum; mul = product; div = quotient }
+exact = record { Num = Fraction; zero = natural 0; one = natural 1; add = fractionSum; mul = fractionProduct; div = fractionQuotient }

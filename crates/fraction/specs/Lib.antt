@@ -2,6 +2,6 @@ pub mod Arithmetic
 pub mod Fraction
 pub mod Within
 pub mod Ring
-pub mod Signed
-pub mod SignedLaws
+pub mod SignedFraction
+pub mod SignedFractionLaws
 pub mod Rational

@@ -2,6 +2,7 @@
 use mathlib.Core.Path.{_≡_}
 use Rattle.fraction.specs.Arithmetic.{Arithmetic}
 
+-- a commutative ring with zero 𝟘 and one 𝟙
 pub record CRing : Type 1 where
   pub R : Type 0
   pub 𝟘 : R

@@ -1,4 +1,5 @@
--- Document 01's "within k", "Numbers": one unit rounding is a factor from 1 - 2 ^ -32 to its reciprocal, and within k means a ratio from (1 - 2 ^ -32) ^ k to its reciprocal.
+-- Document 01's "within k", "Numbers": one unit rounding is a factor from 1 - 2 ^ -32 to its reciprocal,
+-- and within k means a ratio from (1 - 2 ^ -32) ^ k to its reciprocal.
 use Prim.Native.Nat.{ℕ, _+_, _-_, _*_, _^_, _≤_}
 use Rattle.fraction.specs.Fraction.{Fraction}
 

@@ -27,7 +27,8 @@ behind-none (Value v n) = rw and-false (ap (λ (m : ℕ). Value m (0 + n)) (omeg
 behind-none Ended = refl
 behind-none Faulty = refl
 
-behind-value : (a p i x v n : ℕ) (t : Bool) → eqb v 0 ≡ t → behind a p i (cond t Faulty (Value (x + 128 * v) (suc n))) ≡ behind (a + p * x) (p * 128) (i + 1) (Value v n)
+behind-value : (a p i x v n : ℕ) (t : Bool) → eqb v 0 ≡ t
+    → behind a p i (cond t Faulty (Value (x + 128 * v) (suc n))) ≡ behind (a + p * x) (p * 128) (i + 1) (Value v n)
 behind-value a p i x v n true e = rw (e, ne-eqb (i + 1) 0 (λ q. omega arith))
 behind-value a p i x v n false e =
     let w : v ≡ 0 → ⊥ = eqb-false v 0 e in

@@ -11,7 +11,7 @@ use lib.Dec.{ltb, eqb}
 use borrow.Author.Tests.{ltb-true, ltb-false, lt-ltb, le-ltb, eqb-false, ne-eqb}
 use Rattle.group.specs.declared.Group.{Group}
 use Rattle.group.specs.declared.Group.the-variants.{Value, Ended, Faulty}
-use Rattle.group.specs.Group.{continued, groupIn, below, groupOf, bytesIn, bytesOf, Bytes, Inside}
+use Rattle.group.specs.Group.{continued, groupIn, limited, groupOf, bytesIn, bytesOf, Bytes, Inside}
 
 -- the bytes of a number, by its size
 pub bytes-last : (k v : ℕ) → v < 128 → bytesIn (suc k) v ≡ v ∷ []
@@ -123,21 +123,21 @@ read-in (suc k) zero l s bs v n e = absurd (omega arith)
 read-in (suc k) (suc m) l [] bs v n e = absurd (suc-ne-zero 0 (cc))
 read-in (suc k) (suc m) l (b ∷ s) bs v n e = read-step k m b s v n (bs 0) (read-in k m (omega arith) s (λ i. bs (suc i))) (ltb b 128) refl e
 
-below-picked : (w m v n : ℕ) (t : Bool) → ltb w (2 ^ 32) ≡ t → cond t (Value w m) Faulty ≡ Value v n → (Value w m ≡ Value v n) × (v < 2 ^ 32)
-below-picked w m v n true q e =
+limited-picked : (w m v n : ℕ) (t : Bool) → ltb w (2 ^ 32) ≡ t → cond t (Value w m) Faulty ≡ Value v n → (Value w m ≡ Value v n) × (v < 2 ^ 32)
+limited-picked w m v n true q e =
     let ev : w ≡ v = cc in
     (e, omega (arith, ltb-true w (2 ^ 32) q))
-below-picked w m v n false q e = absurd (suc-ne-zero 0 (cc))
+limited-picked w m v n false q e = absurd (suc-ne-zero 0 (cc))
 
-below-value : (r : Group) (v n : ℕ) → below (2 ^ 32) r ≡ Value v n → (r ≡ Value v n) × (v < 2 ^ 32)
-below-value (Value w m) v n e = below-picked w m v n (ltb w (2 ^ 32)) refl e
-below-value Ended v n e = absurd (suc-ne-zero 0 (cc))
-below-value Faulty v n e = absurd (suc-ne-zero 0 (cc))
+limited-value : (r : Group) (v n : ℕ) → limited (2 ^ 32) r ≡ Value v n → (r ≡ Value v n) × (v < 2 ^ 32)
+limited-value (Value w m) v n e = limited-picked w m v n (ltb w (2 ^ 32)) refl e
+limited-value Ended v n e = absurd (suc-ne-zero 0 (cc))
+limited-value Faulty v n e = absurd (suc-ne-zero 0 (cc))
 
 -- what is read is what is written
 pub group-read : (s : List ℕ) (v n : ℕ) → Bytes s → groupOf s ≡ Value v n → (v < 2 ^ 32) × (n ≡ length (bytesOf v)) × (take n s ≡ bytesOf v)
 group-read s v n bs e =
-    let b = below-value (groupIn 5 s) v n e in
+    let b = limited-value (groupIn 5 s) v n e in
     let m = read-in 5 10 (omega arith) s bs v n (b .0) in
     (b .1, m .count, m .bytes)
 

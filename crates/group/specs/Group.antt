@@ -19,14 +19,15 @@ groupIn zero s = Faulty
 groupIn (suc k) [] = Ended
 groupIn (suc k) (b ∷ s) = cond (ltb b 128) (Value b 1) (continued (b - 128) (groupIn k s))
 
-abbrev pub below : ℕ → Group → Group
-below m (Value v n) = cond (ltb v m) (Value v n) Faulty
-below m Ended = Ended
-below m Faulty = Faulty
+-- a group whose value is below m
+abbrev pub limited : ℕ → Group → Group
+limited m (Value v n) = cond (ltb v m) (Value v n) Faulty
+limited m Ended = Ended
+limited m Faulty = Faulty
 
 -- The group number at the start of a list: its value and how many bytes hold it; or the bytes end early (2); or it is faulty (3).
 abbrev pub groupOf : List ℕ → Group
-groupOf s = below (2 ^ 32) (groupIn 5 s)
+groupOf s = limited (2 ^ 32) (groupIn 5 s)
 
 -- the bytes of a number below 128 ^ k
 unfoldable pub bytesIn : ℕ → ℕ → List ℕ

@@ -12,10 +12,10 @@ use lib.ListN.{length, getD, drop, drop-of-length-le}
 use lib.Seq.{drop-cons}
 use borrow.Author.Tests.{lt-ltb, le-ltb, ltb-true, ltb-false, le-leb, lt-leb, eq-eqb, ne-eqb}
 use Rattle.io.specs.Digits.{glyph, digits, Fewest}
-use Rattle.lines.specs.declared.reading.Whole.{Whole}
-use Rattle.lines.specs.declared.reading.Whole.the-variants.{Value, Malformed}
-use Rattle.lines.specs.declared.reading.Signed.the-variants as Signed
-use Rattle.lines.specs.Decimal.{isNumeral, allNumerals, valueFrom, judged, wholeOf, plus, minus, signedOf, WholeUpTo, SignedFits}
+use Rattle.lines.specs.declared.reading.ReadWhole.{ReadWhole}
+use Rattle.lines.specs.declared.reading.ReadWhole.the-variants.{Value, Malformed}
+use Rattle.lines.specs.declared.reading.ReadSigned.the-variants as ReadSigned
+use Rattle.lines.specs.Decimal.{isNumeral, allNumerals, valueFrom, wholeFrom, spelledWhole, plus, minus, spelledSigned, WholeUpTo, SignedFits}
 use Rattle.lines.specs.Text.{decimalIn, decimal}
 
 both : (s t : Bool) → not s && t ≡ true → (s ≡ false) × (t ≡ true)
@@ -34,74 +34,74 @@ value-grows [] v = omega arith
 value-grows (b ∷ s) v = omega (arith, value-grows s (v * 10 + (b - 48)))
 
 module _ (b : ℕ) (s : List ℕ) (v most : ℕ) where
-  judged-other : isNumeral b ≡ false → Malformed ≡ judged (b ∷ s) v most
+  judged-other : isNumeral b ≡ false → Malformed ≡ wholeFrom (b ∷ s) v most
   unfolding allNumerals
   judged-other e = rw e
 
-  judged-large : most < v * 10 + (b - 48) → Malformed ≡ judged (b ∷ s) v most
+  judged-large : most < v * 10 + (b - 48) → Malformed ≡ wholeFrom (b ∷ s) v most
   unfolding valueFrom
   judged-large h =
       let g : most < valueFrom (v * 10 + (b - 48)) s = omega (arith, value-grows s (v * 10 + (b - 48))) in
       rw (lt-leb _ _ g, and-false)
 
-  judged-more : isNumeral b ≡ true → judged (b ∷ s) v most ≡ judged s (v * 10 + (b - 48)) most
+  judged-more : isNumeral b ≡ true → wholeFrom (b ∷ s) v most ≡ wholeFrom s (v * 10 + (b - 48)) most
   unfolding allNumerals valueFrom
   judged-more e = rw e
 
-judged-end : (v most : ℕ) → v ≤ most → Value v ≡ judged [] v most
+judged-end : (v most : ℕ) → v ≤ most → Value v ≡ wholeFrom [] v most
 unfolding allNumerals valueFrom
 judged-end v most h = rw (le-leb _ _ h)
 
-whole-some : (s : List ℕ) (most : ℕ) → (length s ≡ 0 → ⊥) → wholeOf s most ≡ judged s 0 most
+whole-some : (s : List ℕ) (most : ℕ) → (length s ≡ 0 → ⊥) → spelledWhole s most ≡ wholeFrom s 0 most
 whole-some [] most n = absurd (n refl)
 whole-some (b ∷ s) most n = refl
 
-pub whole-none : (s : List ℕ) (most : ℕ) → length s ≡ 0 → Malformed ≡ wholeOf s most
+pub whole-none : (s : List ℕ) (most : ℕ) → length s ≡ 0 → Malformed ≡ spelledWhole s most
 whole-none [] most e = refl
 whole-none (b ∷ s) most e = absurd (omega arith)
 
 pub record Spelled (s : List ℕ) (most value i : ℕ) : Type 0 where
   pub within : i ≤ length s
   pub small : value ≤ most
-  pub same : wholeOf s most ≡ judged (drop i s) value most
+  pub same : spelledWhole s most ≡ wholeFrom (drop i s) value most
 
 pub spelled-none : (s : List ℕ) (most : ℕ) → (length s ≡ 0 → ⊥) → Spelled s most 0 0
 spelled-none s most n = record { within = omega arith; small = omega arith; same = whole-some s most n }
 
 module _ {s : List ℕ} {most value i : ℕ} (p : Spelled s most value i) where
-  pub spelled-end : length s ≤ i → Value value ≡ wholeOf s most
+  pub spelled-end : length s ≤ i → Value value ≡ spelledWhole s most
   spelled-end h = judged-end value most (p .small) ∙ sym (p .same ∙ rw (drop-of-length-le s h))
 
   module _ (h : i < length s) where
-    at-byte : wholeOf s most ≡ judged (getD s i 0 ∷ drop (i + 1) s) value most
+    at-byte : spelledWhole s most ≡ wholeFrom (getD s i 0 ∷ drop (i + 1) s) value most
     at-byte = p .same ∙ rw (drop-cons s i 0 h, add-one)
 
-    pub spelled-other : isNumeral (getD s i 0) ≡ false → Malformed ≡ wholeOf s most
+    pub spelled-other : isNumeral (getD s i 0) ≡ false → Malformed ≡ spelledWhole s most
     spelled-other e = judged-other _ _ value most e ∙ sym at-byte
 
-    pub spelled-large : most < value * 10 + (getD s i 0 - 48) → Malformed ≡ wholeOf s most
+    pub spelled-large : most < value * 10 + (getD s i 0 - 48) → Malformed ≡ spelledWhole s most
     spelled-large g = judged-large _ _ value most g ∙ sym at-byte
 
     pub spelled-more : isNumeral (getD s i 0) ≡ true → value * 10 + (getD s i 0 - 48) ≤ most → Spelled s most (value * 10 + (getD s i 0 - 48)) (i + 1)
     spelled-more e g = record { within = omega arith; small = g; same = at-byte ∙ judged-more _ _ value most e }
 
-pub signed-none : (s : List ℕ) → length s ≡ 0 → Signed.Malformed ≡ signedOf s
+pub signed-none : (s : List ℕ) → length s ≡ 0 → ReadSigned.Malformed ≡ spelledSigned s
 signed-none [] e = refl
 signed-none (b ∷ s) e = absurd (omega arith)
 
-pub signed-minus : (s : List ℕ) → (length s ≡ 0 → ⊥) → getD s 0 0 ≡ 45 → signedOf s ≡ minus (wholeOf (drop 1 s) (2 ^ 63))
+pub signed-minus : (s : List ℕ) → (length s ≡ 0 → ⊥) → getD s 0 0 ≡ 45 → spelledSigned s ≡ minus (spelledWhole (drop 1 s) (2 ^ 63))
 signed-minus [] n e = absurd (n refl)
 signed-minus (b ∷ s) n e = rw (eq-eqb b 45 e)
 
-pub signed-plus : (s : List ℕ) → (length s ≡ 0 → ⊥) → (getD s 0 0 ≡ 45 → ⊥) → signedOf s ≡ plus (wholeOf s (2 ^ 63 - 1))
+pub signed-plus : (s : List ℕ) → (length s ≡ 0 → ⊥) → (getD s 0 0 ≡ 45 → ⊥) → spelledSigned s ≡ plus (spelledWhole s (2 ^ 63 - 1))
 signed-plus [] n m = absurd (n refl)
 signed-plus (b ∷ s) n m = rw (ne-eqb b 45 m)
 
-pub minus-fits : (w : Whole) → WholeUpTo (2 ^ 63) w → SignedFits (minus w)
+pub minus-fits : (w : ReadWhole) → WholeUpTo (2 ^ 63) w → SignedFits (minus w)
 minus-fits (Value n) h = h
 minus-fits Malformed h = tt
 
-pub plus-fits : (w : Whole) → WholeUpTo (2 ^ 63 - 1) w → SignedFits (plus w)
+pub plus-fits : (w : ReadWhole) → WholeUpTo (2 ^ 63 - 1) w → SignedFits (plus w)
 plus-fits (Value n) h = h
 plus-fits Malformed h = tt
 

@@ -9,7 +9,7 @@ use lib.Dec.{eqb}
 use lib.ListN.{length, getD, drop, set, drop-of-length-le, length-drop, length-set}
 use lib.Seq.{drop-cons, sets}
 use Rattle.lines.specs.Decimal.{isNumeral}
-use Rattle.lines.specs.Hexadecimal.{isLetter, byteOf, allDigits, bytesOf, hexadecimal}
+use Rattle.lines.specs.Hexadecimal.{isLetter, byteOf, allDigits, spelledBytes, hexadecimal}
 
 digits-at : (s : List ℕ) (i : ℕ) → i < length s → allDigits (drop i s) ≡ (isNumeral (getD s i 0) || isLetter (getD s i 0)) && allDigits (drop (i + 1) s)
 unfolding allDigits
@@ -54,8 +54,9 @@ hexadecimal-pairs (a ∷ b ∷ s) n m =
     let e : suc (suc (length s)) % 2 ≡ length s % 2 = omega arith in
     rw e
 
-bytes-at : (s : List ℕ) (k : ℕ) → 2 * k + 1 < length s → bytesOf (drop (2 * k) s) ≡ byteOf (getD s (2 * k) 0) (getD s (2 * k + 1) 0) ∷ bytesOf (drop (2 * (k + 1)) s)
-unfolding bytesOf
+bytes-at : (s : List ℕ) (k : ℕ) → 2 * k + 1 < length s
+    → spelledBytes (drop (2 * k) s) ≡ byteOf (getD s (2 * k) 0) (getD s (2 * k + 1) 0) ∷ spelledBytes (drop (2 * (k + 1)) s)
+unfolding spelledBytes
 bytes-at s k h =
     let e : 2 * (k + 1) ≡ suc (suc (2 * k)) = omega arith in
     let f : 2 * k + 1 ≡ suc (2 * k) = omega arith in
@@ -63,8 +64,8 @@ bytes-at s k h =
     let l : suc (2 * k) < length s = omega arith in
     rw (e, f, drop-cons s (2 * k) 0, drop-cons s (suc (2 * k)) 0)
 
-pub bytes-few : (s : List ℕ) → length s ≤ 1 → bytesOf s ≡ []
-unfolding bytesOf
+pub bytes-few : (s : List ℕ) → length s ≤ 1 → spelledBytes s ≡ []
+unfolding spelledBytes
 bytes-few [] h = refl
 bytes-few (a ∷ []) h = refl
 bytes-few (a ∷ b ∷ s) h = absurd (omega arith)
@@ -72,13 +73,13 @@ bytes-few (a ∷ b ∷ s) h = absurd (omega arith)
 pub record Filled (s out₀ out : List ℕ) (k : ℕ) : Type 0 where
   pub within : k ≤ length s / 2
   pub kept : length out ≡ length out₀
-  pub same : sets out₀ 0 (bytesOf s) ≡ sets out k (bytesOf (drop (2 * k) s))
+  pub same : sets out₀ 0 (spelledBytes s) ≡ sets out k (spelledBytes (drop (2 * k) s))
 
 pub filled-none : (s out : List ℕ) → Filled s out out 0
 filled-none s out = record { within = omega arith; kept = refl; same = refl }
 
 module _ {s out₀ out : List ℕ} {k : ℕ} (p : Filled s out₀ out k) where
-  pub filled-end : length s / 2 ≤ k → out ≡ sets out₀ 0 (bytesOf s)
+  pub filled-end : length s / 2 ≤ k → out ≡ sets out₀ 0 (spelledBytes s)
   filled-end h = sym (p .same ∙ rw (bytes-few (drop (2 * k) s) (simp length-drop (omega arith))))
 
   pub filled-more : k < length s / 2 → Filled s out₀ (set out k (byteOf (getD s (2 * k) 0) (getD s (2 * k + 1) 0))) (k + 1)

@@ -10,9 +10,9 @@ use lib.Dec.{ltb}
 use lib.ListN.{length, getD, length-append}
 use borrow.Author.Tests.{lt-ltb, le-ltb, le-leb, ltb-true}
 use Rattle.io.specs.Digits.{glyph}
-use Rattle.lines.specs.declared.reading.Whole.the-variants.{Value}
-use Rattle.lines.specs.Decimal.{isNumeral, allNumerals, valueFrom, wholeOf}
-use Rattle.lines.specs.Hexadecimal.{isLetter, nibbleOf, byteOf, allDigits, bytesOf, hexadecimal}
+use Rattle.lines.specs.declared.reading.ReadWhole.the-variants.{Value}
+use Rattle.lines.specs.Decimal.{isNumeral, allNumerals, valueFrom, spelledWhole}
+use Rattle.lines.specs.Hexadecimal.{isLetter, nibbleOf, byteOf, allDigits, spelledBytes, hexadecimal}
 use Rattle.lines.proofs.Pairs.{hexadecimal-pairs}
 use Rattle.lines.specs.Text.{decimalIn, decimal, pairsText, bytesText}
 
@@ -51,7 +51,8 @@ spells-more s n p =
       value = value-append s 0 (48 + n % 10) ∙ rw (p .value) (omega arith);
     }
 
-spells-step : (k n : ℕ) (t : Bool) → ltb n 10 ≡ t → Spells (decimalIn k (n / 10)) (n / 10) → Spells (cond t ((48 + n) ∷ []) (decimalIn k (n / 10) ++ ((48 + n % 10) ∷ []))) n
+spells-step : (k n : ℕ) (t : Bool) → ltb n 10 ≡ t → Spells (decimalIn k (n / 10)) (n / 10)
+    → Spells (cond t ((48 + n) ∷ []) (decimalIn k (n / 10) ++ ((48 + n % 10) ∷ []))) n
 spells-step k n true e p = spells-digit n (ltb-true n 10 e)
 spells-step k n false e p = spells-more _ n p
 
@@ -62,11 +63,11 @@ spells-decimal (suc k) n h =
     let u : n < 10 * 10 ^ suc k = rw pow-succ' at h in
     spells-step (suc k) n (ltb n 10) refl (spells-decimal k (n / 10) (omega arith))
 
-whole-spelt : (s : List ℕ) (n most : ℕ) → Spells s n → n ≤ most → wholeOf s most ≡ Value n
+whole-spelt : (s : List ℕ) (n most : ℕ) → Spells s n → n ≤ most → spelledWhole s most ≡ Value n
 whole-spelt [] n most p h = absurd (omega (arith, p .some))
 whole-spelt (b ∷ s) n most p h = rw (p .numerals, p .value, le-leb n most h)
 
-pub whole-decimal : (n most : ℕ) → n < 2 ^ 64 → n ≤ most → wholeOf (decimal n) most ≡ Value n
+pub whole-decimal : (n most : ℕ) → n < 2 ^ 64 → n ≤ most → spelledWhole (decimal n) most ≡ Value n
 whole-decimal n most u h = whole-spelt (decimal n) n most (spells-decimal 19 n (omega arith)) h
 
 -- ---- bytes
@@ -105,8 +106,8 @@ byte-pair b h =
     ∙ ap (λ (x : ℕ). b / 16 * 16 + x) (digit (b % 16) (omega arith) .value)
     ∙ omega arith
 
-pub bytes-pairs : (s : List ℕ) → Bytes s → bytesOf (pairsText s) ≡ s
-unfolding bytesOf pairsText
+pub bytes-pairs : (s : List ℕ) → Bytes s → spelledBytes (pairsText s) ≡ s
+unfolding spelledBytes pairsText
 bytes-pairs [] h = refl
 bytes-pairs (b ∷ s) h = rw (byte-pair b (h 0), bytes-pairs s (λ i. h (suc i)))
 

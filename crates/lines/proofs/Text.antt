@@ -1,25 +1,15 @@
 -- Text put one piece behind the other (`puts-behind`, and in a loop `Left`), and a byte at a time (`Put`).
-use Prim.Native.Nat.{ℕ, suc, _+_, _-_, _≤_, _<_, min}
+use Prim.Native.Nat.{ℕ, _+_, _-_, _≤_, _<_, min}
 use native.Mathlib.Numerals.{add-one}
 use native.Mathlib.Decide.{decLe}
-use native.Mathlib.Nat.{add-zero}
 use native.Mathlib.Omega.{arith}
 use mathlib.Core.Path.{_≡_, refl, sym, _∙_}
 use mathlib.Core.List.{List, [], _∷_, _++_}
 use lib.ListN.{length, getD, drop, set, length-append, length-set, drop-of-length-le}
-use lib.Seq.{drop-cons, sets, set-out, length-sets}
+use lib.Seq.{drop-cons, sets, length-sets}
+use Rattle.arrays.proofs.Runs.{sets-append, sets-out}
 use Rattle.lines.specs.Ascii.{ascii}
 use Rattle.lines.specs.Text.{indexAfter, Puts, pairText, pairsText, bytesText}
-
-pub sets-out : (vs l : List ℕ) (i : ℕ) → length l ≤ i → sets l i vs ≡ l
-sets-out [] l i h = refl
-sets-out (a ∷ vs) l i h = rw (set-out l i a h) (sets-out vs l (suc i) (omega arith))
-
-sets-append : (a b l : List ℕ) (i : ℕ) → sets (sets l i a) (i + length a) b ≡ sets l i (a ++ b)
-sets-append [] b l i = rw add-zero
-sets-append (x ∷ a) b l i =
-    let e : i + suc (length a) ≡ suc i + length a = omega arith in
-    rw e (sets-append a b (set l i x) (suc i))
 
 module _ (a b out : List ℕ) (at : ℕ) where
   sets-behind : sets (sets out at a) (indexAfter out at a) b ≡ sets out at (a ++ b)
@@ -29,10 +19,10 @@ module _ (a b out : List ℕ) (at : ℕ) where
       go : Dec (at + length a ≤ length out) → sets (sets out at a) (at + min (length a) (length out - at)) b ≡ sets out at (a ++ b)
       go (yes h) =
           let e : at + min (length a) (length out - at) ≡ at + length a = omega arith in
-          rw e (sets-append a b out at)
+          rw e (sets-append out a b at)
       go (no n) =
           let f = length-sets out at a in
-          sets-out b (sets out at a) _ (omega arith) ∙ sym (sets-out b (sets out at a) (at + length a) (omega arith)) ∙ sets-append a b out at
+          sets-out (sets out at a) b _ (omega arith) ∙ sym (sets-out (sets out at a) b (at + length a) (omega arith)) ∙ sets-append out a b at
 
   index-behind : indexAfter (sets out at a) (indexAfter out at a) b ≡ indexAfter out at (a ++ b)
   unfolding indexAfter
@@ -88,7 +78,7 @@ module _ {out₀ : List ℕ} {at : ℕ} {text out : List ℕ} {to i : ℕ} (p : 
   module _ (h : i < length text) where
     pub put-full : length out ≤ to → Puts out₀ at text out to
     unfolding indexAfter
-    put-full f = record { index = omega (arith, p); bytes = sym (p .same ∙ sets-out (drop i text) out to f) }
+    put-full f = record { index = omega (arith, p); bytes = sym (p .same ∙ sets-out out (drop i text) to f) }
 
     pub put-more : to < length out → Put out₀ at text (set out to (getD text i 0)) (to + 1) (i + 1)
     put-more r =

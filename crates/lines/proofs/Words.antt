@@ -38,7 +38,8 @@ take-before stop (b ∷ s) = take-step b (before stop s) s (eqb b stop) (take-be
 pub part-from : (s : List ℕ) (at : ℕ) → take (length s - at) (drop at s) ≡ drop at s
 part-from s at = take-all (length s - at) (drop at s) (omega (arith, length-drop at s))
 
-pub word-is : (s : List ℕ) (at n : ℕ) → n ≡ length (before 32 (take (length s - at) (drop at s))) → take (n - 0) (take (length s - at) (drop at s)) ≡ wordAt s at
+pub word-is : (s : List ℕ) (at n : ℕ) → n ≡ length (before 32 (take (length s - at) (drop at s)))
+    → take (n - 0) (take (length s - at) (drop at s)) ≡ wordAt s at
 word-is s at n e =
     let z : n - 0 ≡ length (before 32 (drop at s)) = omega (arith, rw (part-from s at) at e) in
     rw (part-from s at, z) (take-before 32 (drop at s))

@@ -1,12 +1,12 @@
--- Bytes in hexadecimal, two digits in lower case for each, `-` for none: what a word spells (`bytesOf`, where it is `hexadecimal`).
+-- Bytes in hexadecimal, two digits in lower case for each, `-` for none: what a word spells (`spelledBytes`, where it is `hexadecimal`).
 use Prim.Native.Nat.{ℕ, _+_, _-_, _*_, _/_, _%_}
 use mathlib.Core.Bool.{Bool, true, false, not, cond, _&&_, _||_}
 use mathlib.Core.List.{List, [], _∷_}
 use lib.Dec.{ltb, eqb}
 use lib.ListN.{length}
 use lib.Seq.{sets}
-use Rattle.lines.specs.declared.reading.Bytes.{Bytes}
-use Rattle.lines.specs.declared.reading.Bytes.the-variants.{Count, Malformed}
+use Rattle.lines.specs.declared.reading.ReadBytes.{ReadBytes}
+use Rattle.lines.specs.declared.reading.ReadBytes.the-variants.{Count, Malformed}
 use Rattle.lines.specs.Decimal.{isNumeral}
 
 -- `a` to `f`
@@ -25,10 +25,10 @@ allDigits [] = true
 allDigits (b ∷ s) = (isNumeral b || isLetter b) && allDigits s
 
 -- the byte of each pair
-unfoldable pub bytesOf : List ℕ → List ℕ
-bytesOf [] = []
-bytesOf (a ∷ []) = []
-bytesOf (a ∷ b ∷ s) = byteOf a b ∷ bytesOf s
+unfoldable pub spelledBytes : List ℕ → List ℕ
+spelledBytes [] = []
+spelledBytes (a ∷ []) = []
+spelledBytes (a ∷ b ∷ s) = byteOf a b ∷ spelledBytes s
 
 -- pairs of digits, at least one, or `-` alone
 abbrev pub hexadecimal : List ℕ → Bool
@@ -40,8 +40,8 @@ hexadecimal (a ∷ b ∷ s) = not (eqb (length s % 2) 1) && allDigits (a ∷ b �
 abbrev pub taken : List ℕ → List ℕ → Bool
 taken s out = hexadecimal s && not (ltb (length out) (length s / 2))
 
-abbrev pub bytesRead : List ℕ → List ℕ → Bytes
+abbrev pub bytesRead : List ℕ → List ℕ → ReadBytes
 bytesRead s out = cond (taken s out) (Count (length s / 2)) Malformed
 
-abbrev pub bytesAfter : List ℕ → List ℕ → List ℕ
-bytesAfter s out = cond (taken s out) (sets out 0 (bytesOf s)) out
+abbrev pub bytesInto : List ℕ → List ℕ → List ℕ
+bytesInto s out = cond (taken s out) (sets out 0 (spelledBytes s)) out

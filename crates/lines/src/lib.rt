@@ -2,9 +2,9 @@
 mod reading; // reading.rt: words, numbers and bytes of a line
 mod writing; // writing.rt: the same put into a buffer
 
-pub use reading::Bytes;
-pub use reading::Signed;
-pub use reading::Whole;
+pub use reading::ReadBytes;
+pub use reading::ReadSigned;
+pub use reading::ReadWhole;
 pub use reading::before;
 pub use reading::next_word;
 pub use reading::read_bytes;

@@ -4,22 +4,22 @@ ghost use Prim.Native.Nat.{_/_, _<_, _≤_};
 ghost use lib.ListN.{length};
 ghost use lib.Seq.{sets};
 ghost use Rattle.lines.specs.Words.{before, wordAt, nextWord};
-ghost use Rattle.lines.specs.Decimal.{isNumeral, wholeOf, plus, minus, signedOf, WholeUpTo, SignedFits};
-ghost use Rattle.lines.specs.Hexadecimal.{isLetter, nibbleOf, byteOf, allDigits, hexadecimal, bytesOf, bytesRead, bytesAfter};
+ghost use Rattle.lines.specs.Decimal.{isNumeral, spelledWhole, plus, minus, spelledSigned, WholeUpTo, SignedFits};
+ghost use Rattle.lines.specs.Hexadecimal.{isLetter, nibbleOf, byteOf, allDigits, hexadecimal, spelledBytes, bytesRead, bytesInto};
 
-pub enum Whole {
+pub enum ReadWhole {
     Value(u64),
     Malformed,
 }
 
 // A number with a sign, as its size.
-pub enum Signed {
+pub enum ReadSigned {
     Plus(u64),
     Minus(u64),
     Malformed,
 }
 
-pub enum Bytes {
+pub enum ReadBytes {
     // So many bytes were read.
     Count(usize),
     Malformed,
@@ -78,58 +78,58 @@ fn wide(b: u8) -> u64
 }
 
 // The whole number, at most `most`, that decimal digits spell.
-pub fn read_whole(s: &[u8], most: u64) -> Whole
-    ensures { λ r. ⌜ r ≡ wholeOf (now (s .entry)) most ⌝ }
+pub fn read_whole(s: &[u8], most: u64) -> ReadWhole
+    ensures { λ r. ⌜ r ≡ spelledWhole (now (s .entry)) most ⌝ }
     ensures { λ r. ⌜ WholeUpTo most r ⌝ }
 {
     if s.len() == 0 {
-        return Whole::Malformed;
+        return ReadWhole::Malformed;
     }
     let mut value: u64 = 0;
     let mut i: usize = 0;
     while i < s.len() {
         let b = s[i];
         if !is_numeral(b) {
-            return Whole::Malformed;
+            return ReadWhole::Malformed;
         }
         let d = wide(b - 48);
         if most < d {
-            return Whole::Malformed;
+            return ReadWhole::Malformed;
         }
         if (most - d) / 10 < value {
-            return Whole::Malformed;
+            return ReadWhole::Malformed;
         }
         value = value * 10 + d;
         i += 1;
     }
-    Whole::Value(value)
+    ReadWhole::Value(value)
 }
 
-fn plus(size: Whole) -> Signed
+fn plus(size: ReadWhole) -> ReadSigned
     ensures { λ r. ⌜ r ≡ plus size ⌝ }
 {
     match size {
-        Whole::Value(n) => Signed::Plus(n),
-        Whole::Malformed => Signed::Malformed,
+        ReadWhole::Value(n) => ReadSigned::Plus(n),
+        ReadWhole::Malformed => ReadSigned::Malformed,
     }
 }
 
-fn minus(size: Whole) -> Signed
+fn minus(size: ReadWhole) -> ReadSigned
     ensures { λ r. ⌜ r ≡ minus size ⌝ }
 {
     match size {
-        Whole::Value(n) => Signed::Minus(n),
-        Whole::Malformed => Signed::Malformed,
+        ReadWhole::Value(n) => ReadSigned::Minus(n),
+        ReadWhole::Malformed => ReadSigned::Malformed,
     }
 }
 
 // The number of 64 bits with a sign that decimal digits spell, with `-` in front of a negative one.
-pub fn read_signed(s: &[u8]) -> Signed
-    ensures { λ r. ⌜ r ≡ signedOf (now (s .entry)) ⌝ }
+pub fn read_signed(s: &[u8]) -> ReadSigned
+    ensures { λ r. ⌜ r ≡ spelledSigned (now (s .entry)) ⌝ }
     ensures { λ r. ⌜ SignedFits r ⌝ }
 {
     if s.len() == 0 {
-        return Signed::Malformed;
+        return ReadSigned::Malformed;
     }
     if s[0] == b'-' {
         return minus(read_whole(&s[1..], 0x8000_0000_0000_0000));
@@ -201,7 +201,7 @@ fn is_hexadecimal(s: &[u8]) -> bool
 // Puts the byte of each pair at the start of out.
 fn put_pairs(s: &[u8], out: &mut [u8])
     requires { ⌜ length (now s) / 2 ≤ length (now out) ⌝ }
-    ensures { λ _. ⌜ now (out .exit) ≡ sets (now (out .entry)) 0 (bytesOf (now (s .entry))) ⌝ }
+    ensures { λ _. ⌜ now (out .exit) ≡ sets (now (out .entry)) 0 (spelledBytes (now (s .entry))) ⌝ }
 {
     let n = s.len() / 2;
     let mut k: usize = 0;
@@ -213,16 +213,16 @@ fn put_pairs(s: &[u8], out: &mut [u8])
 
 // Puts the bytes that s spells in hexadecimal at the start of out, `-` for none. Where s is not of that form, or out is too short, out
 // stays as it was.
-pub fn read_bytes(s: &[u8], out: &mut [u8]) -> Bytes
+pub fn read_bytes(s: &[u8], out: &mut [u8]) -> ReadBytes
     ensures { λ r. ⌜ r ≡ bytesRead (now (s .entry)) (now (out .entry)) ⌝ }
-    ensures { λ _. ⌜ now (out .exit) ≡ bytesAfter (now (s .entry)) (now (out .entry)) ⌝ }
+    ensures { λ _. ⌜ now (out .exit) ≡ bytesInto (now (s .entry)) (now (out .entry)) ⌝ }
 {
     if !is_hexadecimal(s) {
-        return Bytes::Malformed;
+        return ReadBytes::Malformed;
     }
     if out.len() < s.len() / 2 {
-        return Bytes::Malformed;
+        return ReadBytes::Malformed;
     }
     put_pairs(s, out);
-    Bytes::Count(s.len() / 2)
+    ReadBytes::Count(s.len() / 2)
 }

@@ -1,5 +1,5 @@
--- Laws of carrying: vectors that agree (`carry-agree`), the letters of a word from the right, none (`carries-start`) and one more (`carries-letter`), how far the items are
--- then (`carries-working`), and an item added to another (`added-agrees`).
+-- Laws of carrying: vectors that agree (`carry-agree`), the letters of a word from the right, none (`carries-start`) and one more (`carries-letter`), how far
+-- the items are then (`carries-ranged`), and an item added to another (`added-agrees`).
 use mathlib.Core.Path.{_≡_, refl, sym, ap, ap₂, _∙_, subst}
 use mathlib.Core.Bool.{cond}
 use mathlib.Core.List.{List, [], _∷_}
@@ -22,23 +22,25 @@ use Rattle.words.proofs.Counts.{total-append}
 use Rattle.words.proofs.Related.{letterCost}
 use Rattle.words.proofs.Walks.{All, all-behind}
 use Rattle.lists.specs.Lists.{vectorOf}
-use Rattle.lists.specs.Carrying.{Agree, Carries, Working, carryReach, workingReach}
+use Rattle.lists.specs.Carrying.{SameItems, Carries, ItemsRanged, carryReach, workingReach}
 use Rattle.lists.proofs.LetterReach.{StoredLetter, reachOf, carry-reach}
 use Rattle.lists.proofs.Vectors.{vector-here, vector-other}
 
 -- a letter makes of vectors that agree such vectors
-module _ (n : ℕ) (v w : ℕ → Signed) (h : Agree n v w) where
-  moved-agree : (a o : ℕ) (x : Signed) → In n o → Agree n (λ i. cond (eqb i a) (signedSum (v i) (signedProduct x (v o))) (v i)) (λ i. cond (eqb i a) (signedSum (w i) (signedProduct x (w o))) (w i))
+module _ (n : ℕ) (v w : ℕ → Signed) (h : SameItems n v w) where
+  moved-agree : (a o : ℕ) (x : Signed) → In n o →
+      SameItems n (λ i. cond (eqb i a) (signedSum (v i) (signedProduct x (v o))) (v i)) (λ i. cond (eqb i a) (signedSum (w i) (signedProduct x (w o))) (w i))
   moved-agree a o x p i l = ap₂ (λ y z. cond (eqb i a) (signedSum y (signedProduct x z)) y) (h i l) (h o p)
 
-  letter-agree : (l : Letter Signed) → StoredLetter n l → Agree n (carryLetter signedArithmetic l v) (carryLetter signedArithmetic l w)
+  letter-agree : (l : Letter Signed) → StoredLetter n l → SameItems n (carryLetter signedArithmetic l v) (carryLetter signedArithmetic l w)
   unfolding carryLetter
   letter-agree (E j x) s = moved-agree j (j - 1) x (omega (arith, s .0), omega (arith, s .1))
   letter-agree (Et j x) s = moved-agree (j - 1) j x (omega (arith, s .0), s .1)
   letter-agree (D e) s = λ i l. ap (λ y. signedProduct y (e i)) (h i l)
   letter-agree (Dinv e) s = absurd s
 
-pub carry-agree : (n : ℕ) (W : Word Signed) → All (StoredLetter n) W → (v w : ℕ → Signed) → Agree n v w → Agree n (carry signedArithmetic W v) (carry signedArithmetic W w)
+pub carry-agree : (n : ℕ) (W : Word Signed) → All (StoredLetter n) W → (v w : ℕ → Signed) → SameItems n v w →
+    SameItems n (carry signedArithmetic W v) (carry signedArithmetic W w)
 unfolding carry
 carry-agree n [] s v w h = h
 carry-agree n (l ∷ W) s v w h = letter-agree n (carry signedArithmetic W v) (carry signedArithmetic W w) (carry-agree n W (s .1) v w h) l (s .0)
@@ -48,9 +50,11 @@ module _ {n : ℕ} where
   unfolding carry
   carries-none v e = record { eight = e; agrees = λ i p. refl }
 
-  carries-next : {W : Word Signed} {v u t : List Signed} (l : Letter Signed) → StoredLetter n l → Carries n W v u → Carries n (l ∷ []) u t → Carries n (l ∷ W) v t
+  carries-next : {W : Word Signed} {v u t : List Signed} (l : Letter Signed) → StoredLetter n l → Carries n W v u → Carries n (l ∷ []) u t →
+      Carries n (l ∷ W) v t
   unfolding carry
-  carries-next {W} {v} {u} {t} l s c d = record { eight = d .eight; agrees = λ i p. d .agrees i p ∙ letter-agree n (vectorOf u) (carry signedArithmetic W (vectorOf v)) (c .agrees) l s i p }
+  carries-next {W} {v} {u} {t} l s c d =
+      record { eight = d .eight; agrees = λ i p. d .agrees i p ∙ letter-agree n (vectorOf u) (carry signedArithmetic W (vectorOf v)) (c .agrees) l s i p }
 
 -- ---- the letters of a word from the right, those from t on done
 module _ (n : ℕ) (X : Word Signed) (s : All (StoredLetter n) X) where
@@ -60,15 +64,18 @@ module _ (n : ℕ) (X : Word Signed) (s : All (StoredLetter n) X) where
   pub carries-start : (t : ℕ) (v : List Signed) → t ≡ length X → length v ≡ 8 → Carries n (drop t X) v v
   carries-start t v e h = subst (λ W. Carries n W v v) (sym (drop-of-length-le X {i = t} (omega arith))) (carries-none v h)
 
-  pub carries-letter : (t : ℕ) (d : Letter Signed) {v u w : List Signed} → t < length X → Carries n (drop (t + 1) X) v u → Carries n (getD X t d ∷ []) u w → Carries n (drop t X) v w
+  pub carries-letter : (t : ℕ) (d : Letter Signed) {v u w : List Signed} → t < length X → Carries n (drop (t + 1) X) v u → Carries n (getD X t d ∷ []) u w →
+      Carries n (drop t X) v w
   carries-letter t d {v} {u} {w} h c l =
       let e : suc t ≡ t + 1 = omega arith in
       let f : drop t X ≡ getD X t d ∷ drop (t + 1) X = drop-cons X t d h ∙ ap (λ i. getD X t d ∷ drop i X) e in
       subst (λ W. Carries n W v w) (sym f) (carries-next (getD X t d) (subst (All (StoredLetter n)) f (behind t) .0) c l)
 
-  pub carries-working : (t r : ℕ) {v u : List Signed} → r + reachOf X ≤ workingReach → Working r n v → Carries n (drop t X) v u → Working (r + reachOf X) n u
-  carries-working t r {v} {u} far w c =
-      let e : reachOf X ≡ reachOf (take t X) + reachOf (drop t X) = ap reachOf (sym (take-append-drop t X)) ∙ total-append (letterCost carryReach carryReach) (take t X) (drop t X) in
+  pub carries-ranged : (t r : ℕ) {v u : List Signed} → r + reachOf X ≤ workingReach → ItemsRanged r n v → Carries n (drop t X) v u →
+      ItemsRanged (r + reachOf X) n u
+  carries-ranged t r {v} {u} far w c =
+      let cost = letterCost carryReach carryReach in
+      let e : reachOf X ≡ reachOf (take t X) + reachOf (drop t X) = ap reachOf (sym (take-append-drop t X)) ∙ total-append cost (take t X) (drop t X) in
       record {
         eight = c .eight;
         ranged = λ i p. subst (SignedRanged (r + reachOf X)) (sym (c .agrees i p))
@@ -83,9 +90,10 @@ module _ (n a o : ℕ) (w : Number) (v : List Signed) where
   abbrev new : Signed
   new = signedSum (vectorOf v a) (signedProduct (vectorOf v o) (plain w))
 
-  pub added-agrees : n ≤ 8 → length v ≡ 8 → In n a → Agree n (vectorOf (set v (a - 1) new)) (λ i. cond (eqb i a) (sum i) (vectorOf v i))
+  pub added-agrees : n ≤ 8 → length v ≡ 8 → In n a → SameItems n (vectorOf (set v (a - 1) new)) (λ i. cond (eqb i a) (sum i) (vectorOf v i))
   added-agrees few eight to i p = elim (ℕ-discrete i a) [
-    | yes e ↦ ap (vectorOf (set v (a - 1) new)) e ∙ vector-here v eight a (to .0) (omega (arith, to .1)) new ∙ ap (signedSum (vectorOf v a)) (signed-product-comm (vectorOf v o) (plain w))
+    | yes e ↦ ap (vectorOf (set v (a - 1) new)) e ∙ vector-here v eight a (to .0) (omega (arith, to .1)) new
+        ∙ ap (signedSum (vectorOf v a)) (signed-product-comm (vectorOf v o) (plain w))
         ∙ ap sum (sym e) ∙ sym (ap (λ t. cond t (sum i) (vectorOf v i)) (eq-eqb i a e))
     | no e ↦ vector-other v eight a (to .0) (omega (arith, to .1)) new i (p .0) e ∙ sym (ap (λ t. cond t (sum i) (vectorOf v i)) (ne-eqb i a e))
   ]

@@ -10,7 +10,7 @@ use Rattle.number.specs.declared.Number.{Number}
 use Rattle.number.specs.declared.signed.Signed.{Signed}
 use Rattle.words.specs.Word.{Factors, ascending}
 use Rattle.words.proofs.Walks.{All}
-use Rattle.lists.specs.Lists.{signedWord, vectorOf, firstItems, carried, carriedList}
+use Rattle.lists.specs.Lists.{signedWord, vectorOf, firstItems, carriedVector, carriedList}
 use Rattle.lists.specs.Carrying.{Carries}
 use Rattle.lists.proofs.LetterReach.{StoredLetter}
 use Rattle.lists.proofs.Carried.{carry-agree}
@@ -33,14 +33,16 @@ first-length n v = ascending-length v 1 (suc n - 1) ∙ (omega arith)
 pub first-at : (n : ℕ) (v : ℕ → Signed) (k : ℕ) → k < n → getD (firstItems n v) k zeroSigned ≡ v (k + 1)
 first-at n v k h = ascending-at v 1 (suc n - 1) k zeroSigned (omega arith) ∙ ap v (omega arith)
 
-pub carries-list : {n : ℕ} (b : Factors Number) (v u : List Signed) → n ≤ 8 → All (StoredLetter n) (signedWord n b) → Carries n (signedWord n b) v u → take n u ≡ carriedList n b (take n v)
-unfolding carried
+pub carries-list : {n : ℕ} (b : Factors Number) (v u : List Signed) → n ≤ 8 → All (StoredLetter n) (signedWord n b) → Carries n (signedWord n b) v u →
+    take n u ≡ carriedList n b (take n v)
+unfolding carriedVector
 carries-list {n} b v u few s c =
     let L : List Signed = carriedList n b (take n v) in
-    ext-getD zeroSigned (take n u) L (omega (arith, c .eight, length-take n u, first-length n (carried n b (vectorOf (take n v)))))
+    ext-getD zeroSigned (take n u) L (omega (arith, c .eight, length-take n u, first-length n (carriedVector n b (vectorOf (take n v)))))
     (λ k h.
     let l : k < n = omega (arith, length-take n u) in
     let e : k ≡ k + 1 - 1 = omega arith in
     getD-take n u k zeroSigned l ∙ ap (λ i. getD u i zeroSigned) e ∙ c .agrees (k + 1) (omega arith, omega arith)
-    ∙ carry-agree n (signedWord n b) s (vectorOf v) (vectorOf (take n v)) (λ i p. sym (getD-take n v (i - 1) zeroSigned (omega (arith, p .0, p .1)))) (k + 1) (omega arith, omega arith)
-    ∙ sym (first-at n (carried n b (vectorOf (take n v))) k l))
+    ∙ carry-agree n (signedWord n b) s (vectorOf v) (vectorOf (take n v)) (λ i p. sym (getD-take n v (i - 1) zeroSigned (omega (arith, p .0, p .1))))
+    (k + 1) (omega arith, omega arith)
+    ∙ sym (first-at n (carriedVector n b (vectorOf (take n v))) k l))

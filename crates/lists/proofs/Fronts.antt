@@ -1,26 +1,20 @@
--- The first n items of a row, one after the other (`front-next`, `front-end`), and what loops over them come to: reversals counted (`count-next`, `turn-le`),
--- items outside found (`outside-here`, `outside-later`), items written (`write-next`).
-use mathlib.Core.Path.{_≡_, refl, sym, ap, ap₂, _∙_}
+-- The first n items of a row, one after the other (`front-next`, `front-end`) and as written (`front-written`), and what loops over them come to: reversals
+-- counted (`count-next`, `turn-le`), items outside found (`outside-here`, `outside-later`), items written (`write-next`).
+use mathlib.Core.Path.{_≡_, sym, ap, ap₂, _∙_}
 use mathlib.Core.Bool.{Bool, true, false, cond, _||_}
 use mathlib.Core.List.{List, [], _∷_}
-use Prim.Native.Nat.{ℕ, zero, suc, _+_, _*_, _≤_, _<_}
+use Prim.Native.Nat.{ℕ, suc, _+_, _*_, _≤_, _<_}
 use native.Mathlib.Omega.{arith}
 use lib.IntN.{ℤ}
 use lib.ListN.{length, getD, take, drop, length-take, drop-of-length-le}
-use lib.Seq.{sets, drop-cons, getD-take}
+use lib.Seq.{sets, sets-eq, drop-cons, getD-take, take-append-le, take-all}
 use Rattle.number.specs.declared.signed.Signed.{Signed}
 use Rattle.lists.specs.Items.{itemNumbers, listNumbers}
-use Rattle.lists.specs.Lists.{opposite, turn, reversalsBehind, outside, anyOutside}
+use Rattle.lists.specs.Lists.{opposite, turn, reversalsBehind, itemOutside, anyOutside}
 
 -- what the code would read past the end
 abbrev pub unset : Signed
 unset = record { negative = false; size = record { m = 0; x = 0 } }
-
--- within a list no default is read
-pub read-any : {A : Type 0} (v : List A) (i : ℕ) (d e : A) → i < length v → getD v i d ≡ getD v i e
-read-any [] i d e h = absurd (omega arith)
-read-any (a ∷ v) zero d e h = refl
-read-any (a ∷ v) (suc i) d e h = read-any v i d e (omega arith)
 
 module _ {A : Type 0} (v : List A) (n k : ℕ) where
   pub front-next : (d : A) → k < n → n ≤ length v → drop k (take n v) ≡ getD v k d ∷ drop (k + 1) (take n v)
@@ -31,6 +25,10 @@ module _ {A : Type 0} (v : List A) (n k : ℕ) where
   pub front-end : n ≤ k → drop k (take n v) ≡ []
   front-end h = drop-of-length-le (take n v) {i = k} (omega (arith, length-take n v))
 
+-- what was written at the start is there
+pub front-written : {A : Type 0} (v L : List A) (k : ℕ) → length L ≡ k → k ≤ length v → take k (sets v 0 L) ≡ L
+front-written v L k e h = ap (take k) (sets-eq L v 0 (omega arith)) ∙ take-append-le k L _ (omega arith) ∙ take-all k L (omega arith)
+
 module _ (v : List Signed) (n k : ℕ) (d : Signed) (h : k < n) (g : n ≤ length v) where
   -- ---- reversals
   pub count-next : (r found t : ℕ) (last : Signed) → t ≡ turn last (getD v k d) → r ≡ found + reversalsBehind last (drop k (take n v))
@@ -39,11 +37,11 @@ module _ (v : List Signed) (n k : ℕ) (d : Signed) (h : k < n) (g : n ≤ lengt
   count-next r found t last e f = omega (arith, e, f, ap (reversalsBehind last) (front-next v n k d h g))
 
   -- ---- items outside
-  pub outside-here : outside (getD v k d) ≡ true → anyOutside (drop k (take n v)) ≡ true
+  pub outside-here : itemOutside (getD v k d) ≡ true → anyOutside (drop k (take n v)) ≡ true
   unfolding anyOutside
   outside-here e = ap anyOutside (front-next v n k d h g) ∙ ap (λ (t : Bool). t || anyOutside (drop (k + 1) (take n v))) e
 
-  pub outside-later : outside (getD v k d) ≡ false → anyOutside (drop k (take n v)) ≡ anyOutside (drop (k + 1) (take n v))
+  pub outside-later : itemOutside (getD v k d) ≡ false → anyOutside (drop k (take n v)) ≡ anyOutside (drop (k + 1) (take n v))
   unfolding anyOutside
   outside-later e = ap anyOutside (front-next v n k d h g) ∙ ap (λ (t : Bool). t || anyOutside (drop (k + 1) (take n v))) e
 

@@ -13,10 +13,11 @@ use lib.Seq.{sets}
 use Rattle.number.specs.Signed.{zeroSigned, SignedRanged}
 use Rattle.number.proofs.Tests.{both, unless}
 use Rattle.number.proofs.SignedReach.{signed-ranged-zero}
-use Rattle.lists.specs.Items.{isNegative, biased, storable, itemOf}
-use Rattle.lists.specs.declared.items.Item.{Item}
-use Rattle.lists.specs.declared.items.Item.the-variants.{Value, Malformed}
-use Rattle.lists.proofs.Wholes.{biased-near}
+use Rattle.number.specs.Integer.{isNegative, biased}
+use Rattle.lists.specs.Items.{storable, signedItem}
+use Rattle.lists.specs.declared.items.ListItem.{ListItem}
+use Rattle.lists.specs.declared.items.ListItem.the-variants.{Value, Malformed}
+use Rattle.number.proofs.Integers.{biased-near}
 
 module _ (s m e : ℤ) where
   -- a sign of 1 or -1, a mantissa and an exponent in the stored ranges
@@ -29,7 +30,13 @@ module _ (s m e : ℤ) where
 
   storable-true : Storable → storable s m e ≡ true
   unfolding storable
-  storable-true h = simp (eq-eqb (natAbs s) 1 (h .sign), h .plain, le-leb (2 ^ 31) (natAbs m) (h .low), lt-ltb (natAbs m) (2 ^ 32) (h .high), le-leb (natAbs e) 1000 (h .near))
+  storable-true h = simp (
+    eq-eqb (natAbs s) 1 (h .sign),
+    h .plain,
+    le-leb (2 ^ 31) (natAbs m) (h .low),
+    lt-ltb (natAbs m) (2 ^ 32) (h .high),
+    le-leb (natAbs e) 1000 (h .near),
+  )
 
   storable-facts : storable s m e ≡ true → Storable
   unfolding storable
@@ -49,16 +56,17 @@ module _ (s m e : ℤ) where
   allZero : Bool
   allZero = eqb (natAbs s) 0 && (eqb (natAbs m) 0 && eqb (natAbs e) 0)
 
-  pub item-zero : natAbs s ≡ 0 → natAbs m ≡ 0 → natAbs e ≡ 0 → itemOf s m e ≡ Value zeroSigned
-  unfolding itemOf
+  pub item-zero : natAbs s ≡ 0 → natAbs m ≡ 0 → natAbs e ≡ 0 → signedItem s m e ≡ Value zeroSigned
+  unfolding signedItem
   item-zero p q r = simp (eq-eqb (natAbs s) 0 p, eq-eqb (natAbs m) 0 q, eq-eqb (natAbs e) 0 r)
 
-  pub item-value : Storable → (t : Bool) (a x : ℕ) → t ≡ isNegative s → a ≡ natAbs m → x ≡ biased e → itemOf s m e ≡ Value (record { negative = t; size = record { m = a; x = x } })
-  unfolding itemOf
+  pub item-value : Storable → (t : Bool) (a x : ℕ) → t ≡ isNegative s → a ≡ natAbs m → x ≡ biased e →
+      signedItem s m e ≡ Value (record { negative = t; size = record { m = a; x = x } })
+  unfolding signedItem
   item-value h t a x p q r = rw (p, q, r) (simp (ne-eqb (natAbs s) 0 (λ z. omega (arith, h .sign)), storable-true h))
 
-  pub item-malformed : (natAbs s ≡ 0 → natAbs m ≡ 0 → natAbs e ≡ 0 → ⊥) → (Storable → ⊥) → itemOf s m e ≡ Malformed
-  unfolding itemOf allZero
+  pub item-malformed : (natAbs s ≡ 0 → natAbs m ≡ 0 → natAbs e ≡ 0 → ⊥) → (Storable → ⊥) → signedItem s m e ≡ Malformed
+  unfolding signedItem allZero
   item-malformed p q = simp (
     unless allZero (λ h.
         let a = both (eqb (natAbs s) 0) _ h in
@@ -68,15 +76,16 @@ module _ (s m e : ℤ) where
   )
 
 -- a well-formed item is in range
-abbrev pub RangedItem : Item → Type 0
+abbrev pub RangedItem : ListItem → Type 0
 RangedItem (Value a) = SignedRanged 1000 a
 RangedItem Malformed = Unit {0}
 
-pub item-ranged : (s m e : ℤ) → RangedItem (itemOf s m e)
-unfolding itemOf
+pub item-ranged : (s m e : ℤ) → RangedItem (signedItem s m e)
+unfolding signedItem
 item-ranged s m e = go (eqb (natAbs s) 0 && (eqb (natAbs m) 0 && eqb (natAbs e) 0)) (storable s m e) refl
   where
-    go : (t y : Bool) → storable s m e ≡ y → RangedItem (cond t (Value zeroSigned) (cond y (Value (record { negative = isNegative s; size = record { m = natAbs m; x = biased e } })) Malformed))
+    go : (t y : Bool) → storable s m e ≡ y →
+        RangedItem (cond t (Value zeroSigned) (cond y (Value (record { negative = isNegative s; size = record { m = natAbs m; x = biased e } })) Malformed))
     go true y h = signed-ranged-zero 1000
     go false true h =
         let f = storable-facts s m e h in

@@ -1,5 +1,5 @@
--- How far a letter takes the exponents: an item times a factor (`product-reach`), that added to another item (`added-reach`); and so the items carried through a word
--- (`StoredLetter`, `carry-reach`), as that of stored factors (`stored-letters`, `word-reach`, `carried-reach`).
+-- How far a letter takes the exponents: an item times a factor (`product-reach`), that added to another item (`added-reach`); and so the items carried
+-- through a word (`StoredLetter`, `carry-reach`), as that of stored factors (`stored-letters`, `word-reach`, `carried-reach`).
 use mathlib.Core.Path.{_≡_, subst}
 use mathlib.Core.Bool.{Bool, true, false, cond}
 use mathlib.Core.List.{[], _∷_}
@@ -22,7 +22,7 @@ use Rattle.words.proofs.Related.{total, letterCost}
 use Rattle.words.proofs.Stages.{word-all}
 use Rattle.words.specs.Sources.{Each}
 use Rattle.words.proofs.Walks.{All}
-use Rattle.lists.specs.Lists.{signedWord, carried}
+use Rattle.lists.specs.Lists.{signedWord, carriedVector}
 use Rattle.lists.specs.Carrying.{carryReach, workingReach}
 
 module _ {r : ℕ} {y w : Signed} (far : r ≤ workingReach) (v : SignedRanged r y) (s : SignedRanged 1000 w) where
@@ -43,7 +43,8 @@ abbrev pub Within : ℕ → ℕ → (ℕ → Signed) → Type 0
 Within r n v = (i : ℕ) → In n i → SignedRanged r (v i)
 
 module _ (n r : ℕ) (far : r ≤ workingReach) (v : ℕ → Signed) (h : Within r n v) where
-  moved-reach : (a o : ℕ) (w : Signed) → In n o → SignedRanged 1000 w → Within (r + carryReach) n (λ i. cond (eqb i a) (signedSum (v i) (signedProduct w (v o))) (v i))
+  moved-reach : (a o : ℕ) (w : Signed) → In n o → SignedRanged 1000 w →
+      Within (r + carryReach) n (λ i. cond (eqb i a) (signedSum (v i) (signedProduct w (v o))) (v i))
   moved-reach a o w p s i l = go (eqb i a)
     where
       go : (t : Bool) → SignedRanged (r + carryReach) (cond t (signedSum (v i) (signedProduct w (v o))) (v i))
@@ -61,11 +62,13 @@ module _ (n r : ℕ) (far : r ≤ workingReach) (v : ℕ → Signed) (h : Within
 abbrev pub reachOf : Word Signed → ℕ
 reachOf W = total (letterCost carryReach carryReach) W
 
-pub carry-reach : (n r : ℕ) (v : ℕ → Signed) → Within r n v → (W : Word Signed) → All (StoredLetter n) W → r + reachOf W ≤ workingReach → Within (r + reachOf W) n (carry signedArithmetic W v)
+pub carry-reach : (n r : ℕ) (v : ℕ → Signed) → Within r n v → (W : Word Signed) → All (StoredLetter n) W → r + reachOf W ≤ workingReach →
+    Within (r + reachOf W) n (carry signedArithmetic W v)
 unfolding carry total
 carry-reach n r v h [] s far i l = signed-ranged-more (omega arith) (h i l)
 carry-reach n r v h (x ∷ W) s far i l =
-    signed-ranged-more (cost x) (letter-reach n (r + reachOf W) (omega arith) (carry signedArithmetic W v) (carry-reach n r v h W (s .1) (omega arith)) x (s .0) i l)
+    let rest = carry-reach n r v h W (s .1) (omega arith) in
+    signed-ranged-more (cost x) (letter-reach n (r + reachOf W) (omega arith) (carry signedArithmetic W v) rest x (s .0) i l)
   where
     cost : (x : Letter Signed) → r + reachOf W + carryReach ≤ r + (letterCost carryReach carryReach x + reachOf W)
     cost (E j w) = omega arith
@@ -89,8 +92,8 @@ module _ (n : ℕ) (b : Factors Number) where
       let few : n * n ≤ 8 * 8 = mul-le-mul high high in
       omega arith
 
-  pub carried-reach : (v : ℕ → Signed) → 1 ≤ n → n ≤ 8 → Each Stored n b → Within 1000 n v → Within workingReach n (carried n b v)
-  unfolding carried
+  pub carried-reach : (v : ℕ → Signed) → 1 ≤ n → n ≤ 8 → Each Stored n b → Within 1000 n v → Within workingReach n (carriedVector n b v)
+  unfolding carriedVector
   carried-reach v low high s h i l =
       let few = word-reach low high in
       signed-ranged-more (omega arith) (carry-reach n 1000 v h (signedWord n b) (stored-letters s) (omega arith) i l)

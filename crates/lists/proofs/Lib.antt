@@ -1,4 +1,3 @@
-pub mod Wholes
 pub mod ItemForms
 pub mod Reading
 pub mod Fronts

@@ -1,143 +1,171 @@
--- What the list calls answer, by what their tests find: a list as it was read (`Read`, `read-proper`, `read-improper`, `read-working`), the answers to a count of reversals
--- (`reversals-counted`, `reversals-refused`) and to a carry (`carry-improper`, `carry-outside`, `carry-short`, `carry-done`;
--- `Accepted`, `carry-accepted`).
+-- What the list calls find and leave: a list as a reader hands it on (`Read`, `read-is`, `read-ranged`), a count of reversals by it (`reversals-counted`,
+-- `reversals-refused`), and a carry: its tests on the list as read (`carry-judged`), what it writes (`carry-written`, `carry-kept`), and what an
+-- accepted one has shown (`AcceptedCarry`, `carry-accepted`). A list that is not proper is refused, so its items matter only where it is.
 use mathlib.Core.Path.{_≡_, refl, sym, ap, ap₂, _∙_, subst}
-use mathlib.Core.Bool.{Bool, true, false, cond, _&&_, true≢false, false≢true}
-use mathlib.Core.List.{List}
-use mathlib.Core.Option.{Option, none, some}
-use Prim.Native.Nat.{ℕ, _-_, _*_, _≤_, _<_}
+use mathlib.Core.Bool.{Bool, true, false, not, cond, false≢true}
+use mathlib.Core.List.{List, [], _∷_}
+use mathlib.Core.Option.{Option, none, some, Option·getD}
+use Prim.Native.Nat.{ℕ, zero, suc, _+_, _-_, _*_, _≤_}
 use native.Mathlib.Omega.{arith}
-use borrow.Author.Tests.{leb-true, le-leb, lt-ltb, le-ltb, ltb-true, ltb-false}
+use borrow.Author.Tests.{leb-true, ltb-false, not-false}
 use lib.Dec.{leb, ltb}
-use lib.IntN.{ℤ}
-use lib.ListN.{length, take, getD}
-use lib.Seq.{sets, sets-eq, length-sets, take-append-le, take-all, getD-take}
+use lib.IntN.{ℤ, pos}
+use lib.ListN.{length, take, getD, set, replicate}
+use lib.Seq.{sets, length-sets}
+use Rattle.verdict.specs.declared.Refusal.{Refusal}
+use Rattle.verdict.specs.declared.Verdict.{Verdict}
+use Rattle.verdict.specs.declared.Verdict.the-variants.{Accepted, Refused}
+use Rattle.verdict.specs.Verdict.{when, firstBehind, firstOf, after}
+use Rattle.verdict.specs.Report.{accepted, refused, reportOf}
+use Rattle.verdict.proofs.Verdicts.{when-accepted}
 use Rattle.number.specs.Signed.{zeroSigned, SignedRanged}
 use Rattle.number.specs.declared.Number.{Number}
 use Rattle.number.specs.declared.signed.Signed.{Signed}
-use Rattle.words.specs.Word.{Factors}
-use Rattle.lists.specs.Items.{blank, listOf, listNumbers, proper, listed, listedFrom}
-use Rattle.lists.specs.Lists.{reversals, reversalsOf, carriedList, anyOutside, carryConditions, carryOf, Outcome}
-use Rattle.lists.specs.Carrying.{Working}
-use Rattle.lists.specs.declared.Answer.the-variants.{Done, Refused}
-use Rattle.lists.specs.declared.Counted.the-variants as counted
-use Rattle.lists.specs.declared.items.Listed.{Listed}
+use Rattle.number.proofs.SignedReach.{signed-ranged-zero}
 use Rattle.number.proofs.Tests.{both}
-use Rattle.lists.proofs.Reading.{RangedItems, list-ranged}
+use Rattle.words.specs.Word.{Factors}
+use Rattle.lists.specs.Items.{blankItems, listOf, listNumbers, proper, listedWithin, listedFrom}
+use Rattle.lists.specs.Lists.{reversals, itemsOf, carriedList, anyOutside, carryTests, itemsAfterCarry, reversalsCall}
+use Rattle.lists.specs.Carrying.{ItemsRanged}
+use Rattle.lists.specs.declared.items.ItemList.{ItemList}
+use Rattle.lists.proofs.Fronts.{front-written}
+use Rattle.lists.proofs.Reading.{RangedList, list-ranged}
 
--- a proper list, as a reader hands it on
-pub record Read (least most : ℕ) (z : List ℤ) (r : Listed) : Type 0 where
-  pub list : List Signed
-  pub formed : listOf z ≡ some list
-  pub low : least ≤ length list
-  pub high : length list ≤ most
-  pub count : r .count ≡ length list
-  pub front : take (length list) (r .items) ≡ list
+-- ---- a list as it was read
+-- whether it is proper; and then so many items, at the start of eight
+pub record Read (least most : ℕ) (o : Option (List Signed)) (r : ItemList) : Type 0 where
+  pub judged : r .proper ≡ proper least most o
+  pub few : r .count ≤ 8
   pub eight : length (r .items) ≡ 8
+  pub ranged : (i : ℕ) → SignedRanged 1000 (getD (r .items) i zeroSigned)
+  pub low : r .proper ≡ true → least ≤ r .count
+  pub high : r .proper ≡ true → r .count ≤ most
+  pub front : r .proper ≡ true → take (r .count) (r .items) ≡ Option·getD o []
 
--- the items stand at the start of eight
-listed-front : (L : List Signed) → length L ≤ 8 → take (length L) (sets blank 0 L) ≡ L
-listed-front L h = ap (take (length L)) (sets-eq L blank 0 (omega arith)) ∙ take-append-le (length L) L _ (omega arith) ∙ take-all (length L) L (omega arith)
+-- all items are in range
+abbrev Ranged : List Signed → Type 0
+Ranged v = (i : ℕ) → SignedRanged 1000 (getD v i zeroSigned)
 
-module _ (least most : ℕ) (z : List ℤ) (r : Listed) (e : r ≡ listed least most (listOf z)) where
-  pub read-proper : most ≤ 8 → r .proper ≡ true → Read least most z r
-  unfolding listed
-  read-proper m h = go (listOf z) refl (proper least most (listOf z)) refl
-    where
-      go : (o : Option (List Signed)) → listOf z ≡ o → (t : Bool) → proper least most (listOf z) ≡ t → Read least most z r
-      go o f false g = absurd (false≢true (sym (ap (λ (t : Bool). listedFrom blank 0 (cond t (listOf z) none) .proper) g) ∙ sym (ap (λ (x : Listed). x .proper) e) ∙ h))
-      go none f true g = absurd (false≢true (ap (proper least most) (sym f) ∙ g))
-      go (some L) f true g =
-          let p = both (leb least (length L)) (leb (length L) most) (ap (proper least most) (sym f) ∙ g) in
-          let d : r ≡ listedFrom blank 0 (some L) = e ∙ ap₂ (λ (t : Bool) (o : Option (List Signed)). listedFrom blank 0 (cond t o none)) g f in
-          let hi : length L ≤ most = leb-true (length L) most (p .1) in
-          record {
-            list = L;
-            formed = f;
-            low = leb-true least (length L) (p .0);
-            high = hi;
-            count = ap (λ (x : Listed). x .count) d ∙ (omega arith);
-            front = ap (λ (x : Listed). take (length L) (x .items)) d ∙ listed-front L (omega arith);
-            eight = ap (λ (x : Listed). length (x .items)) d ∙ length-sets blank 0 L;
-          }
+ranged-set : (v : List Signed) (k : ℕ) (a : Signed) → SignedRanged 1000 a → Ranged v → Ranged (set v k a)
+ranged-set [] k a u h i = h i
+ranged-set (x ∷ v) zero a u h zero = u
+ranged-set (x ∷ v) zero a u h (suc i) = h (suc i)
+ranged-set (x ∷ v) (suc k) a u h zero = h zero
+ranged-set (x ∷ v) (suc k) a u h (suc i) = ranged-set v k a u (λ j. h (suc j)) i
 
-  pub read-improper : r .proper ≡ false → proper least most (listOf z) ≡ false
-  unfolding listed
-  read-improper h = go (listOf z) refl (proper least most (listOf z)) refl
-    where
-      go : (o : Option (List Signed)) → listOf z ≡ o → (t : Bool) → proper least most (listOf z) ≡ t → proper least most (listOf z) ≡ false
-      go o f false g = g
-      go none f true g = absurd (false≢true (ap (proper least most) (sym f) ∙ g))
-      go (some L) f true g = absurd (true≢false (sym (ap₂ (λ (t : Bool) (o : Option (List Signed)). listedFrom blank 0 (cond t o none) .proper) g f) ∙ sym (ap (λ (x : Listed). x .proper) e) ∙ h))
+ranged-sets : (L v : List Signed) (k : ℕ) → RangedList (some L) → Ranged v → Ranged (sets v k L)
+ranged-sets [] v k u h = h
+ranged-sets (a ∷ L) v k u h = ranged-sets L (set v k a) (suc k) (λ j p. u (suc j) (omega arith)) (ranged-set v k a (u 0 (omega arith)) h)
 
--- its items are in range
-pub read-working : (n : ℕ) (z : List ℤ) (r : Listed) → Read n n z r → Working 1000 n (r .items)
-read-working n z r h =
-    let l : length (h .list) ≡ n = omega (arith, h .low, h .high) in
-    record {
-      eight = h .eight;
-      ranged = λ i p. subst (SignedRanged 1000)
-          (ap (λ (L : List Signed). getD L (i - 1) zeroSigned) (sym (h .front)) ∙ getD-take (length (h .list)) (r .items) (i - 1) zeroSigned (omega (arith, p .0, p .1)))
-          (subst RangedItems (h .formed) (list-ranged z) (i - 1) (omega (arith, p .0, p .1)));
-    }
+ranged-blank : Ranged blankItems
+ranged-blank = go 8
+  where
+    go : (n : ℕ) → Ranged (replicate n zeroSigned)
+    go zero i = signed-ranged-zero 1000
+    go (suc n) zero = signed-ranged-zero 1000
+    go (suc n) (suc i) = go n i
+
+pub read-is : (least most : ℕ) (z : List ℤ) (r : ItemList) → most ≤ 8 → r ≡ listedWithin least most (listOf z) → Read least most (listOf z) r
+unfolding listedWithin
+read-is least most z r m e = subst (Read least most (listOf z)) (sym e) (go (listOf z) (list-ranged z) (proper least most (listOf z)) refl)
+  where
+    go : (o : Option (List Signed)) → RangedList o → (t : Bool) → proper least most o ≡ t → Read least most o (listedFrom blankItems 0 (cond t o none))
+    go o u false g =
+        record {
+          judged = sym g;
+          few = omega arith;
+          eight = refl;
+          ranged = ranged-blank;
+          low = λ h. absurd (false≢true h);
+          high = λ h. absurd (false≢true h);
+          front = λ h. absurd (false≢true h);
+        }
+    go none u true g = absurd (false≢true g)
+    go (some L) u true g =
+        let p = both (leb least (length L)) (leb (length L) most) g in
+        let hi : length L ≤ most = leb-true (length L) most (p .1) in
+        let e : 0 + length L ≡ length L = omega arith in
+        record {
+          judged = sym g;
+          few = omega arith;
+          eight = length-sets blankItems 0 L;
+          ranged = ranged-sets L blankItems 0 u ranged-blank;
+          low = λ h. omega (arith, leb-true least (length L) (p .0));
+          high = λ h. omega arith;
+          front = λ h. ap (λ (k : ℕ). take k (sets blankItems 0 L)) e ∙ front-written blankItems L (length L) refl (omega arith);
+        }
+
+pub read-ranged : {least most : ℕ} {o : Option (List Signed)} {r : ItemList} (n : ℕ) → Read least most o r → ItemsRanged 1000 n (r .items)
+read-ranged n w = record { eight = w .eight; ranged = λ i p. w .ranged (i - 1) }
 
 -- ---- a count of reversals
-module _ (z : List ℤ) where
-  pub reversals-refused : proper 1 8 (listOf z) ≡ false → reversalsOf z ≡ counted.Refused 9
-  unfolding reversalsOf
-  reversals-refused e = simp e
+module _ (z : List ℤ) (r : ItemList) (w : Read 1 8 (listOf z) r) where
+  abbrev tested : Verdict
+  tested = when (not (r .proper)) 9
 
-  pub reversals-counted : (L : List Signed) → listOf z ≡ some L → 1 ≤ length L → length L ≤ 8 → reversalsOf z ≡ counted.Reversals (reversals L)
-  unfolding reversalsOf
-  reversals-counted L e h g = simp (e, le-leb 1 (length L) h, le-leb (length L) 8 g)
+  report : reportOf tested (pos (reversals (itemsOf z)) ∷ []) ≡ reversalsCall z
+  unfolding reversalsCall firstBehind
+  report = ap (λ (t : Bool). reportOf (when (not t) 9) (pos (reversals (itemsOf z)) ∷ [])) (w .judged)
+
+  pub reversals-counted : tested ≡ Accepted → accepted (pos (reversals (take (r .count) (r .items))) ∷ []) ≡ reversalsCall z
+  unfolding firstBehind
+  reversals-counted h =
+      ap (λ (L : List Signed). accepted (pos (reversals L) ∷ [])) (w .front (not-false (r .proper) (when-accepted (not (r .proper)) 9 [] h .0)))
+      ∙ sym (ap (λ (v : Verdict). reportOf v (pos (reversals (itemsOf z)) ∷ [])) h) ∙ report
+
+  pub reversals-refused : (why : Refusal) → tested ≡ Refused why → refused (why .number) (why .offset) ≡ reversalsCall z
+  reversals-refused why h = sym (ap (λ (v : Verdict). reportOf v (pos (reversals (itemsOf z)) ∷ [])) h) ∙ report
 
 -- ---- a carry
 module _ (n : ℕ) (b : Factors Number) (z out : List ℤ) where
-  pub carry-improper : proper n n (listOf z) ≡ false → carryOf n b z out ≡ record { answer = Refused 9; out = out }
-  unfolding carryOf carryConditions
-  carry-improper e = simp e
+  -- u is what the items that were read are carried to
+  module _ (r : ItemList) (w : Read n n (listOf z) r) (u : List Signed) (c : take n u ≡ carriedList n b (take n (r .items))) where
+    carried-items : r .proper ≡ true → take n u ≡ carriedList n b (itemsOf z)
+    carried-items h =
+        let e : n ≡ r .count = omega (arith, w .low h, w .high h) in
+        c ∙ ap (carriedList n b) (ap (λ (k : ℕ). take k (r .items)) e ∙ w .front h)
 
-  module _ (L : List Signed) (e : listOf z ≡ some L) (f : length L ≡ n) where
-    exactly : leb n (length L) && leb (length L) n ≡ true
-    exactly = simp (f, le-leb n n (omega arith))
+    abbrev tests : Bool → Bool → List Verdict
+    tests s t = when (not s) 9 ∷ when t 14 ∷ when (ltb (length out) (3 * n)) 10 ∷ []
 
-    pub carry-outside : anyOutside (carriedList n b L) ≡ true → carryOf n b z out ≡ record { answer = Refused 14; out = out }
-    unfolding carryOf carryConditions
-    carry-outside g = simp (e, exactly, g)
+    pub carry-judged : firstOf (tests (r .proper) (anyOutside (take n u))) ≡ firstOf (carryTests n b z out)
+    unfolding firstBehind
+    carry-judged = go (r .proper) refl
+      where
+        go : (s : Bool) → r .proper ≡ s → firstOf (tests (r .proper) (anyOutside (take n u))) ≡ firstOf (carryTests n b z out)
+        go true e = ap₂ (λ (s t : Bool). firstOf (tests s t)) (w .judged) (ap anyOutside (carried-items e))
+        go false e =
+            ap (λ (s : Bool). firstOf (tests s (anyOutside (take n u)))) e
+            ∙ sym (ap (λ (s : Bool). firstOf (tests s (anyOutside (carriedList n b (itemsOf z))))) (sym (w .judged) ∙ e))
 
-    pub carry-short : anyOutside (carriedList n b L) ≡ false → length out < 3 * n → carryOf n b z out ≡ record { answer = Refused 10; out = out }
-    unfolding carryOf carryConditions
-    carry-short g h = simp (e, exactly, g, lt-ltb (length out) (3 * n) h)
+    pub carry-written : firstOf (carryTests n b z out) ≡ Accepted → sets out 0 (listNumbers (take n u)) ≡ itemsAfterCarry n b z out
+    unfolding itemsAfterCarry
+    carry-written h =
+        let e = w .judged ∙ not-false (proper n n (listOf z)) (when-accepted (not (proper n n (listOf z))) 9 _ h .0) in
+        ap (λ (L : List Signed). sets out 0 (listNumbers L)) (carried-items e)
+        ∙ sym (ap (λ (v : Verdict). after v out (sets out 0 (listNumbers (carriedList n b (itemsOf z))))) h)
 
-    pub carry-done : anyOutside (carriedList n b L) ≡ false → 3 * n ≤ length out → carryOf n b z out ≡ record { answer = Done; out = sets out 0 (listNumbers (carriedList n b L)) }
-    unfolding carryOf carryConditions
-    carry-done g h = simp (e, exactly, g, le-ltb (length out) (3 * n) h)
+  pub carry-kept : (why : Refusal) → firstOf (carryTests n b z out) ≡ Refused why → out ≡ itemsAfterCarry n b z out
+  unfolding itemsAfterCarry
+  carry-kept why h = sym (ap (λ (v : Verdict). after v out (sets out 0 (listNumbers (carriedList n b (itemsOf z))))) h)
 
 -- ---- an accepted carry
-pub record Accepted (n : ℕ) (b : Factors Number) (z out : List ℤ) : Type 0 where
-  pub list : List Signed
-  pub formed : listOf z ≡ some list
-  pub exact : length list ≡ n
-  pub inside : anyOutside (carriedList n b list) ≡ false
+pub record AcceptedCarry (n : ℕ) (b : Factors Number) (z out : List ℤ) : Type 0 where
+  pub formed : listOf z ≡ some (itemsOf z)
+  pub exact : length (itemsOf z) ≡ n
+  pub inside : anyOutside (carriedList n b (itemsOf z)) ≡ false
   pub room : 3 * n ≤ length out
 
-pub carry-accepted : (n : ℕ) (b : Factors Number) (z out : List ℤ) → carryOf n b z out .answer ≡ Done → Accepted n b z out
-carry-accepted n b z out h = go (listOf z) refl (proper n n (listOf z)) refl
-  where
-    refused : (k : ℕ) → carryOf n b z out ≡ record { answer = Refused k; out = out } → Accepted n b z out
-    refused k e =
-        let f : Refused k ≡ Done = sym (ap (λ (x : Outcome). x .answer) e) ∙ h in
-        let w : _≡_ {A = ℕ} 0 1 = cc in
-        absurd (omega arith)
+exactly : (n : ℕ) (o : Option (List Signed)) → proper n n o ≡ true → (o ≡ some (Option·getD o [])) × (length (Option·getD o []) ≡ n)
+exactly n none h = absurd (false≢true h)
+exactly n (some L) h =
+    let p = both (leb n (length L)) (leb (length L) n) h in
+    (refl, omega (arith, leb-true n (length L) (p .0), leb-true (length L) n (p .1)))
 
-    later : (L : List Signed) → listOf z ≡ some L → length L ≡ n → (s t : Bool) → anyOutside (carriedList n b L) ≡ s → ltb (length out) (3 * n) ≡ t → Accepted n b z out
-    later L e f true t p q = refused 14 (carry-outside n b z out L e f p)
-    later L e f false true p q = refused 10 (carry-short n b z out L e f p (ltb-true (length out) (3 * n) q))
-    later L e f false false p q = record { list = L; formed = e; exact = f; inside = p; room = ltb-false (length out) (3 * n) q }
-
-    go : (o : Option (List Signed)) → listOf z ≡ o → (t : Bool) → proper n n (listOf z) ≡ t → Accepted n b z out
-    go o e false f = refused 9 (carry-improper n b z out f)
-    go none e true f = absurd (false≢true (ap (proper n n) (sym e) ∙ f))
-    go (some L) e true f =
-        let p = both (leb n (length L)) (leb (length L) n) (ap (proper n n) (sym e) ∙ f) in
-        later L e (omega (arith, leb-true n (length L) (p .0), leb-true (length L) n (p .1))) _ _ refl refl
+pub carry-accepted : (n : ℕ) (b : Factors Number) (z out : List ℤ) → firstOf (carryTests n b z out) ≡ Accepted → AcceptedCarry n b z out
+carry-accepted n b z out h =
+    let a = when-accepted (not (proper n n (listOf z))) 9 _ h in
+    let c = when-accepted (anyOutside (carriedList n b (itemsOf z))) 14 _ (a .1) in
+    let d = when-accepted (ltb (length out) (3 * n)) 10 _ (c .1) in
+    let e = exactly n (listOf z) (not-false (proper n n (listOf z)) (a .0)) in
+    record { formed = e .0; exact = e .1; inside = c .0; room = ltb-false (length out) (3 * n) (d .0) }

@@ -5,24 +5,22 @@ use Prim.Native.Nat.{ℕ, _+_, _-_, _*_, _≤_, _<_}
 use native.Mathlib.Decide.{ℕ-discrete}
 use native.Mathlib.Omega.{arith}
 use lib.ListN.{length, getD, set, length-set}
-use Rattle.number.specs.Number.{zeroNumber}
 use Rattle.number.specs.Signed.{plain, zeroSigned, signedProduct}
 use Rattle.number.specs.declared.Number.{Number}
 use Rattle.number.specs.declared.signed.Signed.{Signed}
 use Rattle.words.specs.Word.{Factors}
-use Rattle.walk.specs.Table.{cellOf, factorsOf, absent}
-use Rattle.walk.proofs.Lent.{read-default}
+use Rattle.arrays.proofs.Filled.{read-any}
+use Rattle.table.specs.Table.{factorsOf, absent}
+use Rattle.table.proofs.Table.{factor-read}
 use Rattle.lists.specs.Lists.{vectorOf}
 use Rattle.lists.specs.Carrying.{Scaled}
-use Rattle.lists.proofs.Fronts.{read-any}
 use Rattle.lists.proofs.Vectors.{vector-here, vector-other}
 
 -- entry k + 1 of D, as the code reads it
 pub entry-is : (b : List Number) (k : ℕ) → k < 8 → length b ≡ 64 → getD b (k * 9) absent ≡ factorsOf b (k + 1) (k + 1)
-unfolding factorsOf
 entry-is b k h e =
-    let p : k * 9 ≡ cellOf (k + 1) (k + 1) = omega arith in
-    read-default b (k * 9) (omega arith) ∙ ap (λ i. getD b i zeroNumber) p
+    let p : k * 9 ≡ k * 8 + k = omega arith in
+    ap (λ i. getD b i absent) p ∙ factor-read b e k k h h
 
 module _ {b : Factors Number} {v : List Signed} where
   pub scaled-none : length v ≡ 8 → Scaled 0 b v v

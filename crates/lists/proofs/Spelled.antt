@@ -1,4 +1,5 @@
--- The letters of the signed word in the code's terms: their rows, and the places of their factors (`letter-placed`); so letter t carries by a move (`carries-moved`) or by the
+-- The letters of the signed word in the code's terms: their rows, and the places of their factors (`letter-placed`); so letter t carries by a move
+-- (`carries-moved`) or by the
 -- entries of D (`carries-scaled`), and the word has so many letters (`signed-length`).
 use mathlib.Core.Path.{_≡_, refl, sym, ap, ap₂, _∙_}
 use mathlib.Core.Bool.{cond, false≢true}
@@ -17,7 +18,7 @@ use Rattle.words.specs.Walk.{carry, carryLetter}
 use Rattle.words.proofs.Alike.{letters-word}
 use Rattle.words.proofs.Related.{Matched, Letters}
 use Rattle.walk.specs.Letters.{middle, placeWord, moveOf, moveAt, MoveWithin}
-use Rattle.walk.specs.Table.{cellOf, factorsOf}
+use Rattle.table.specs.Table.{cellOf, factorsOf}
 use Rattle.walk.specs.declared.Way.the-variants.{Plain}
 use Rattle.walk.specs.declared.letters.Move.{Move}
 use Rattle.walk.proofs.Acts.{each-length, each-at}
@@ -38,7 +39,8 @@ module _ (b : List Number) (n : ℕ) where
   -- E and Et, and D
   module _ (v : ℕ → Signed) where
     move-carried : (y : Letter ℕ) (x : Letter Signed) → Letters (At b) (At b) n x y → IsMove y → (i : ℕ)
-        → carryLetter signedArithmetic x v i ≡ cond (eqb i (moveOf y .to)) (signedSum (v i) (signedProduct (plain (getD b (moveOf y .at) zeroNumber)) (v (moveOf y .from)))) (v i)
+        → carryLetter signedArithmetic x v i ≡ cond (eqb i (moveOf y .to))
+        (signedSum (v i) (signedProduct (plain (getD b (moveOf y .at) zeroNumber)) (v (moveOf y .from)))) (v i)
     unfolding carryLetter
     move-carried (E k p) (E j w) h m i = ap₂ (λ k x. cond (eqb i k) (signedSum (v i) (signedProduct x (v (k - 1)))) (v i)) (h .0) (h .1)
     move-carried (Et k p) (Et j w) h m i = ap₂ (λ k x. cond (eqb i (k - 1)) (signedSum (v i) (signedProduct x (v k))) (v i)) (h .0) (h .1)
@@ -59,14 +61,16 @@ module _ (b : List Number) (n : ℕ) where
       unfolding letterOf
       letter-placed = each-at _ (signedWord n (factorsOf b)) (placeWord n Plain) spelled t (omega (arith, word-length n Plain low high)) _ _
 
-      pub carries-moved : (v : List Signed) → length v ≡ 8 → (t ≡ middle n → ⊥) → (m : Move) → m ≡ moveAt n Plain t → MoveWithin n m → (w : Number) → w ≡ getD b (m .at) zeroNumber
+      pub carries-moved : (v : List Signed) → length v ≡ 8 → (t ≡ middle n → ⊥) → (m : Move) → m ≡ moveAt n Plain t → MoveWithin n m → (w : Number)
+          → w ≡ getD b (m .at) zeroNumber
           → Carries n (letterOf n (factorsOf b) t ∷ []) v (set v (m .to - 1) (signedSum (vectorOf v (m .to)) (signedProduct (vectorOf v (m .from)) (plain w))))
       unfolding carry moveAt
       carries-moved v eight e m f k w g =
           record {
             eight = length-set v (m .to - 1) _ ∙ eight;
             agrees = λ i p. added-agrees n (m .to) (m .from) w v high eight (k .rows .to-low, k .rows .to-high) i p
-                ∙ ap₂ (λ (x : Move) (z : Number). cond (eqb i (x .to)) (signedSum (vectorOf v i) (signedProduct (plain z) (vectorOf v (x .from)))) (vectorOf v i)) f
+                ∙ ap₂ (λ (x : Move) (z : Number). cond (eqb i (x .to)) (signedSum (vectorOf v i) (signedProduct (plain z) (vectorOf v (x .from))))
+                (vectorOf v i)) f
                 (g ∙ ap (λ (x : Move). getD b (x .at) zeroNumber) f)
                 ∙ sym (move-carried (vectorOf v) _ (letterOf n (factorsOf b) t) letter-placed (letter-move n Plain low high t l e) i);
           }
@@ -76,5 +80,7 @@ module _ (b : List Number) (n : ℕ) where
       carries-scaled e v u s =
           record {
             eight = s .eight;
-            agrees = λ i p. s .done i p ∙ sym (diagonal-carried (vectorOf v) _ (letterOf n (factorsOf b) t) letter-placed (letter-diagonal n Plain low high t l e) i p);
+            agrees =
+                λ i p. s .done i p
+                ∙ sym (diagonal-carried (vectorOf v) _ (letterOf n (factorsOf b) t) letter-placed (letter-diagonal n Plain low high t l e) i p);
           }

@@ -1,4 +1,4 @@
--- Rows of items as vectors: items read (`ranged-front`), ranges widened (`working-more`), and one item changed (`vector-here`, `vector-other`).
+-- Rows of items as vectors: items read (`ranged-front`), ranges widened (`items-ranged-more`), and one item changed (`vector-here`, `vector-other`).
 use mathlib.Core.Path.{_≡_, ap, _∙_, subst}
 use mathlib.Core.List.{List}
 use Prim.Native.Nat.{ℕ, _+_, _-_, _≤_, _<_}
@@ -9,16 +9,17 @@ use Rattle.number.specs.Signed.{zeroSigned, SignedRanged}
 use Rattle.number.specs.declared.signed.Signed.{Signed}
 use Rattle.number.proofs.SignedReach.{signed-ranged-more}
 use Rattle.lists.specs.Lists.{vectorOf}
-use Rattle.lists.specs.Carrying.{Working}
-use Rattle.lists.proofs.Fronts.{read-any}
+use Rattle.lists.specs.Carrying.{ItemsRanged}
+use Rattle.arrays.proofs.Filled.{read-any}
 
-pub working-more : {r s n : ℕ} {v : List Signed} → r ≤ s → Working r n v → Working s n v
-working-more h w = record { eight = w .eight; ranged = λ i p. signed-ranged-more h (w .ranged i p) }
+pub items-ranged-more : {r s n : ℕ} {v : List Signed} → r ≤ s → ItemsRanged r n v → ItemsRanged s n v
+items-ranged-more h w = record { eight = w .eight; ranged = λ i p. signed-ranged-more h (w .ranged i p) }
 
-pub ranged-front : {r : ℕ} (v : List Signed) (n k : ℕ) (d : Signed) → k < n → n ≤ 8 → Working r n v → SignedRanged r (getD v k d)
+pub ranged-front : {r : ℕ} (v : List Signed) (n k : ℕ) (d : Signed) → k < n → n ≤ 8 → ItemsRanged r n v → SignedRanged r (getD v k d)
 ranged-front {r} v n k d h g w =
     let e : k + 1 - 1 ≡ k = omega arith in
-    subst (SignedRanged r) (ap (λ (i : ℕ). getD v i zeroSigned) e ∙ read-any v k zeroSigned d (omega (arith, w .eight))) (w .ranged (k + 1) (omega arith, omega arith))
+    subst (SignedRanged r) (ap (λ (i : ℕ). getD v i zeroSigned) e ∙ read-any v k zeroSigned d (omega (arith, w .eight)))
+    (w .ranged (k + 1) (omega arith, omega arith))
 
 module _ (v : List Signed) (e : length v ≡ 8) (a : ℕ) (low : 1 ≤ a) (high : a ≤ 8) (x : Signed) where
   pub vector-here : vectorOf (set v (a - 1) x) a ≡ x

@@ -1,5 +1,5 @@
 -- What it means that eight items are carried through a word (`Carries`): those of the n rows agree with the carried vector. And how far their exponents
--- may be meanwhile (`Working`).
+-- may be meanwhile (`ItemsRanged`).
 use mathlib.Core.Path.{_≡_}
 use mathlib.Core.List.{List}
 use Prim.Native.Nat.{ℕ, _<_}
@@ -13,13 +13,13 @@ use Rattle.words.specs.Walk.{carry}
 use Rattle.lists.specs.Lists.{signedWord, vectorOf}
 
 -- the items 1 .. n of two vectors are the same
-abbrev pub Agree : ℕ → (v w : ℕ → Signed) → Type 0
-Agree n v w = (i : ℕ) → In n i → v i ≡ w i
+abbrev pub SameItems : ℕ → (v w : ℕ → Signed) → Type 0
+SameItems n v w = (i : ℕ) → In n i → v i ≡ w i
 
 -- the letters of W carry v to u
 pub record Carries (n : ℕ) (W : Word Signed) (v u : List Signed) : Type 0 where
   pub eight : length u ≡ 8
-  pub agrees : Agree n (vectorOf u) (carry signedArithmetic W (vectorOf v))
+  pub agrees : SameItems n (vectorOf u) (carry signedArithmetic W (vectorOf v))
 
 -- the first k of v are multiplied by their entries in u, and no other is changed
 pub record Scaled (k : ℕ) (b : Factors Number) (v u : List Signed) : Type 0 where
@@ -32,7 +32,7 @@ unfoldable pub letterOf : ℕ → Factors Number → ℕ → Letter Signed
 letterOf n b t = getD (signedWord n b) t (D (λ i. zeroSigned))
 
 -- the exponents of the n items are within r
-pub record Working (r n : ℕ) (v : List Signed) : Type 0 where
+pub record ItemsRanged (r n : ℕ) (v : List Signed) : Type 0 where
   pub eight : length v ≡ 8
   pub ranged : (i : ℕ) → In n i → SignedRanged r (vectorOf v i)
 

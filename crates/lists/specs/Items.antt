@@ -1,58 +1,54 @@
 -- List items (document 01, "Shelf calls"): a sign (-1, 0, 1), a mantissa and an exponent in the stored ranges; zero is 0, 0, 0.
--- A list is lent as one row of whole numbers, three to an item: `itemOf` and `listOf` read it, `itemNumbers` and `listNumbers` give the numbers back.
+-- A list is lent as one row of whole numbers, three to an item: `signedItem` and `listOf` read it, `itemNumbers` and `listNumbers` give the numbers back.
 use mathlib.Core.Bool.{Bool, true, false, not, cond, _&&_}
 use mathlib.Core.List.{List, [], _∷_, _++_}
 use mathlib.Core.Option.{Option, none, some}
-use Prim.Native.Nat.{ℕ, suc, _+_, _-_, _^_}
+use Prim.Native.Nat.{ℕ, _+_, _*_, _^_}
 use lib.Dec.{eqb, leb, ltb}
 use lib.IntN.{ℤ, pos, negsuc, natAbs}
-use lib.ListN.{length, replicate}
+use lib.ListN.{length, getD, replicate}
 use lib.Seq.{sets}
-use Rattle.number.specs.Number.{bias, exponentOf}
+use Rattle.number.specs.Integer.{isNegative, biased}
+use Rattle.number.specs.Number.{exponentOf}
 use Rattle.number.specs.Signed.{zeroSigned}
 use Rattle.number.specs.declared.signed.Signed.{Signed}
-use Rattle.lists.specs.declared.items.Item.{Item}
-use Rattle.lists.specs.declared.items.Item.the-variants.{Value, Malformed}
-use Rattle.lists.specs.declared.items.Listed.{Listed}
-
-abbrev pub isNegative : ℤ → Bool
-isNegative (pos n) = false
-isNegative (negsuc n) = true
-
--- an exponent e as it is kept, e + bias
-abbrev pub biased : ℤ → ℕ
-biased (pos n) = bias + n
-biased (negsuc n) = bias - suc n
+use Rattle.lists.specs.declared.items.ListItem.{ListItem}
+use Rattle.lists.specs.declared.items.ListItem.the-variants.{Value, Malformed}
+use Rattle.lists.specs.declared.items.ItemList.{ItemList}
 
 -- a sign of 1 or -1, with a mantissa from 2 ^ 31 to 2 ^ 32 - 1 and an exponent from -1000 to 1000
 unfoldable pub storable : ℤ → ℤ → ℤ → Bool
 storable s m e = eqb (natAbs s) 1 && (not (isNegative m) && (leb (2 ^ 31) (natAbs m) && (ltb (natAbs m) (2 ^ 32) && leb (natAbs e) 1000)))
 
 -- the item of sign s, mantissa m and exponent e
-unfoldable pub itemOf : ℤ → ℤ → ℤ → Item
-itemOf s m e =
+unfoldable pub signedItem : ℤ → ℤ → ℤ → ListItem
+signedItem s m e =
     cond (eqb (natAbs s) 0 && (eqb (natAbs m) 0 && eqb (natAbs e) 0)) (Value zeroSigned)
     (cond (storable s m e) (Value (record { negative = isNegative s; size = record { m = natAbs m; x = biased e } })) Malformed)
 
+-- item k, counted from 0, of a row of numbers
+abbrev pub itemIn : List ℤ → ℕ → ListItem
+itemIn z k = signedItem (getD z (3 * k) (pos 0)) (getD z (3 * k + 1) (pos 0)) (getD z (3 * k + 2) (pos 0))
+
 -- an item before the others
-abbrev pub joined : Item → Option (List Signed) → Option (List Signed)
-joined (Value a) (some L) = some (a ∷ L)
-joined (Value a) none = none
-joined Malformed o = none
+abbrev pub itemBefore : ListItem → Option (List Signed) → Option (List Signed)
+itemBefore (Value a) (some L) = some (a ∷ L)
+itemBefore (Value a) none = none
+itemBefore Malformed o = none
 
 -- the items of a row of numbers, if it is well formed
 unfoldable pub listOf : List ℤ → Option (List Signed)
 listOf [] = some []
 listOf (s ∷ []) = none
 listOf (s ∷ m ∷ []) = none
-listOf (s ∷ m ∷ e ∷ z) = joined (itemOf s m e) (listOf z)
+listOf (s ∷ m ∷ e ∷ z) = itemBefore (signedItem s m e) (listOf z)
 
 -- and back
-abbrev pub isZero : Signed → Bool
-isZero a = eqb (a .size .m) 0
+abbrev pub isZeroItem : Signed → Bool
+isZeroItem a = eqb (a .size .m) 0
 
 abbrev pub signOf : Signed → ℤ
-signOf a = cond (isZero a) (pos 0) (cond (a .negative) (negsuc 0) (pos 1))
+signOf a = cond (isZeroItem a) (pos 0) (cond (a .negative) (negsuc 0) (pos 1))
 
 abbrev pub itemNumbers : Signed → List ℤ
 itemNumbers a = signOf a ∷ pos (a .size .m) ∷ exponentOf (a .size) ∷ []
@@ -67,12 +63,12 @@ proper least most (some L) = leb least (length L) && leb (length L) most
 proper least most none = false
 
 -- the answer of a reader: the items stand at the start of eight, or from position k of v on
-abbrev pub blank : List Signed
-blank = replicate 8 zeroSigned
+abbrev pub blankItems : List Signed
+blankItems = replicate 8 zeroSigned
 
-abbrev pub listedFrom : List Signed → ℕ → Option (List Signed) → Listed
+abbrev pub listedFrom : List Signed → ℕ → Option (List Signed) → ItemList
 listedFrom v k (some L) = record { proper = true; count = k + length L; items = sets v k L }
-listedFrom v k none = record { proper = false; count = 0; items = blank }
+listedFrom v k none = record { proper = false; count = 0; items = blankItems }
 
-unfoldable pub listed : ℕ → ℕ → Option (List Signed) → Listed
-listed least most o = listedFrom blank 0 (cond (proper least most o) o none)
+unfoldable pub listedWithin : ℕ → ℕ → Option (List Signed) → ItemList
+listedWithin least most o = listedFrom blankItems 0 (cond (proper least most o) o none)

@@ -1,28 +1,30 @@
--- The list calls (document 01, "Shelf calls" and its tables of refusals): what a carry and a count of reversals answer and write (`carryOf`, `reversalsOf`).
+-- The list calls (document 01, "Shelf calls" and its tables of refusals): the tests of a carry and of a count of reversals (`carryTests`,
+-- `reversalsTests`), what a carry writes (`itemsAfterCarry`), and what a count returns (`reversalsCall`).
 use mathlib.Core.Bool.{Bool, false, not, cond, xor, _&&_, _||_}
 use mathlib.Core.List.{List, [], _∷_}
-use mathlib.Core.Option.{Option, none, some, Option·getD}
+use mathlib.Core.Option.{Option·getD}
 use Prim.Native.Nat.{ℕ, _+_, _-_, _*_}
 use lib.Dec.{ltb}
-use lib.IntN.{ℤ}
+use lib.IntN.{ℤ, pos}
 use lib.ListN.{length, getD}
 use lib.Seq.{sets}
+use Rattle.verdict.specs.declared.Verdict.{Verdict}
+use Rattle.verdict.specs.Verdict.{when, firstOf, after}
+use Rattle.verdict.specs.Report.{Report, accepted, refused, reportOf}
 use Rattle.number.specs.Number.{inRange}
 use Rattle.number.specs.Signed.{plain, zeroSigned, signedArithmetic}
 use Rattle.number.specs.declared.Number.{Number}
 use Rattle.number.specs.declared.signed.Signed.{Signed}
 use Rattle.words.specs.Word.{Factors, Word, word, forUp}
 use Rattle.words.specs.Walk.{carry}
-use Rattle.lists.specs.Items.{isZero, listOf, listNumbers, proper}
-use Rattle.lists.specs.declared.Answer.{Answer}
-use Rattle.lists.specs.declared.Answer.the-variants.{Done, Refused}
-use Rattle.lists.specs.declared.Counted.{Counted}
-use Rattle.lists.specs.declared.Counted.the-variants as counted
+use Rattle.lists.specs.Items.{isZeroItem, listOf, listNumbers, proper}
+use Rattle.lists.specs.declared.Reversals.{Reversals}
+use Rattle.lists.specs.declared.Reversals.the-variants.{Count, Refused}
 
 -- ---- reversals
 -- one is positive and one negative
 unfoldable pub opposite : Signed → Signed → Bool
-opposite a b = not (isZero a) && (not (isZero b) && xor (a .negative) (b .negative))
+opposite a b = not (isZeroItem a) && (not (isZeroItem b) && xor (a .negative) (b .negative))
 
 -- 1 for a reversal, 0 for none
 abbrev pub turn : Signed → Signed → ℕ
@@ -49,57 +51,43 @@ firstItems n v = forUp 1 n (λ i. v i ∷ [])
 abbrev pub signedWord : ℕ → Factors Number → Word Signed
 signedWord n b = word n (λ i j. plain (b i j))
 
-unfoldable pub carried : ℕ → Factors Number → (ℕ → Signed) → ℕ → Signed
-carried n b v = carry signedArithmetic (signedWord n b) v
+unfoldable pub carriedVector : ℕ → Factors Number → (ℕ → Signed) → ℕ → Signed
+carriedVector n b v = carry signedArithmetic (signedWord n b) v
 
 abbrev pub carriedList : ℕ → Factors Number → List Signed → List Signed
-carriedList n b L = firstItems n (carried n b (vectorOf L))
+carriedList n b L = firstItems n (carriedVector n b (vectorOf L))
 
--- ---- refusals
--- a condition under which a call is turned down, and its number
-pub record Condition : Type 0 where
-  pub holds : Bool
-  pub number : ℕ
-
--- the number of the first condition that holds
-abbrev pub refusal : List Condition → Option ℕ
-refusal [] = none
-refusal (c ∷ L) = cond (c .holds) (some (c .number)) (refusal L)
-
+-- the items of a row of numbers, none where it is not well formed
 abbrev pub itemsOf : List ℤ → List Signed
 itemsOf items = Option·getD (listOf items) []
 
 -- an item is not zero, and its exponent lies outside the stored range
-abbrev pub outside : Signed → Bool
-outside a = not (isZero a) && not (inRange (a .size))
+abbrev pub itemOutside : Signed → Bool
+itemOutside a = not (isZeroItem a) && not (inRange (a .size))
 
 unfoldable pub anyOutside : List Signed → Bool
 anyOutside [] = false
-anyOutside (a ∷ L) = outside a || anyOutside L
-
-unfoldable pub carryConditions : ℕ → Factors Number → (items out : List ℤ) → List Condition
-carryConditions n b items out =
-    record { holds = not (proper n n (listOf items)); number = 9 }
-    ∷ record { holds = anyOutside (carriedList n b (itemsOf items)); number = 14 }
-    ∷ record { holds = ltb (length out) (3 * n); number = 10 }
-    ∷ []
+anyOutside (a ∷ L) = itemOutside a || anyOutside L
 
 -- ---- the calls
--- what a carry answers, and what the lent output then holds: the carried items in its first 3 n numbers, and nothing else changed; a refusal changes nothing
-pub record Outcome : Type 0 where
-  pub answer : Answer
-  pub out : List ℤ
+-- CARRY: not a list of n items; an item of the result outside the stored range; too little room
+abbrev pub carryTests : ℕ → Factors Number → (items out : List ℤ) → List Verdict
+carryTests n b items out =
+    when (not (proper n n (listOf items))) 9 ∷ when (anyOutside (carriedList n b (itemsOf items))) 14 ∷ when (ltb (length out) (3 * n)) 10 ∷ []
 
-abbrev pub carryBy : List Signed → List ℤ → Option ℕ → Outcome
-carryBy L out none = record { answer = Done; out = sets out 0 (listNumbers L) }
-carryBy L out (some k) = record { answer = Refused k; out = out }
+-- what the lent output holds after a carry: the carried items in its first 3 n numbers, and nothing else changed; a refusal changes nothing
+unfoldable pub itemsAfterCarry : ℕ → Factors Number → (items out : List ℤ) → List ℤ
+itemsAfterCarry n b items out = after (firstOf (carryTests n b items out)) out (sets out 0 (listNumbers (carriedList n b (itemsOf items))))
 
-unfoldable pub carryOf : ℕ → Factors Number → (items out : List ℤ) → Outcome
-carryOf n b items out = carryBy (carriedList n b (itemsOf items)) out (refusal (carryConditions n b items out))
+-- REVERSALS: not a list of 1 to 8 items
+abbrev pub reversalsTests : List ℤ → List Verdict
+reversalsTests items = when (not (proper 1 8 (listOf items))) 9 ∷ []
 
-abbrev pub reversalsBy : List Signed → Option ℕ → Counted
-reversalsBy L none = counted.Reversals (reversals L)
-reversalsBy L (some k) = counted.Refused k
+-- what a count of reversals returns
+unfoldable pub reversalsCall : List ℤ → Report
+reversalsCall items = reportOf (firstOf (reversalsTests items)) (pos (reversals (itemsOf items)) ∷ [])
 
-unfoldable pub reversalsOf : List ℤ → Counted
-reversalsOf items = reversalsBy (itemsOf items) (refusal (record { holds = not (proper 1 8 (listOf items)); number = 9 } ∷ []))
+-- what its answers report
+abbrev pub reversalsReport : Reversals → Report
+reversalsReport (Count k) = accepted (pos k ∷ [])
+reversalsReport (Refused w) = refused (w .number) (w .offset)

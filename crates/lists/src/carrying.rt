@@ -6,10 +6,10 @@ ghost use lib.ListN.{take, set};
 ghost use Rattle.number.specs.Number.{Stored, reach};
 ghost use Rattle.number.specs.Signed.{plain, signedSum, signedProduct, SignedRanged};
 ghost use Rattle.words.specs.Sources.{Each};
-ghost use Rattle.walk.specs.Table.{factorsOf};
+ghost use Rattle.table.specs.Table.{factorsOf};
 ghost use Rattle.walk.specs.Letters.{middle};
 ghost use Rattle.lists.specs.Lists.{vectorOf, carriedList};
-ghost use Rattle.lists.specs.Carrying.{Carries, Scaled, Working, letterOf, workingReach};
+ghost use Rattle.lists.specs.Carrying.{Carries, Scaled, ItemsRanged, letterOf, workingReach};
 use number::Number;
 use number::signed::Signed;
 use walk::Way;
@@ -31,7 +31,7 @@ fn added(v: [Signed; 8], to: usize, from: usize, w: Number) -> [Signed; 8]
 // D: each item times its entry.
 fn diagonal(v: [Signed; 8], b: [Number; 64], n: usize) -> [Signed; 8]
     requires { ⌜ n ≤ 8 ⌝ }
-    requires { ⌜ Working workingReach n v × Each Stored n (factorsOf b) ⌝ }
+    requires { ⌜ ItemsRanged workingReach n v × Each Stored n (factorsOf b) ⌝ }
     ensures { λ r. ⌜ Scaled n (factorsOf b) v r ⌝ }
 {
     let mut u = v;
@@ -48,7 +48,7 @@ fn diagonal(v: [Signed; 8], b: [Number; 64], n: usize) -> [Signed; 8]
 // Letter t of the word.
 fn letter(v: [Signed; 8], b: [Number; 64], n: usize, t: usize) -> [Signed; 8]
     requires { ⌜ (1 ≤ n) × (n ≤ 8) × (t < 2 * middle n + 1) ⌝ }
-    requires { ⌜ Working workingReach n v × Each Stored n (factorsOf b) ⌝ }
+    requires { ⌜ ItemsRanged workingReach n v × Each Stored n (factorsOf b) ⌝ }
     ensures { λ r. ⌜ Carries n (letterOf n (factorsOf b) t ∷ []) v r ⌝ }
 {
     if t == letters::middle(n) {
@@ -62,9 +62,9 @@ fn letter(v: [Signed; 8], b: [Number; 64], n: usize, t: usize) -> [Signed; 8]
 
 // The whole word.
 pub fn through(v: [Signed; 8], b: [Number; 64], n: usize) -> [Signed; 8]
-    requires { ⌜ (1 ≤ n) × (n ≤ 8) × Working 1000 n v × Each Stored n (factorsOf b) ⌝ }
+    requires { ⌜ (1 ≤ n) × (n ≤ 8) × ItemsRanged 1000 n v × Each Stored n (factorsOf b) ⌝ }
     ensures { λ r. ⌜ take n r ≡ carriedList n (factorsOf b) (take n v) ⌝ }
-    ensures { λ r. ⌜ Working reach n r ⌝ }
+    ensures { λ r. ⌜ ItemsRanged reach n r ⌝ }
 {
     let mut u = v;
     let mut t = 2 * letters::middle(n) + 1;

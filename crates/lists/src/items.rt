@@ -2,26 +2,27 @@
 ghost use mathlib.Core.Path.{_≡_};
 ghost use mathlib.Core.Option.{none};
 ghost use Prim.Native.Nat.{_+_, _*_, _≤_, _<_};
-ghost use lib.IntN.{pos, natAbs};
-ghost use lib.ListN.{length, getD, take};
+ghost use lib.IntN.{natAbs};
+ghost use lib.ListN.{length, take};
 ghost use lib.Seq.{sets};
 ghost use Rattle.number.specs.Number.{reach};
 ghost use Rattle.number.specs.Signed.{SignedRanged};
-ghost use Rattle.lists.specs.Items.{biased, blank, itemOf, listOf, listed, listedFrom, signOf, itemNumbers, listNumbers};
-ghost use Rattle.lists.specs.Carrying.{Working};
-use crate::whole;
+ghost use Rattle.number.specs.Integer.{biased};
+ghost use Rattle.lists.specs.Items.{blankItems, signedItem, itemIn, listOf, listedWithin, listedFrom, signOf, itemNumbers, listNumbers};
+ghost use Rattle.lists.specs.Carrying.{ItemsRanged};
 use number::BIAS;
 use number::Number;
+use number::integer;
 use number::signed::Signed;
 
 // What three whole numbers are.
-pub enum Item {
+pub enum ListItem {
     Value(Signed),
     Malformed,
 }
 
 // The items of a list, at the start of eight, if it is a proper one.
-pub struct Listed {
+pub struct ItemList {
     pub proper: bool,
     pub count: usize,
     pub items: [Signed; 8],
@@ -32,55 +33,55 @@ fn biased(e: i64) -> u64
     requires { ⌜ natAbs e ≤ 1000 ⌝ }
     ensures { λ r. ⌜ r ≡ biased e ⌝ }
 {
-    let far = whole::magnitude(e);
-    if whole::is_negative(e) {
+    let far = integer::magnitude(e);
+    if integer::is_negative(e) {
         return BIAS - far;
     }
     BIAS + far
 }
 
 // The item of sign s, mantissa m and exponent e.
-fn item_of(s: i64, m: i64, e: i64) -> Item
-    ensures { λ r. ⌜ r ≡ itemOf s m e ⌝ }
+fn item_of(s: i64, m: i64, e: i64) -> ListItem
+    ensures { λ r. ⌜ r ≡ signedItem s m e ⌝ }
 {
-    let sign = whole::magnitude(s);
-    let size = whole::magnitude(m);
-    let far = whole::magnitude(e);
+    let sign = integer::magnitude(s);
+    let size = integer::magnitude(m);
+    let far = integer::magnitude(e);
     if sign == 0 {
         if size == 0 {
             if far == 0 {
-                return Item::Value(Signed::zero());
+                return ListItem::Value(Signed::zero());
             }
         }
-        return Item::Malformed;
+        return ListItem::Malformed;
     }
     if sign != 1 {
-        return Item::Malformed;
+        return ListItem::Malformed;
     }
-    if whole::is_negative(m) {
-        return Item::Malformed;
+    if integer::is_negative(m) {
+        return ListItem::Malformed;
     }
     if size < 0x8000_0000 {
-        return Item::Malformed;
+        return ListItem::Malformed;
     }
     if 0xffff_ffff < size {
-        return Item::Malformed;
+        return ListItem::Malformed;
     }
     if 1000 < far {
-        return Item::Malformed;
+        return ListItem::Malformed;
     }
     let x = biased(e);
-    let negative = whole::is_negative(s);
-    Item::Value(Signed {
+    let negative = integer::is_negative(s);
+    ListItem::Value(Signed {
         negative,
         size: Number { m: size, x },
     })
 }
 
 // Item k, counted from 0, of a row of numbers.
-fn item_at(items: &[i64], k: usize) -> Item
+fn item_at(items: &[i64], k: usize) -> ListItem
     requires { ⌜ 3 * k + 2 < length (now items) ⌝ }
-    ensures { λ r. ⌜ r ≡ itemOf (getD (now (items .entry)) (3 * k) (pos 0)) (getD (now (items .entry)) (3 * k + 1) (pos 0)) (getD (now (items .entry)) (3 * k + 2) (pos 0)) ⌝ }
+    ensures { λ r. ⌜ r ≡ itemIn (now (items .entry)) k ⌝ }
 {
     let s = items[3 * k];
     let m = items[3 * k + 1];
@@ -89,16 +90,16 @@ fn item_at(items: &[i64], k: usize) -> Item
 }
 
 fn blank() -> [Signed; 8]
-    ensures { λ r. ⌜ r ≡ blank ⌝ }
+    ensures { λ r. ⌜ r ≡ blankItems ⌝ }
 {
     let zero = Signed::zero();
     [zero; 8]
 }
 
-fn improper() -> Listed
-    ensures { λ r. ⌜ r ≡ listedFrom blank 0 none ⌝ }
+fn improper() -> ItemList
+    ensures { λ r. ⌜ r ≡ listedFrom blankItems 0 none ⌝ }
 {
-    Listed {
+    ItemList {
         proper: false,
         count: 0,
         items: blank(),
@@ -106,25 +107,25 @@ fn improper() -> Listed
 }
 
 // The n items of a row of 3 n numbers.
-fn items_of(items: &[i64], n: usize) -> Listed
+fn items_of(items: &[i64], n: usize) -> ItemList
     requires { ⌜ (n ≤ 8) × (length (now items) ≡ 3 * n) ⌝ }
-    ensures { λ r. ⌜ r ≡ listedFrom blank 0 (listOf (now (items .entry))) ⌝ }
+    ensures { λ r. ⌜ r ≡ listedFrom blankItems 0 (listOf (now (items .entry))) ⌝ }
 {
     let mut v = blank();
     let mut k = 0;
     while k < n {
         let item = item_at(items, k);
         match item {
-            Item::Value(a) => {
+            ListItem::Value(a) => {
                 v[k] = a;
             }
-            Item::Malformed => {
+            ListItem::Malformed => {
                 return improper();
             }
         }
         k += 1;
     }
-    Listed {
+    ItemList {
         proper: true,
         count: n,
         items: v,
@@ -132,9 +133,9 @@ fn items_of(items: &[i64], n: usize) -> Listed
 }
 
 // A list of least to most items.
-pub fn read(items: &[i64], least: usize, most: usize) -> Listed
+pub fn read(items: &[i64], least: usize, most: usize) -> ItemList
     requires { ⌜ most ≤ 8 ⌝ }
-    ensures { λ r. ⌜ r ≡ listed least most (listOf (now (items .entry))) ⌝ }
+    ensures { λ r. ⌜ r ≡ listedWithin least most (listOf (now (items .entry))) ⌝ }
 {
     let n = items.len() / 3;
     if 3 * n < items.len() {
@@ -157,7 +158,7 @@ fn sign(a: Signed) -> i64
         return 0;
     }
     if a.negative {
-        return whole::minus(1);
+        return integer::minus(1);
     }
     1
 }
@@ -169,7 +170,7 @@ fn put(a: Signed, out: &mut [i64], at: usize)
 {
     let s = sign(a);
     let size = a.size;
-    let m = whole::plus(size.m);
+    let m = integer::plus(size.m);
     let e = size.exponent();
     out[at] = s;
     out[at + 1] = m;
@@ -178,7 +179,7 @@ fn put(a: Signed, out: &mut [i64], at: usize)
 
 // Writes the first n of eight items.
 pub fn write(v: [Signed; 8], n: usize, out: &mut [i64])
-    requires { ⌜ (n ≤ 8) × Working reach n v × (3 * n ≤ length (now out)) ⌝ }
+    requires { ⌜ (n ≤ 8) × ItemsRanged reach n v × (3 * n ≤ length (now out)) ⌝ }
     ensures { λ r. ⌜ now (out .exit) ≡ sets (now (out .entry)) 0 (listNumbers (take n v)) ⌝ }
 {
     let mut k = 0;

@@ -2,27 +2,24 @@
 ghost use mathlib.Core.Path.{_≡_};
 ghost use Prim.Native.Nat.{_≤_};
 ghost use lib.ListN.{take};
-ghost use Rattle.lists.specs.Lists.{turn, reversals, outside, anyOutside, carryOf, reversalsOf};
+ghost use Rattle.lists.specs.Lists.{turn, reversals, itemOutside, anyOutside, carryTests, itemsAfterCarry, reversalsCall, reversalsReport};
+ghost use Rattle.verdict.specs.Verdict.{firstOf};
 ghost use Rattle.number.specs.Number.{Stored};
 ghost use Rattle.words.specs.Sources.{Each};
-ghost use Rattle.walk.specs.Table.{factorsOf};
+ghost use Rattle.table.specs.Table.{factorsOf};
 use number::Number;
 use number::signed::Signed;
+use verdict::Refusal;
+use verdict::Verdict;
+use verdict::test;
 
 mod carrying; // carrying.rt: items through a word
 mod items; // items.rt: items as three whole numbers
-pub mod whole; // whole.rt: whole numbers with a sign
-
-// A carry was done, or was refused with document 01's number.
-pub enum Answer {
-    Done,
-    Refused(u64),
-}
 
 // How many reversals, or a refusal.
-pub enum Counted {
-    Reversals(u64),
-    Refused(u64),
+pub enum Reversals {
+    Count(u64),
+    Refused(Refusal),
 }
 
 // 1 for a positive and a negative item, in either order, else 0.
@@ -66,20 +63,22 @@ fn count(v: [Signed; 8], n: usize) -> u64
     found
 }
 
-pub fn reversals(items: &[i64]) -> Counted
-    ensures { λ r. ⌜ r ≡ reversalsOf (now (items .entry)) ⌝ }
+pub fn count_reversals(items: &[i64]) -> Reversals
+    ensures { λ r. ⌜ reversalsReport r ≡ reversalsCall (now (items .entry)) ⌝ }
 {
     let list = items::read(items, 1, 8);
-    if list.proper {
-        let v = list.items;
-        return Counted::Reversals(count(v, list.count));
+    let v = list.items;
+    let found = count(v, list.count);
+    let verdict = test(Verdict::Accepted, !list.proper, 9);
+    match verdict {
+        Verdict::Accepted => Reversals::Count(found),
+        Verdict::Refused(why) => Reversals::Refused(why),
     }
-    Counted::Refused(9)
 }
 
 // Not zero, and with an exponent outside -1000 to 1000.
 fn outside(a: Signed) -> bool
-    ensures { λ r. ⌜ r ≡ outside a ⌝ }
+    ensures { λ r. ⌜ r ≡ itemOutside a ⌝ }
 {
     let size = a.size;
     if size.m == 0 {
@@ -105,23 +104,25 @@ fn any_outside(v: [Signed; 8], n: usize) -> bool
 }
 
 // Carries the items through the word of n rows with these factors, that of row i and column j at (i - 1) * 8 + (j - 1), into `out`.
-pub fn carry(factors: [Number; 64], n: usize, items: &[i64], out: &mut [i64]) -> Answer
+// Zeros are carried in place of a list that is not proper.
+pub fn carry(factors: [Number; 64], n: usize, items: &[i64], out: &mut [i64]) -> Verdict
     requires { ⌜ (1 ≤ n) × (n ≤ 8) × Each Stored n (factorsOf factors) ⌝ }
-    ensures { λ r. ⌜ r ≡ carryOf n (factorsOf factors) (now (items .entry)) (now (out .entry)) .answer ⌝ }
-    ensures { λ r. ⌜ now (out .exit) ≡ carryOf n (factorsOf factors) (now (items .entry)) (now (out .entry)) .out ⌝ }
+    ensures { λ r. ⌜ r ≡ firstOf (carryTests n (factorsOf factors) (now (items .entry)) (now (out .entry))) ⌝ }
+    ensures { λ r. ⌜ now (out .exit) ≡ itemsAfterCarry n (factorsOf factors) (now (items .entry)) (now (out .entry)) ⌝ }
 {
     let list = items::read(items, n, n);
-    if list.proper {
-        let v = list.items;
-        let u = carrying::through(v, factors, n);
-        if any_outside(u, n) {
-            return Answer::Refused(14);
+    let given = list.items;
+    let u = carrying::through(given, factors, n);
+    let outside = any_outside(u, n);
+    let mut v = Verdict::Accepted;
+    v = test(v, !list.proper, 9);
+    v = test(v, outside, 14);
+    v = test(v, out.len() < 3 * n, 10);
+    match v {
+        Verdict::Accepted => {
+            items::write(u, n, out);
+            Verdict::Accepted
         }
-        if out.len() < 3 * n {
-            return Answer::Refused(10);
-        }
-        items::write(u, n, out);
-        return Answer::Done;
+        Verdict::Refused(why) => Verdict::Refused(why),
     }
-    Answer::Refused(9)
 }

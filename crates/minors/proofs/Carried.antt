@@ -1,4 +1,5 @@
--- A LETTER IS A HOMOMORPHISM: what it makes of a wedge is the wedge of the carried vector and of what it makes of the form (act-wedge); it keeps the empty form (act-empty).
+-- A LETTER IS A HOMOMORPHISM: what it makes of a wedge is the wedge of the carried vector and of what it makes of the form (act-wedge); it keeps the empty form
+-- (act-empty).
 use mathlib.Core.Path.{_≡_, refl, sym, ap, ap₂, _∙_, subst, fun-ext}
 use mathlib.Core.Bool.{Bool, true, false, not, _&&_}
 use mathlib.Core.List.{[], _∷_}
@@ -28,7 +29,8 @@ module _ (K : CRing) (O : Ordered K) where
   F = arithmetic K O
 
   -- letters are linear
-  moved-linear : (a o : ℕ) (w c : R) (ω η : RowSet → R) (S : RowSet) → moved F a o w (λ T. c * ω T + neg (η T)) S ≡ c * moved F a o w ω S + neg (moved F a o w η S)
+  moved-linear : (a o : ℕ) (w c : R) (ω η : RowSet → R) (S : RowSet)
+      → moved F a o w (λ T. c * ω T + neg (η T)) S ≡ c * moved F a o w ω S + neg (moved F a o w η S)
   unfolding moved
   moved-linear a o w c ω η S = by (has a S && not (has o S))
     where

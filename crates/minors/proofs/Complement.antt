@@ -1,5 +1,6 @@
--- JACOBI'S COMPLEMENTARY MINORS: the minors of the inverse's word are those of the word at the complements of the sets, exchanged, over the word's determinant (minor-inverse).
--- The determinant is the product of all diagonal entries (wordDeterminant), positive where these are (Diagonal, word-diagonal, wordDeterminant-positive).
+-- JACOBI'S COMPLEMENTARY MINORS: the minors of the inverse's word are those of the word at the complements of the sets, exchanged, over the word's determinant
+-- (minor-inverse). The determinant is the product of all diagonal entries (wordDeterminant), positive where these are (Diagonal, word-diagonal,
+-- wordDeterminant-positive).
 use mathlib.Core.Path.{_≡_, refl, sym, ap, ap₂, _∙_, fun-ext, subst}
 use mathlib.Core.Bool.{Bool, true, false, not, cond, _&&_, Bool·not-not}
 use mathlib.Core.List.{[], _∷_, _++_, map}
@@ -19,8 +20,7 @@ use Rattle.words.proofs.RowSets.{in-under, in-top, length-put}
 use Rattle.words.proofs.Walks.{Rows, All}
 use Rattle.words.proofs.Agree.{act-agree}
 use Rattle.words.proofs.Words.{transposed-transposed, inverse-all, inverse-row, transposed-rows}
-use Rattle.words.proofs.Steps.{Weights, weights-weaken, word-weights}
-use Rattle.minors.specs.Matrix.{Positive}
+use Rattle.words.proofs.Steps.{Weights, word-weights}
 use Rattle.minors.proofs.Transpose.{transposedLetter, transposedWord, minor-transposed}
 use Rattle.minors.proofs.Mapped.{moved-mapped, oneAt-mapped}
 use Rattle.minors.proofs.Entries.{*-right, entryProduct, wholeProduct, scaled-product, wholeProduct-positive}
@@ -42,9 +42,11 @@ count-complement (false ∷ S) = omega (arith, count-complement S)
 has-complement : (i : ℕ) (S : RowSet) → In (length S) i → has i (complement S) ≡ not (has i S)
 unfolding has
 has-complement i [] h = absurd (omega (arith, h .0, h .1))
-has-complement i (x ∷ S) h = ap (λ k. cond (eqb i (suc k)) (not x) (has i (complement S))) (length-map S not) ∙ by (eqb i (suc (length S))) refl (has-complement i S)
+has-complement i (x ∷ S) h =
+    ap (λ k. cond (eqb i (suc k)) (not x) (has i (complement S))) (length-map S not) ∙ by (eqb i (suc (length S))) refl (has-complement i S)
   where
-    by : (t : Bool) → eqb i (suc (length S)) ≡ t → (In (length S) i → has i (complement S) ≡ not (has i S)) → cond t (not x) (has i (complement S)) ≡ not (cond t x (has i S))
+    by : (t : Bool) → eqb i (suc (length S)) ≡ t → (In (length S) i → has i (complement S) ≡ not (has i S))
+        → cond t (not x) (has i (complement S)) ≡ not (cond t x (has i S))
     by true e f = refl
     by false e f = f (h .0, omega (arith, h .1, eqb-false i (suc (length S)) e))
 
@@ -72,7 +74,8 @@ put-swap i k x y (z ∷ S) n = by (eqb i (suc (length S))) (eqb k (suc (length S
     by true true e f h = absurd (n (eqb-true i (suc (length S)) e ∙ sym (eqb-true k (suc (length S)) f)))
     by true false e f h = put-by i x z S (put k y S) true (length-put k y S) e ∙ sym (put-by k y x S S false refl f)
     by false true e f h = put-by i x y S S false refl e ∙ sym (put-by k y z S (put i x S) true (length-put i x S) f)
-    by false false e f h = put-by i x z S (put k y S) false (length-put k y S) e ∙ ap (λ T. z ∷ T) h ∙ sym (put-by k y z S (put i x S) false (length-put i x S) f)
+    by false false e f h =
+        put-by i x z S (put k y S) false (length-put k y S) e ∙ ap (λ T. z ∷ T) h ∙ sym (put-by k y z S (put i x S) false (length-put i x S) f)
 
 module _ {A : Type 0} where
   -- E and Et exchanged, D and Dinv exchanged, order kept
@@ -104,7 +107,8 @@ module _ (K : CRing) where
 
   infixl 70 _*_
   -- where u holds the inverses of v
-  entryProduct-complement : (v u : ℕ → R) (S : RowSet) → ((i : ℕ) → In (length S) i → v i * u i ≡ 𝟙) → entryProduct K v (complement S) ≡ wholeProduct K v (length S) * entryProduct K u S
+  entryProduct-complement : (v u : ℕ → R) (S : RowSet) → ((i : ℕ) → In (length S) i → v i * u i ≡ 𝟙)
+      → entryProduct K v (complement S) ≡ wholeProduct K v (length S) * entryProduct K u S
   unfolding entryProduct wholeProduct
   entryProduct-complement v u [] h = sym (*-one K 𝟙)
   entryProduct-complement v u (true ∷ S) h = entryProduct-complement v u S (λ i x. h i (in-under x)) ∙ cancel _ _ _ _ (h (suc (length S)) (in-top (length S)))
@@ -141,8 +145,8 @@ module _ (K : CRing) (O : Ordered K) where
   abbrev pub Diagonal : ℕ → Letter R → Type 0
   Diagonal n = Weights (λ w. Unit {0}) Pos n
 
-  pub word-diagonal : (n : ℕ) (b : Factors R) → Positive K O n b → All (Diagonal n) (word n b)
-  word-diagonal n b p = weights-weaken Pos (λ w. Unit {0}) Pos (λ w h. tt) n (word n b) (word-weights Pos n b p)
+  pub word-diagonal : (n : ℕ) (b : Factors R) → ((i : ℕ) → In n i → Pos (b i i)) → All (Diagonal n) (word n b)
+  word-diagonal n b p = word-weights (λ w. Unit {0}) Pos n b (record { off = λ i j x y e. tt; on = p })
 
   pub wordDeterminant-positive : (n : ℕ) (W : Word R) → All (Diagonal n) W → Pos (wordDeterminant n W)
   unfolding wordDeterminant
@@ -181,7 +185,8 @@ module _ (K : CRing) (O : Ordered K) where
       → moved F a o w ω (complement S) ≡ 𝟙 * moved F o a w (λ T. ω (complement T)) S
   moved-complement n a o w ω S s x y d =
       moved-mapped F complement o a a o w ω S
-      (ap₂ (λ t u. t && not u) (has-complement a S (subst (λ m. In m a) (sym s) x)) (has-complement o S (subst (λ m. In m o) (sym s) y)) ∙ both (has a S) (has o S))
+      (ap₂ (λ t u. t && not u) (has-complement a S (subst (λ m. In m a) (sym s) x)) (has-complement o S (subst (λ m. In m o) (sym s) y))
+      ∙ both (has a S) (has o S))
       (ap (put o true) (put-complement a true S) ∙ put-complement o false (put a true S) ∙ ap complement (put-swap o a false true S d))
       ∙ sym (one-* K _)
     where
@@ -202,8 +207,10 @@ module _ (K : CRing) (O : Ordered K) where
   act-complement : (n : ℕ) (l : Letter R) → Rows n l → Diagonal n l → (ω : State F) (S : RowSet) → length S ≡ n
       → act F l ω (complement S) ≡ letterDeterminant n l * act F (complementLetter l) (λ T. ω (complement T)) S
   unfolding act
-  act-complement n (E j w) r p ω S s = moved-complement n j (j - 1) w ω S s (omega (arith, r .0), r .1) (omega (arith, r .0), omega (arith, r .1)) (λ e. omega (arith, r .0))
-  act-complement n (Et j w) r p ω S s = moved-complement n (j - 1) j w ω S s (omega (arith, r .0), omega (arith, r .1)) (omega (arith, r .0), r .1) (λ e. omega (arith, r .0))
+  act-complement n (E j w) r p ω S s =
+      moved-complement n j (j - 1) w ω S s (omega (arith, r .0), r .1) (omega (arith, r .0), omega (arith, r .1)) (λ e. omega (arith, r .0))
+  act-complement n (Et j w) r p ω S s =
+      moved-complement n (j - 1) j w ω S s (omega (arith, r .0), omega (arith, r .1)) (omega (arith, r .0), r .1) (λ e. omega (arith, r .0))
   act-complement n (D e) r p ω S s = scaled-complement (λ x. x) inv n e S (ω (complement S)) s (λ i x. inv-mul-pos K O (e i) (p i x))
   act-complement n (Dinv e) r p ω S s = scaled-complement inv (λ x. x) n e S (ω (complement S)) s (λ i x. *-comm K _ _ ∙ inv-mul-pos K O (e i) (p i x))
 
@@ -214,7 +221,8 @@ module _ (K : CRing) (O : Ordered K) where
   walk-complement n (l ∷ W) r p ω S s =
       act-complement n l (r .0) (p .0) (walk F W ω) S s
       ∙ ap (λ x. letterDeterminant n l * x)
-      (act-agree F n (complementLetter l) _ (λ T. wordDeterminant n W * walk F (complementWord W) (λ X. ω (complement X)) T) (walk-complement n W (r .1) (p .1) ω) S s
+      (act-agree F n (complementLetter l) _ (λ T. wordDeterminant n W * walk F (complementWord W) (λ X. ω (complement X)) T)
+      (walk-complement n W (r .1) (p .1) ω) S s
       ∙ act-scale (wordDeterminant n W) (complementLetter l) (walk F (complementWord W) (λ X. ω (complement X))) S)
       ∙ sym (*-assoc K _ _ _)
 
@@ -230,4 +238,5 @@ module _ (K : CRing) (O : Ordered K) where
       → minor F W (complement J) (complement I) ≡ wordDeterminant n W * minor F (inverseWord W) I J
   minor-inverse n W r p I J i j =
       minor-complement n W r p J I j i
-      ∙ ap (λ x. wordDeterminant n W * x) (minor-transposed K O n (complementWord W) (complement-rows n W r) J I j i ∙ ap (λ U. minor F U I J) (sym (inverse-transposed W)))
+      ∙ ap (λ x. wordDeterminant n W * x)
+      (minor-transposed K O n (complementWord W) (complement-rows n W r) J I j i ∙ ap (λ U. minor F U I J) (sym (inverse-transposed W)))

@@ -133,15 +133,18 @@ module _ (K : CRing) (O : Ordered K) where
   scaled-reverse : (f : R → R) (n : ℕ) (e : ℕ → R) (S : RowSet) (x : R) → length S ≡ n
       → scaled F (λ y z. y * f z) (λ i. e (n +ℕ 1 - i)) (reverse S) x ≡ scaled F (λ y z. y * f z) e S x
   scaled-reverse f n e S x s =
-      scaled-product K O f (λ i. e (n +ℕ 1 - i)) (reverse S) x ∙ ap (λ y. x * y) (entryProduct-reverse K (λ i. f (e i)) n S s) ∙ sym (scaled-product K O f e S x)
+      scaled-product K O f (λ i. e (n +ℕ 1 - i)) (reverse S) x ∙ ap (λ y. x * y) (entryProduct-reverse K (λ i. f (e i)) n S s)
+      ∙ sym (scaled-product K O f e S x)
 
   act-reverse : (n : ℕ) (l : Letter R) → Rows n l → (ω : State F) (S : RowSet) → length S ≡ n
       → act F (converseLetter n l) ω (reverse S) ≡ act F l (λ T. ω (reverse T)) S
   unfolding act
   act-reverse n (E j w) h ω S s =
-      moved-reverse n j (j - 1) (n +ℕ 2 - j - 1) (n +ℕ 2 - j) w ω S s (omega (arith, h .0), h .1) (omega (arith, h .0), omega (arith, h .1)) (omega (arith, h .1)) (omega (arith, h .1))
+      moved-reverse n j (j - 1) (n +ℕ 2 - j - 1) (n +ℕ 2 - j) w ω S s (omega (arith, h .0), h .1) (omega (arith, h .0), omega (arith, h .1))
+      (omega (arith, h .1)) (omega (arith, h .1))
   act-reverse n (Et j w) h ω S s =
-      moved-reverse n (j - 1) j (n +ℕ 2 - j) (n +ℕ 2 - j - 1) w ω S s (omega (arith, h .0), omega (arith, h .1)) (omega (arith, h .0), h .1) (omega (arith, h .1)) (omega (arith, h .1))
+      moved-reverse n (j - 1) j (n +ℕ 2 - j) (n +ℕ 2 - j - 1) w ω S s (omega (arith, h .0), omega (arith, h .1)) (omega (arith, h .0), h .1)
+      (omega (arith, h .1)) (omega (arith, h .1))
   act-reverse n (D e) h ω S s = scaled-reverse (λ x. x) n e S (ω (reverse S)) s
   act-reverse n (Dinv e) h ω S s = scaled-reverse inv n e S (ω (reverse S)) s
 

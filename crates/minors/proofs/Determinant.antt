@@ -1,4 +1,5 @@
--- MINORS ARE DETERMINANTS: a walk's minor is the wedge of the columns of the word's matrix (minor-determinant), a function of its entries alone (determinant-equal).
+-- MINORS ARE DETERMINANTS: a walk's minor is the wedge of the columns of the word's matrix (minor-determinant),
+-- a function of its entries alone (determinant-equal).
 -- Those within chosen rows and columns are the submatrix's (determinant-among), and those of one row and one column are the entries (determinant-entry).
 use mathlib.Core.Path.{_≡_, refl, sym, ap, ap₂, _∙_, subst, fun-ext}
 use mathlib.Core.Bool.{Bool, true, false, cond}
@@ -39,7 +40,8 @@ module _ (K : CRing) where
   determinant M I J = wedges K (columns M J) I
 
   -- it is made of the entries at the rows 1 .. length I and columns 1 .. length J
-  pub determinant-agree : (M N : Matrix K) (I J : RowSet) → ((i j : ℕ) → In (length I) i → In (length J) j → M i j ≡ N i j) → determinant M I J ≡ determinant N I J
+  pub determinant-agree : (M N : Matrix K) (I J : RowSet) → ((i j : ℕ) → In (length I) i → In (length J) j → M i j ≡ N i j)
+      → determinant M I J ≡ determinant N I J
   unfolding determinant columns wedges
   determinant-agree M N I [] e = refl
   determinant-agree M N I (true ∷ J) e =
@@ -204,7 +206,8 @@ module _ (K : CRing) where
   columns-among M I [] [] e = refl
   columns-among M I [] (x ∷ J) e = absurd (omega arith)
   columns-among M I (true ∷ Q) [] e = absurd (omega arith)
-  columns-among M I (true ∷ Q) (x ∷ J) e = by x (λ T. columns-among M T Q J f ∙ determinant-agree K _ _ T J (λ i j p q. ap (M i) (chosen-under Q j (subst (λ n. In n j) f q))))
+  columns-among M I (true ∷ Q) (x ∷ J) e =
+      by x (λ T. columns-among M T Q J f ∙ determinant-agree K _ _ T J (λ i j p q. ap (M i) (chosen-under Q j (subst (λ n. In n j) f q))))
     where
       f : length J ≡ count Q
       f = omega arith

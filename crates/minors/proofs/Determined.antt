@@ -15,7 +15,8 @@ use Rattle.words.proofs.RowSets.{in-under, length-rows}
 use Rattle.words.proofs.Runs.{rows-last}
 use Rattle.minors.specs.Matrix.{Matrix, Equal}
 use Rattle.minors.proofs.Wedge.{wedge-agree}
-use Rattle.minors.proofs.Determinant.{empty, wedges, columns, determinant, determinant-agree, determinant-expand, determinant-runs, determinant-none, empty-none}
+use Rattle.minors.proofs.Determinant.{empty, wedges, columns, determinant, determinant-agree, determinant-expand, determinant-runs, determinant-none}
+use Rattle.minors.proofs.Determinant.{empty-none}
 
 -- The initial minor with its corner at (i, j): M(i-j+1..i | 1..j) below the diagonal and on it, M(1..i | j-i+1..j) above it and on it.
 abbrev pub initial : (K : CRing) → ℕ → Matrix K → ℕ → ℕ → K .R
@@ -69,7 +70,8 @@ module _ (K : CRing) (O : Ordered K) where
   abbrev rowsUnder : ℕ → ℕ → RowSet
   rowsUnder i j = rows i (suc i - j) i
 
-  initial-corner : (n : ℕ) (M : Matrix K) (i j : ℕ) → i < n → j < n → initial K n M (suc i) (suc j) ≡ determinant K M (true ∷ rowsUnder i j) (true ∷ rowsUnder j i)
+  initial-corner : (n : ℕ) (M : Matrix K) (i j : ℕ) → i < n → j < n
+      → initial K n M (suc i) (suc j) ≡ determinant K M (true ∷ rowsUnder i j) (true ∷ rowsUnder j i)
   initial-corner n M i j h g =
       let a : suc (suc i) - suc j ≡ suc i - j = omega arith in
       let b : suc (suc j) - suc i ≡ suc j - i = omega arith in

@@ -1,5 +1,5 @@
--- THE FACTOR THEOREM. A matrix with positive initial minors is what its new factors multiply out to (factors-multiplied), these are positive (factors-positive),
--- and no other positive factors multiply out to it (factors-unique).
+-- THE FACTOR THEOREM. A matrix with positive initial minors is what its new factors multiply out to (factors-multiplied), these are positive
+-- (factors-positive), and no other positive factors multiply out to it (factors-unique).
 use mathlib.Core.Path.{_≡_, sym, ap, ap₂, _∙_, subst, subst₂}
 use Prim.Native.Nat.{ℕ, zero, suc, _≤_, _-_, min, _+_ as _+ℕ_}
 use native.Mathlib.Decide.{decLe}
@@ -10,11 +10,11 @@ use Rattle.fraction.specs.Ring.{CRing, Ordered, arithmetic}
 use Rattle.words.specs.RowSet.{In, RowSet, rows, count}
 use Rattle.words.specs.Word.{Factors, word, exchanged}
 use Rattle.words.specs.Walk.{minor}
-use Rattle.words.specs.Formula.{newFactor}
+use Rattle.words.specs.Formula.{justBefore, newFactor}
 use Rattle.words.proofs.RowSets.{length-rows}
 use Rattle.words.proofs.Runs.{rows-zero, count-rows}
 use Rattle.words.proofs.Stages.{word-rows}
-use Rattle.words.proofs.Formulas.{newFactor-related}
+use Rattle.words.proofs.Formulas.{newFactor-equal}
 use Rattle.minors.specs.Matrix.{Matrix, Equal, multiplied, Positive}
 use Rattle.minors.proofs.Determinant.{determinant, matrixOf, minor-determinant, determinant-equal, determinant-empty}
 use Rattle.minors.proofs.Determined.{initial, initial-determined}
@@ -83,7 +83,8 @@ module _ (K : CRing) (O : Ordered K) where
   diagonal-positive : (n : ℕ) (b : Factors R) → Positive K O n b → (r j : ℕ) → r +ℕ j ≤ n → Pos (diagonalProduct K b r j)
   unfolding diagonalProduct
   diagonal-positive n b p r zero h = pos-one
-  diagonal-positive n b p r (suc j) h = pos-mul _ _ (diagonal-positive n b p r j (omega arith)) (p (suc j +ℕ r) (suc j) (omega arith, omega arith) (omega arith, omega arith))
+  diagonal-positive n b p r (suc j) h =
+      pos-mul _ _ (diagonal-positive n b p r j (omega arith)) (p (suc j +ℕ r) (suc j) (omega arith, omega arith) (omega arith, omega arith))
 
   block-positive : (n : ℕ) (b : Factors R) → Positive K O n b → (r j : ℕ) → r +ℕ j ≤ n → Pos (blockProduct K b r j)
   unfolding blockProduct
@@ -97,34 +98,28 @@ module _ (K : CRing) (O : Ordered K) where
       ap₂ (λ x y. x * inv y) (ap₂ _*_ (e (suc r) (suc t) h) (e r t (omega arith))) (ap₂ _*_ (e (suc r) t (omega arith)) (e r (suc t) (omega arith)))
 
   -- THE FORMULAS GIVE POSITIVE FACTORS BACK from the minors of their word
-  pub factors-recovered : (n : ℕ) (b : Factors R) → Positive K O n b → (i j : ℕ) → In n i → In n j → newFactor F n (minor F (word n b)) i j ≡ b i j
-  factors-recovered n b p = by-place n (λ i j. newFactor F n (minor F (word n b)) i j ≡ b i j) below above
+  pub factors-recovered : (n : ℕ) (b : Factors R) → Positive K O n b → (i j : ℕ) → In n i → In n j
+      → newFactor F n (justBefore n) (minor F (word n b)) i j ≡ b i j
+  factors-recovered n b p = by-place n (λ i j. newFactor F n (justBefore n) (minor F (word n b)) i j ≡ b i j) below above
     where
-      below : (r t : ℕ) → r +ℕ suc t ≤ n → newFactor F n (minor F (word n b)) (suc t +ℕ r) (suc t) ≡ b (suc t +ℕ r) (suc t)
+      below : (r t : ℕ) → r +ℕ suc t ≤ n → newFactor F n (justBefore n) (minor F (word n b)) (suc t +ℕ r) (suc t) ≡ b (suc t +ℕ r) (suc t)
       below r t h =
           factor-below K O n (minor F (word n b)) r t h
           ∙ ratio-equal n _ (blockProduct K b) (λ r j l. recovery-below K O n b r j l) r t h
           ∙ block-ratios K O n b (λ r t l. block-positive n b p r (suc t) l) r t h
 
-      above : (r t : ℕ) → r +ℕ suc t ≤ n → newFactor F n (minor F (word n b)) (suc t) (suc t +ℕ r) ≡ b (suc t) (suc t +ℕ r)
+      above : (r t : ℕ) → r +ℕ suc t ≤ n → newFactor F n (justBefore n) (minor F (word n b)) (suc t) (suc t +ℕ r) ≡ b (suc t) (suc t +ℕ r)
       above zero t h =
           let e : suc t +ℕ 0 ≡ suc t = omega arith in
-          subst₂ (λ i j. newFactor F n (minor F (word n b)) i j ≡ b i j) e (sym e) (below zero t h)
+          subst₂ (λ i j. newFactor F n (justBefore n) (minor F (word n b)) i j ≡ b i j) e (sym e) (below zero t h)
       above (suc r) t h =
           factor-above K O n (minor F (word n b)) r t h
           ∙ ratio-equal n _ (blockProduct K (exchanged b)) (λ r j l. recovery-above K O n b r j l) (suc r) t h
           ∙ block-ratios K O n (exchanged b) (λ r t l. block-positive n (exchanged b) (λ i j x y. p j i y x) r (suc t) l) (suc r) t h
 
-  -- equal minors have equal factors
-  pub factors-equal : (n : ℕ) (M N : RowSet → RowSet → R) → ((I J : RowSet) → length I ≡ n → length J ≡ n → count I ≡ count J → M I J ≡ N I J)
-      → (i j : ℕ) → In n i → In n j → newFactor F n M i j ≡ newFactor F n N i j
-  factors-equal n M N e i j x y =
-      newFactor-related F F n _≡_ _≡_ _≡_ (λ a a′ b b′ p q. ap₂ _*_ p q) (λ a a′ b b′ p q. ap₂ (λ u v. u * inv v) p q) (λ a a′ b b′ p q. ap₂ (λ u v. u * inv v) p q)
-      M N e i j (x .0) (x .1) (y .0) (y .1)
-
   module _ (n : ℕ) (M : Matrix K) (positive : (i j : ℕ) → In n i → In n j → Pos (initial K n M i j)) where
     abbrev f : Factors R
-    f = newFactor F n (determinant K M)
+    f = newFactor F n (justBefore n) (determinant K M)
 
     below-one : (r : ℕ) → r ≤ n → lower K O n (determinant K M) r 0 ≡ 𝟙
     below-one r h = determinant-empty K M n (suc r) (r +ℕ 0) n 1 0 (omega arith) (omega arith)
@@ -184,9 +179,10 @@ module _ (K : CRing) (O : Ordered K) where
     pub factors-unique : (c : Factors R) → Positive K O n c → Equal K n (multiplied K O n c) M → (i j : ℕ) → In n i → In n j → c i j ≡ f i j
     factors-unique c p e i j x y =
         sym (factors-recovered n c p i j x y)
-        ∙ factors-equal n (minor F (word n c)) (determinant K M) same i j x y
+        ∙ newFactor-equal F n (minor F (word n c)) (determinant K M) same i j x y
       where
         same : (I J : RowSet) → length I ≡ n → length J ≡ n → count I ≡ count J → minor F (word n c) I J ≡ determinant K M I J
         same I J u v w =
             minor-determinant K O n (word n c) (word-rows n c) I J u v
-            ∙ determinant-equal K n (matrixOf K O (word n c)) M (λ i j x y. sym (wordMatrix-carried K O n (word n c) (word-rows n c) i j x y) ∙ e i j x y) I J u v
+            ∙ determinant-equal K n (matrixOf K O (word n c)) M
+            (λ i j x y. sym (wordMatrix-carried K O n (word n c) (word-rows n c) i j x y) ∙ e i j x y) I J u v

@@ -151,8 +151,10 @@ module _ (K : CRing) (O : Ordered K) where
     λ v i x. moved-undone K (j - 1) j w (neg w) (λ e. absurd (omega (arith, h .0))) (+-neg K w) v _ (λ k. refl) i,
     λ v i x. moved-undone K (j - 1) j (neg w) w (λ e. absurd (omega (arith, h .0))) (+-comm K _ _ ∙ +-neg K w) v _ (λ k. refl) i,
   )
-  letter-undone n (D e) h p = (λ v i x. scaled-undone (v i) (e i) _ (inv-mul-pos K O (e i) (p i x)), λ v i x. scaled-undone (v i) _ (e i) (positive-inv (e i) (p i x)))
-  letter-undone n (Dinv e) h p = (λ v i x. scaled-undone (v i) _ (e i) (positive-inv (e i) (p i x)), λ v i x. scaled-undone (v i) (e i) _ (inv-mul-pos K O (e i) (p i x)))
+  letter-undone n (D e) h p =
+      (λ v i x. scaled-undone (v i) (e i) _ (inv-mul-pos K O (e i) (p i x)), λ v i x. scaled-undone (v i) _ (e i) (positive-inv (e i) (p i x)))
+  letter-undone n (Dinv e) h p =
+      (λ v i x. scaled-undone (v i) _ (e i) (positive-inv (e i) (p i x)), λ v i x. scaled-undone (v i) (e i) _ (inv-mul-pos K O (e i) (p i x)))
 
   times-undone : (n : ℕ) (m l : Letter R) → Rows n m → Rows n l → Undoes n m l → Equal K n (times K n (letterMatrix K O m) (letterMatrix K O l)) (identity K)
   unfolding wordMatrix matrixOf carry
@@ -163,7 +165,8 @@ module _ (K : CRing) (O : Ordered K) where
 
   -- one letter more before a word is one more after its inverse
   inverse-last : (n : ℕ) (l : Letter R) (W : Word R) → Rows n l
-      → Equal K n (resigned K (wordMatrix K O n (inverseWord (l ∷ W)))) (times K n (resigned K (wordMatrix K O n (inverseWord W))) (letterMatrix K O (undone l)))
+      → Equal K n (resigned K (wordMatrix K O n (inverseWord (l ∷ W))))
+      (times K n (resigned K (wordMatrix K O n (inverseWord W))) (letterMatrix K O (undone l)))
   unfolding wordMatrix inverseWord
   inverse-last n l W h i j x y =
       ap (λ m. sign K (i +ℕ j) * m) (wordMatrix-append K O n (inverseWord W) (inverseLetter l ∷ []) i j x y

@@ -32,7 +32,8 @@ module _ (K : CRing) (O : Ordered K) where
   unfolding joinedWord
   joined-multiplied n s t L = wordMatrix-append K O n (stepWord n s) (joinedWord n (t ∷ L))
 
-  pub wordMatrix-converse : (n : ℕ) (W : Word R) → All (Rows n) W → Equal K n (wordMatrix K O n (converseWord n W)) (λ i j. wordMatrix K O n W (n +ℕ 1 - i) (n +ℕ 1 - j))
+  pub wordMatrix-converse : (n : ℕ) (W : Word R) → All (Rows n) W
+      → Equal K n (wordMatrix K O n (converseWord n W)) (λ i j. wordMatrix K O n W (n +ℕ 1 - i) (n +ℕ 1 - j))
   unfolding wordMatrix converseWord
   wordMatrix-converse n [] h = identity-reversed K n
   wordMatrix-converse n (l ∷ W) h = λ i j x y.

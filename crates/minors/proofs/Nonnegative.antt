@@ -1,5 +1,5 @@
--- Letters with weights that are positive or zero, and positive diagonals (KeepsSign), keep a state positive or zero (walk-nonnegative) and a set's number positive
--- (walk-positive). So a word joined on the left to one whose minors are all positive has positive minors (append-keeps).
+-- Letters with weights that are positive or zero, and positive diagonals (KeepsSign), keep a state positive or zero (walk-nonnegative) and a set's number
+-- positive (walk-positive). So a word joined on the left to one whose minors are all positive has positive minors (append-keeps).
 use mathlib.Core.Path.{_≡_, refl, sym, ap, _∙_, subst}
 use mathlib.Core.Bool.{Bool, true, false, not, cond, _&&_}
 use mathlib.Core.List.{[], _∷_, _++_}
@@ -13,7 +13,7 @@ use Rattle.words.specs.Word.{Letter, E, Et, D, Dinv, Word}
 use Rattle.words.specs.Walk.{State, oneAt, moved, movedIf, scaled, act, walk, minor}
 use Rattle.words.proofs.RowSets.{length-replaced}
 use Rattle.words.proofs.Walks.{All, walk-append}
-use Rattle.words.proofs.Steps.{Weights, weights-weaken}
+use Rattle.words.proofs.Steps.{Weights}
 use Rattle.words.proofs.Related.{Related, walk-related}
 use Rattle.words.proofs.Alike.{letters-self}
 use Rattle.minors.proofs.Entries.{scaled-product, entryProduct-positive}
@@ -91,9 +91,6 @@ module _ (K : CRing) (O : Ordered K) where
       by : (t : Bool) → NonNegative K O (cond t 𝟙 𝟘)
       by true = positive pos-one
       by false = zero refl
-
-  pub positive-keeps : (n : ℕ) (W : Word R) → All (Weights Pos Pos n) W → All (KeepsSign n) W
-  positive-keeps n W h = weights-weaken Pos (NonNegative K O) Pos (λ w p. positive p) n W h
 
   pub append-keeps : (n : ℕ) (U W : Word R) → All (KeepsSign n) U → All (KeepsSign n) W → AllPositive n W → AllPositive n (U ++ W)
   unfolding minor

@@ -1,12 +1,12 @@
--- EVERY MINOR OF THE WORDS OF POSITIVE FACTORS IS POSITIVE: of the plain word (word-positive), the inverse's (inverse-positive), the converse's (converse-positive),
--- words joined (append-positive), and so of joined steps (joined-positive).
+-- EVERY MINOR OF THE WORDS OF POSITIVE FACTORS IS POSITIVE: of the plain word (word-positive), the inverse's (inverse-positive), the converse's
+-- (converse-positive), and so of joined steps (joined-positive).
 use mathlib.Core.Path.{_≡_, sym, ap, _∙_, subst}
-use mathlib.Core.List.{List, [], _∷_, _++_, reverse}
-use Prim.Native.Nat.{ℕ, _-_}
+use mathlib.Core.List.{List, [], _∷_, reverse}
+use Prim.Native.Nat.{ℕ, _-_, _≤_}
 use native.Mathlib.Omega.{arith}
 use lib.ListN.{length, length-map, length-reverse}
 use Rattle.fraction.specs.Arithmetic.{Arithmetic}
-use Rattle.fraction.specs.Ring.{CRing, Ordered, arithmetic, positive}
+use Rattle.fraction.specs.Ring.{CRing, Ordered, NonNegative, arithmetic, positive}
 use Rattle.fraction.proofs.Ring.{ring, *-one}
 use Rattle.fraction.proofs.Ordered.{inv-mul-pos}
 use Rattle.words.specs.RowSet.{RowSet, count, rows}
@@ -17,11 +17,11 @@ use Rattle.words.proofs.RowSets.{length-rows}
 use Rattle.words.proofs.Walks.{Rows, All, walk-append, oneAt-same}
 use Rattle.words.proofs.Words.{transposedWord}
 use Rattle.words.proofs.Stages.{stages, transposed-stages-all, stages-rows, word-stages, word-rows}
-use Rattle.words.specs.Sources.{Source, Sources}
-use Rattle.words.proofs.Steps.{Weights, step-weights, joined-weights}
+use Rattle.words.specs.Sources.{Weighted, Source, Sources}
+use Rattle.words.proofs.Steps.{each-weighted, source-weaken, sources-weaken, step-weights, joined-weights}
 use Rattle.minors.specs.Matrix.{Positive}
 use Rattle.minors.proofs.Transpose.{minor-transposed}
-use Rattle.minors.proofs.Nonnegative.{NonNegatives, KeepsSign, positive-keeps, act-nonnegative, act-positive, walk-nonnegative, oneAt-nonnegative, append-keeps}
+use Rattle.minors.proofs.Nonnegative.{NonNegatives, KeepsSign, act-nonnegative, act-positive, walk-nonnegative, oneAt-nonnegative, append-keeps}
 use Rattle.minors.proofs.Complement.{complement, count-complement, Diagonal, word-diagonal, wordDeterminant, wordDeterminant-positive, minor-inverse}
 use Rattle.minors.proofs.Converse.{count-reverse, minor-converse}
 use Rattle.minors.proofs.Sorting.{PositiveBelow, stages-positive}
@@ -77,21 +77,29 @@ module _ (K : CRing) (O : Ordered K) where
       (subst Pos (minor-inverse K O n W r d I J i j) (h (complement J) (complement I) (length-map J _ ∙ j) (length-map I _ ∙ i) e))
 
   pub inverse-positive : (n : ℕ) (b : Factors R) → Positive K O n b → AllPositive K O n (inverseWord (word n b))
-  inverse-positive n b p = inverseWord-positive n (word n b) (word-rows n b) (word-diagonal K O n b p) (word-positive n b p)
+  inverse-positive n b p = inverseWord-positive n (word n b) (word-rows n b) (word-diagonal K O n b (λ i x. p i i x x)) (word-positive n b p)
 
   pub converse-positive : (n : ℕ) (W : Word R) → All (Rows n) W → AllPositive K O n W → AllPositive K O n (converseWord n W)
   converse-positive n W h p I J i j c = subst Pos (sym (minor-converse K O n W h I J i j))
       (p (reverse I) (reverse J) (length-reverse I ∙ i) (length-reverse J ∙ j) (count-reverse I ∙ c ∙ sym (count-reverse J)))
 
-  pub append-positive : (n : ℕ) (U W : Word R) → All (Weights Pos Pos n) U → All (Weights Pos Pos n) W → AllPositive K O n W → AllPositive K O n (U ++ W)
-  append-positive n U W p q h = append-keeps K O n U W (positive-keeps K O n U p) (positive-keeps K O n W q) h
-
   -- steps whose sources' factors are positive
   abbrev pub PositiveStep : ℕ → Step R → Type 0
-  PositiveStep = Source Pos
+  PositiveStep n = Source (Positive K O n)
 
   abbrev pub PositiveSteps : ℕ → List (Step R) → Type 0
-  PositiveSteps = Sources Pos
+  PositiveSteps n = Sources (Positive K O n)
+
+  -- a letter of their words keeps numbers positive or zero
+  positive-weighted : (n : ℕ) (b : Factors R) → Positive K O n b → Weighted (NonNegative K O) Pos n b
+  positive-weighted = each-weighted Pos (NonNegative K O) Pos (λ x p. positive p) (λ x p. p)
+
+  step-keeps : (n : ℕ) (s : Step R) → PositiveStep n s → All (KeepsSign K O n) (stepWord n s)
+  step-keeps n s p = step-weights (NonNegative K O) Pos n s (source-weaken (Positive K O n) (Weighted (NonNegative K O) Pos n) (positive-weighted n) s p)
+
+  joined-keeps : (n : ℕ) (L : List (Step R)) → PositiveSteps n L → All (KeepsSign K O n) (joinedWord n L)
+  joined-keeps n L p =
+      joined-weights (NonNegative K O) Pos n L (sources-weaken (Positive K O n) (Weighted (NonNegative K O) Pos n) (positive-weighted n) L p)
 
   pub step-positive : (n : ℕ) (s : Step R) → PositiveStep n s → AllPositive K O n (stepWord n s)
   step-positive n (step plain b) p = word-positive n b p
@@ -100,7 +108,10 @@ module _ (K : CRing) (O : Ordered K) where
   step-positive n (step transposed b) p = word-positive n (exchanged b) (λ i j x y. p j i y x)
 
   -- of one step or more
-  pub joined-positive : (n : ℕ) (s : Step R) (L : List (Step R)) → PositiveSteps n (s ∷ L) → AllPositive K O n (joinedWord n (s ∷ L))
+  pub joined-positive : (n : ℕ) (L : List (Step R)) → 1 ≤ length L → PositiveSteps n L → AllPositive K O n (joinedWord n L)
   unfolding joinedWord
-  joined-positive n s [] p = step-positive n s (p .0)
-  joined-positive n s (t ∷ L) p = append-positive n (stepWord n s) (joinedWord n (t ∷ L)) (step-weights Pos n s (p .0)) (joined-weights Pos n (t ∷ L) (p .1)) (joined-positive n t L (p .1))
+  joined-positive n [] l p = absurd (omega arith)
+  joined-positive n (s ∷ []) l p = step-positive n s (p .0)
+  joined-positive n (s ∷ t ∷ L) l p =
+      append-keeps K O n (stepWord n s) (joinedWord n (t ∷ L)) (step-keeps n s (p .0)) (joined-keeps n (t ∷ L) (p .1))
+      (joined-positive n (t ∷ L) (omega arith) (p .1))

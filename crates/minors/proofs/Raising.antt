@@ -72,7 +72,8 @@ module _ (K : Arithmetic) where
   stages-idle n r j k (suc c) m (suc t) b e f ω =
       let next : suc k +ℕ c ≡ k +ℕ suc c = omega arith in
       ap (λ η. η (rows n (suc r) j)) (walk-append K (stage n k b) (stages n (suc k) t b) ω)
-      ∙ walk-idle (stage n k b) (rows n (suc r) j) (stage-all (Idle (rows n (suc r) j)) n k b (λ i l g p o q. rows-idle n (suc r) j i (b i l) (omega arith) (omega arith) q)) _
+      ∙ walk-idle (stage n k b) (rows n (suc r) j)
+      (stage-all (Idle (rows n (suc r) j)) n k b (λ i l g p o q. rows-idle n (suc r) j i (b i l) (omega arith) (omega arith) q)) _
       ∙ stages-idle n r j (suc k) c m t b (omega arith) (omega arith) ω
       ∙ ap (λ i. walk K (stages n i m b) ω (rows n (suc r) j)) next
 

@@ -1,4 +1,5 @@
--- The formulas of the new factors by the distance from the diagonal (factor-below, factor-above), solved for minors (block-solves) and for factors (block-ratios).
+-- The formulas of the new factors by the distance from the diagonal (factor-below, factor-above), solved for minors (block-solves) and for factors
+-- (block-ratios).
 use mathlib.Core.Path.{_≡_, sym, ap, ap₂, _∙_, subst}
 use mathlib.Core.Bool.{Bool, true}
 use Prim.Native.Nat.{ℕ, zero, suc, _≤_, _-_, _+_ as _+ℕ_}
@@ -10,7 +11,7 @@ use Rattle.fraction.specs.Ring.{CRing, Ordered, arithmetic}
 use Rattle.fraction.proofs.Ordered.{pos-cancel, pos-nonzero, quotient-mul, quotient-unique}
 use Rattle.words.specs.RowSet.{RowSet, put, rows}
 use Rattle.words.specs.Word.{Factors}
-use Rattle.words.specs.Formula.{runBefore, onDiagonal, belowDiagonal, factorBy, newFactor}
+use Rattle.words.specs.Formula.{runBefore, justBefore, onDiagonal, belowDiagonal, factorBy, newFactor}
 use Rattle.words.proofs.Formulas.{corner-is, corner-before, before-is}
 use Rattle.minors.proofs.Recovery.{blockProduct, block-ratio, block-diagonal, block-empty}
 
@@ -44,7 +45,7 @@ module _ (K : CRing) (O : Ordered K) where
         ∙ ap (λ b. M (rows n 1 (0 +ℕ suc t)) (rows n 1 (suc t)) * inv (M (rows n 1 b) (rows n 1 t))) g
 
   below-ratio : (n : ℕ) (M : RowSet → RowSet → R) (r t : ℕ) → suc r +ℕ suc t ≤ n
-      → belowDiagonal F n (runBefore n) M (suc t +ℕ suc r) (suc t) ≡ ratioOf (lower n M) (suc r) t
+      → belowDiagonal F n (justBefore n) M (suc t +ℕ suc r) (suc t) ≡ ratioOf (lower n M) (suc r) t
   unfolding belowDiagonal ratioOf
   below-ratio n M r t h = ap₂ (λ x y. x * inv y) (ap₂ _*_ corner before) (ap₂ _*_ run corner′)
     where
@@ -75,20 +76,24 @@ module _ (K : CRing) (O : Ordered K) where
           ap (λ I. M I (rows n 1 (suc t))) (corner-before n (suc t +ℕ suc r) (suc t) (omega arith) (omega arith) (omega arith) ∙ ap₂ (rows n) a b)
 
   -- where the formulas put the factors
-  pub factor-below : (n : ℕ) (M : RowSet → RowSet → R) (r t : ℕ) → r +ℕ suc t ≤ n → newFactor F n M (suc t +ℕ r) (suc t) ≡ ratioOf (lower n M) r t
+  pub factor-below : (n : ℕ) (M : RowSet → RowSet → R) (r t : ℕ) → r +ℕ suc t ≤ n
+      → newFactor F n (justBefore n) M (suc t +ℕ r) (suc t) ≡ ratioOf (lower n M) r t
   unfolding newFactor
   factor-below n M zero t h =
       let e : suc t +ℕ 0 ≡ suc t = omega arith in
-      ap (λ (s : Bool). factorBy F n s (ltb (suc t) (suc t +ℕ 0)) M (suc t +ℕ 0) (suc t)) (eq-eqb (suc t +ℕ 0) (suc t) e)
+      ap (λ (s : Bool). factorBy F n s (ltb (suc t) (suc t +ℕ 0)) (justBefore n) M (suc t +ℕ 0) (suc t)) (eq-eqb (suc t +ℕ 0) (suc t) e)
       ∙ ap (onDiagonal F n M) e ∙ diagonal-ratio n M t
   factor-below n M (suc r) t h =
-      ap₂ (λ s u. factorBy F n s u M (suc t +ℕ suc r) (suc t)) (ne-eqb (suc t +ℕ suc r) (suc t) (λ e. omega arith)) (lt-ltb (suc t) (suc t +ℕ suc r) (omega arith))
+      ap₂ (λ s u. factorBy F n s u (justBefore n) M (suc t +ℕ suc r) (suc t)) (ne-eqb (suc t +ℕ suc r) (suc t) (λ e. omega arith))
+      (lt-ltb (suc t) (suc t +ℕ suc r) (omega arith))
       ∙ below-ratio n M r t h
 
-  pub factor-above : (n : ℕ) (M : RowSet → RowSet → R) (r t : ℕ) → suc r +ℕ suc t ≤ n → newFactor F n M (suc t) (suc t +ℕ suc r) ≡ ratioOf (upper n M) (suc r) t
+  pub factor-above : (n : ℕ) (M : RowSet → RowSet → R) (r t : ℕ) → suc r +ℕ suc t ≤ n
+      → newFactor F n (justBefore n) M (suc t) (suc t +ℕ suc r) ≡ ratioOf (upper n M) (suc r) t
   unfolding newFactor
   factor-above n M r t h =
-      ap₂ (λ s u. factorBy F n s u M (suc t) (suc t +ℕ suc r)) (ne-eqb (suc t) (suc t +ℕ suc r) (λ e. omega arith)) (le-ltb (suc t +ℕ suc r) (suc t) (omega arith))
+      ap₂ (λ s u. factorBy F n s u (justBefore n) M (suc t) (suc t +ℕ suc r)) (ne-eqb (suc t) (suc t +ℕ suc r) (λ e. omega arith))
+      (le-ltb (suc t +ℕ suc r) (suc t) (omega arith))
       ∙ below-ratio n (λ I J. M J I) r t h
 
   -- minors that are positive, 1 where empty, and solve the formulas for b are b's block products
@@ -104,7 +109,8 @@ module _ (K : CRing) (O : Ordered K) where
         pos-mul _ _ (pos-mul _ _ (all-pos (suc r) (suc t) (omega arith)) (all-pos r t (omega arith)))
         (inv-pos _ (pos-mul _ _ (all-pos (suc r) t (omega arith)) (all-pos r (suc t) (omega arith))))
 
-    pub block-solves : (b : Factors R) → ((r t : ℕ) → r +ℕ suc t ≤ n → b (suc t +ℕ r) (suc t) ≡ ratioOf m r t) → (r j : ℕ) → r +ℕ j ≤ n → m r j ≡ blockProduct K b r j
+    pub block-solves : (b : Factors R) → ((r t : ℕ) → r +ℕ suc t ≤ n → b (suc t +ℕ r) (suc t) ≡ ratioOf m r t) → (r j : ℕ) → r +ℕ j ≤ n
+        → m r j ≡ blockProduct K b r j
     unfolding ratioOf
     block-solves b e r zero h = one r (omega arith) ∙ sym (block-empty K b r)
     block-solves b e zero (suc t) h =
@@ -113,17 +119,21 @@ module _ (K : CRing) (O : Ordered K) where
         ∙ sym (block-diagonal K b t)
     block-solves b e (suc r) (suc t) h =
         pos-cancel K O (m r t) _ _ (all-pos r t (omega arith))
-        (sym (quotient-mul K O _ (m (suc r) t * m r (suc t)) (pos-nonzero K O _ (pos-mul _ _ (all-pos (suc r) t (omega arith)) (all-pos r (suc t) (omega arith)))))
+        (sym (quotient-mul K O _ (m (suc r) t * m r (suc t))
+        (pos-nonzero K O _ (pos-mul _ _ (all-pos (suc r) t (omega arith)) (all-pos r (suc t) (omega arith)))))
         ∙ ap₂ _*_ (sym (e (suc r) t h)) (ap₂ _*_ (block-solves b e (suc r) t (omega arith)) (block-solves b e r (suc t) (omega arith)))
         ∙ sym (block-ratio K b r t)
         ∙ ap (λ x. blockProduct K b (suc r) (suc t) * x) (sym (block-solves b e r t (omega arith))))
 
   -- and the formulas give a table back from its block products
-  pub block-ratios : (n : ℕ) (b : Factors R) → ((r t : ℕ) → r +ℕ suc t ≤ n → Pos (blockProduct K b r (suc t))) → (r t : ℕ) → r +ℕ suc t ≤ n → ratioOf (blockProduct K b) r t ≡ b (suc t +ℕ r) (suc t)
+  pub block-ratios : (n : ℕ) (b : Factors R) → ((r t : ℕ) → r +ℕ suc t ≤ n → Pos (blockProduct K b r (suc t))) → (r t : ℕ) → r +ℕ suc t ≤ n
+      → ratioOf (blockProduct K b) r t ≡ b (suc t +ℕ r) (suc t)
   unfolding ratioOf
   block-ratios n b p zero t h =
-      sym (quotient-unique K O _ _ (b (suc t) (suc t)) (pos-nonzero K O _ (all-pos n (blockProduct K b) (λ r _. block-empty K b r) p 0 t (omega arith))) (sym (block-diagonal K b t)))
+      sym (quotient-unique K O _ _ (b (suc t) (suc t)) (pos-nonzero K O _ (all-pos n (blockProduct K b) (λ r _. block-empty K b r) p 0 t (omega arith)))
+      (sym (block-diagonal K b t)))
       ∙ ap (λ i. b i (suc t)) (let z : suc t ≡ suc t +ℕ 0 = omega arith in z)
   block-ratios n b p (suc r) t h =
       sym (quotient-unique K O _ _ (b (suc t +ℕ suc r) (suc t))
-      (pos-nonzero K O _ (pos-mul _ _ (all-pos n (blockProduct K b) (λ r _. block-empty K b r) p (suc r) t (omega arith)) (p r t (omega arith)))) (sym (block-ratio K b r t)))
+      (pos-nonzero K O _ (pos-mul _ _ (all-pos n (blockProduct K b) (λ r _. block-empty K b r) p (suc r) t (omega arith)) (p r t (omega arith))))
+      (sym (block-ratio K b r t)))

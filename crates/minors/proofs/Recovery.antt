@@ -165,7 +165,8 @@ module _ (K : CRing) (O : Ordered K) where
       U = D (λ i. b i i) ∷ transposedWord (stages n 1 (n - 1) (exchanged b))
 
   -- M(1..j | r+1..r+j)
-  pub recovery-above : (n : ℕ) (b : Factors R) (r j : ℕ) → r +ℕ j ≤ n → minor F (word n b) (rows n 1 j) (rows n (suc r) (r +ℕ j)) ≡ blockProduct K (exchanged b) r j
+  pub recovery-above : (n : ℕ) (b : Factors R) (r j : ℕ) → r +ℕ j ≤ n
+      → minor F (word n b) (rows n 1 j) (rows n (suc r) (r +ℕ j)) ≡ blockProduct K (exchanged b) r j
   recovery-above n b r j h =
       minor-transposed K O n (word n b) (word-rows n b) (rows n 1 j) (rows n (suc r) (r +ℕ j)) (length-rows n 1 j) (length-rows n (suc r) (r +ℕ j))
       ∙ ap (λ W. minor F W (rows n (suc r) (r +ℕ j)) (rows n 1 j)) (transposed-word n b)

@@ -79,7 +79,8 @@ module _ (K : CRing) (O : Ordered K) where
         (inserted n k a c (under false ω) S (below-less n p) (omega arith) (omega arith) (λ T t. h (false ∷ T) (ap suc t)) q)
 
     -- stage k, after the later ones
-    stages-first : (n k m : ℕ) (ω : State F) (S : RowSet) → Pos (walk F (stage n k b) (walk F (stages n (suc k) m b) ω) S) → Pos (walk F (stages n k (suc m) b) ω S)
+    stages-first : (n k m : ℕ) (ω : State F) (S : RowSet) → Pos (walk F (stage n k b) (walk F (stages n (suc k) m b) ω) S)
+        → Pos (walk F (stages n k (suc m) b) ω S)
     unfolding stages
     stages-first n k m ω S q = subst Pos (sym (ap (λ η. η S) (walk-append F (stage n k b) (stages n (suc k) m b) ω))) q
 
@@ -98,9 +99,11 @@ module _ (K : CRing) (O : Ordered K) where
         (sorted n (suc k) a (suc c) ω S p (omega arith) (omega arith) h q (omega arith) r)))
     sorted n k a c ω (false ∷ S) p e s h q f r =
         stages-first n k (length S) ω (blocks a c (false ∷ S))
-        (inserted n k a c _ S p e s (stages-nonnegative n (suc k) (length S) ω p (omega arith) h) (sorted n (suc k) (suc a) c ω S p (omega arith) (omega arith) h q f r))
+        (inserted n k a c _ S p e s (stages-nonnegative n (suc k) (length S) ω p (omega arith) h)
+        (sorted n (suc k) (suc a) c ω S p (omega arith) (omega arith) h q f r))
 
     pub stages-positive : (n : ℕ) (ω : State F) (S : RowSet) → PositiveBelow n b → length S ≡ n → NonNegatives K O n ω
         → Pos (ω (rows n 1 (count S))) → Pos (walk F (stages n 1 (n - 1) b) ω S)
     stages-positive n ω S p s h q =
-        subst (λ W. Pos (walk F W ω S)) (ap (λ m. stages n 0 m b) s ∙ stages-zero n b) (sorted n 0 0 0 ω S p (omega arith) (omega arith) h (count S) (omega arith) q)
+        subst (λ W. Pos (walk F W ω S)) (ap (λ m. stages n 0 m b) s ∙ stages-zero n b)
+        (sorted n 0 0 0 ω S p (omega arith) (omega arith) h (count S) (omega arith) q)

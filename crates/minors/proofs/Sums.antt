@@ -1,4 +1,5 @@
--- Laws of sums f 1 + .. + f n: terms that are equal (sum-equal), one term that is not zero (sum-single), sums of sums (sum-swap), the terms backwards (sum-reversed).
+-- Laws of sums f 1 + .. + f n: terms that are equal (sum-equal), one term that is not zero (sum-single), sums of sums (sum-swap),
+-- the terms backwards (sum-reversed).
 use mathlib.Core.Path.{_≡_, refl, sym, ap, ap₂, _∙_}
 use Prim.Native.Nat.{ℕ, zero, suc, _+_ as _+ℕ_, _-_}
 use native.Mathlib.Decide.{ℕ-discrete}

@@ -1,5 +1,6 @@
 -- A word reversed with E and Et exchanged has row sets and column sets exchanged (minor-transposed), and is the word of the factors exchanged
--- (transposed-word). The proof pairs two states, the sum of f S * ω S over the sets S of n rows: a letter on one side is the exchanged letter on the other (pairing-walk).
+-- (transposed-word). The proof pairs two states, the sum of f S * ω S over the sets S of n rows: a letter on one side is the exchanged letter on the other
+-- (pairing-walk).
 use mathlib.Core.Path.{_≡_, refl, sym, ap, ap₂, _∙_}
 use mathlib.Core.Bool.{Bool, true, false}
 use mathlib.Core.List.{[], _∷_, _++_, append-assoc}
@@ -62,7 +63,9 @@ module _ (K : CRing) where
   pub pairing-step : (n : ℕ) (w : R) (f g ω : RowSet → R) → pairing n (λ S. f S + w * g S) ω ≡ pairing n f ω + w * pairing n g ω
   unfolding pairing
   pairing-step zero w f g ω = step-times _ _ _ _
-  pairing-step (suc n) w f g ω = ap₂ _+_ (pairing-step n w (under false f) (under false g) (under false ω)) (pairing-step n w (under true f) (under true g) (under true ω)) ∙ step-plus _ _ _ _ _
+  pairing-step (suc n) w f g ω =
+      ap₂ _+_ (pairing-step n w (under false f) (under false g) (under false ω)) (pairing-step n w (under true f) (under true g) (under true ω))
+      ∙ step-plus _ _ _ _ _
 
   pub pairing-zero : (n : ℕ) (ω : RowSet → R) → pairing n (λ S. 𝟘) ω ≡ 𝟘
   unfolding pairing
@@ -137,7 +140,8 @@ module _ (K : CRing) (O : Ordered K) where
   unfolding pairing
   pairing-scaled zero s h f ω = h [] _ _
   pairing-scaled (suc n) s h f ω = ap₂ _+_
-      (pairing-scaled n (under false s) (λ S. h (false ∷ S)) (under false f) (under false ω)) (pairing-scaled n (under true s) (λ S. h (true ∷ S)) (under true f) (under true ω))
+      (pairing-scaled n (under false s) (λ S. h (false ∷ S)) (under false f) (under false ω))
+      (pairing-scaled n (under true s) (λ S. h (true ∷ S)) (under true f) (under true ω))
 
   adjoint-letter : (n : ℕ) (l : Letter R) → Rows n l → Adjoint n l
   unfolding act

@@ -2,7 +2,7 @@
 use mathlib.Core.Path.{_≡_}
 use mathlib.Core.Bool.{cond, _&&_}
 use mathlib.Core.List.{[], _∷_}
-use Prim.Native.Nat.{ℕ, zero, suc, _-_, _+_ as _+ℕ_}
+use Prim.Native.Nat.{ℕ, zero, suc, _+_, _-_}
 use lib.Dec.{eqb}
 use Rattle.fraction.specs.Ring.{CRing, Ordered}
 use Rattle.words.specs.RowSet.{RowSet}
@@ -11,10 +11,8 @@ use Rattle.words.specs.Sources.{Each}
 pub use Rattle.words.specs.RowSet.{In, chosen}
 
 module _ (K : CRing) where
-  open CRing K using (R, 𝟘, 𝟙, add as _+_, mul as _*_, neg)
+  open CRing K using (R, 𝟘, 𝟙, add, mul, neg)
 
-  infixl 65 _+_
-  infixl 70 _*_
   -- the entry at row i and column j
   abbrev pub Matrix : Type 0
   Matrix = ℕ → ℕ → R
@@ -29,11 +27,11 @@ module _ (K : CRing) where
   -- f 1 + .. + f n
   unfoldable pub sum : ℕ → (ℕ → R) → R
   sum zero f = 𝟘
-  sum (suc n) f = sum n f + f (suc n)
+  sum (suc n) f = add (sum n f) (f (suc n))
 
   -- the product of two matrices of n rows: entry (i, j) is the sum over k of A (i, k) times B (k, j)
   unfoldable pub times : ℕ → Matrix → Matrix → Matrix
-  times n A B i j = sum n (λ k. A i k * B k j)
+  times n A B i j = sum n (λ k. mul (A i k) (B k j))
 
   -- (-1) ^ i
   unfoldable pub sign : ℕ → R
@@ -42,7 +40,7 @@ module _ (K : CRing) where
 
   -- the entries of A with the signs (-1) ^ (i + j)
   abbrev pub resigned : Matrix → Matrix
-  resigned A i j = sign (i +ℕ j) * A i j
+  resigned A i j = mul (sign (i + j)) (A i j)
 
   -- the entries of A at the chosen rows P and columns Q
   abbrev pub submatrixOf : RowSet → RowSet → Matrix → Matrix

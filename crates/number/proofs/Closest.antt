@@ -87,7 +87,8 @@ module _ (n d : ℕ) (p : 0 < d) where
   r = n % d
 
   -- the two cases, with the division's equation and the result's multiple of d handed over
-  cases : {A : Type 0} → (q * d + r ≡ n → r < d → m ≡ q → m * d ≡ q * d → r * 2 ≤ d → (r * 2 ≡ d → m % 2 ≡ 0) → A) → (q * d + r ≡ n → r < d → m ≡ q + 1 → m * d ≡ (q + 1) * d → d ≤ r * 2 → (r * 2 ≡ d → m % 2 ≡ 0) → A) → A
+  cases : {A : Type 0} → (q * d + r ≡ n → r < d → m ≡ q → m * d ≡ q * d → r * 2 ≤ d → (r * 2 ≡ d → m % 2 ≡ 0) → A)
+      → (q * d + r ≡ n → r < d → m ≡ q + 1 → m * d ≡ (q + 1) * d → d ≤ r * 2 → (r * 2 ≡ d → m % 2 ≡ 0) → A) → A
   cases down up =
       ⊎-elim
       (λ (w : Below m q r d). down (div-add-mod' n d) (mod-lt n p) (w .0) (ap (λ (z : ℕ). z * d) (w .0)) (w .1) (w .2))

@@ -3,7 +3,9 @@ use mathlib.Core.Path.{_≡_, refl, sym, ap, ap₂, _∙_, subst}
 use mathlib.Core.Bool.{Bool, true, false, cond}
 use mathlib.Core.Logic.{_⊎_, ⊎-elim, inl, inr}
 use Prim.Native.Nat.{ℕ, suc, _+_, _-_, _*_, _/_, _%_, _^_, _≤_, _<_, min, compare, Ordering, Ordering·lt, Ordering·eq, Ordering·gt}
-use native.Mathlib.Nat.{div-add-mod', mod-lt, mul-pos, pow-succ', min-eq-left, mul-le-mul-right, div-le-self, mul-div-cancel, mul-div-mul-right, le-div-iff-mul-le, div-lt-iff-lt-mul}
+use native.Mathlib.Nat.{div-add-mod', mod-lt, mul-pos, pow-succ', min-eq-left, mul-le-mul-right, div-le-self, mul-div-cancel, mul-div-mul-right}
+use native.Mathlib.Nat.{le-div-iff-mul-le, div-lt-iff-lt-mul}
+use native.Mathlib.Decide.{decLt}
 use native.Mathlib.Omega.{arith}
 use borrow.Author.Tests.{ne-eqb, eq-eqb}
 use lib.Dec.{eqb}
@@ -11,31 +13,22 @@ use lib.Pow.{pow-pos, pow-add, pow-mono, high, low}
 use lib.Ieee.{nearest}
 use Rattle.number.proofs.Closest.{Cmp, cmp, nearest-up, nearest-even, nearest-down}
 use Rattle.number.proofs.Rounding.{round-parts, round-same}
-use Rattle.number.proofs.Exact.{whole-wide, sum-far}
-use Rattle.number.specs.Number.{round, carried}
+use Rattle.number.proofs.Exact.{integer-long, sum-far}
+use Rattle.number.specs.Number.{round, renormalised}
 use Rattle.number.specs.declared.Number.{Number}
 use Rattle.number.specs.Digits.{unlikeOf, alignedOf}
-
--- one number is below another, or not
-pub split : (a b : ℕ) → (a < b) ⊎ (b ≤ a)
-split a b = go (compare a b) (cmp a b)
-  where
-    go : (o : Ordering) → Cmp o a b → (a < b) ⊎ (b ≤ a)
-    go Ordering·lt c = inl c
-    go Ordering·eq c = inr (omega arith)
-    go Ordering·gt c = inr (omega arith)
 
 -- ---- rounded results
 abbrev made : ℕ → ℕ → Number
 made m y = record { m = m; x = y }
 
-carried-same : (m y : ℕ) → m < 2 ^ 32 → carried m y ≡ made m y
-unfolding carried
-carried-same m y h = rw (ne-eqb m (2 ^ 32) (omega arith)) refl
+renormalised-same : (m y : ℕ) → m < 2 ^ 32 → renormalised m y ≡ made m y
+unfolding renormalised
+renormalised-same m y h = rw (ne-eqb m (2 ^ 32) (omega arith)) refl
 
-carried-top : (m y : ℕ) → m ≡ 2 ^ 32 → carried m y ≡ made (2 ^ 31) (y + 1)
-unfolding carried
-carried-top m y e = rw (eq-eqb m (2 ^ 32) e) refl
+renormalised-top : (m y : ℕ) → m ≡ 2 ^ 32 → renormalised m y ≡ made (2 ^ 31) (y + 1)
+unfolding renormalised
+renormalised-top m y e = rw (eq-eqb m (2 ^ 32) e) refl
 
 -- what the code makes of the digits r, rounded already
 abbrev pub lastOf : ℕ → ℕ → Number
@@ -73,31 +66,31 @@ nearest-32 p = go (compare (p % 2 ^ 32 * 2) (2 ^ 32)) (cmp (p % 2 ^ 32 * 2) (2 ^
     go Ordering·gt c = omega arith
 
 -- p at exponent x, w digits behind the point
-parted : (p x w : ℕ) → 2 ^ 31 * 2 ^ w ≤ p → p < 2 ^ 32 * 2 ^ w → round p 1 x ≡ carried (nearest (p / 2 ^ w) (compare (p % 2 ^ w * 2) (2 ^ w))) (x + w)
+parted : (p x w : ℕ) → 2 ^ 31 * 2 ^ w ≤ p → p < 2 ^ 32 * 2 ^ w → round p 1 x ≡ renormalised (nearest (p / 2 ^ w) (compare (p % 2 ^ w * 2) (2 ^ w))) (x + w)
 parted p x w lo hi =
     let e : p ≡ p / 2 ^ w * 2 ^ w + p % 2 ^ w = sym (div-add-mod' p (2 ^ w)) in
-    whole-wide p x w (omega (arith, mul-pos {m = 2 ^ 31} {n = 2 ^ w} (omega arith) (pow-pos w))) lo hi ∙ ap (λ (n : ℕ). round n (2 ^ w) (x + w)) e
+    integer-long p x w (omega (arith, mul-pos {m = 2 ^ 31} {n = 2 ^ w} (omega arith) (pow-pos w))) lo hi ∙ ap (λ (n : ℕ). round n (2 ^ w) (x + w)) e
     ∙ round-parts (p / 2 ^ w) (p % 2 ^ w) (2 ^ w) (x + w) (mod-lt p (pow-pos w)) (le-div-iff-mul-le (pow-pos w) .1 lo) (div-lt-iff-lt-mul (pow-pos w) .1 hi)
 
 -- ---- 63 digits, and 64
 kept-63 : (p x : ℕ) → 2 ^ 62 ≤ p → p < 2 ^ 63 → lastOf (p + (2 ^ 30 - 1) + p / 2 ^ 31 % 2) x ≡ round p 1 x
 kept-63 p x lo hi =
     let r : ℕ = p + (2 ^ 30 - 1) + p / 2 ^ 31 % 2 in
-    let e : round p 1 x ≡ carried (r / 2 ^ 31) (x + 31) = parted p x 31 lo hi ∙ ap (λ (m : ℕ). carried m (x + 31)) (nearest-31 p) in
-    ⊎-elim
-    (λ (h : r < 2 ^ 63). last-low r x h ∙ sym (carried-same (r / 2 ^ 31) (x + 31) (omega arith)))
-    (λ (h : 2 ^ 63 ≤ r).
-    let f : r / 2 ^ 32 ≡ 2 ^ 31 = omega arith in
-    let g : x + 32 ≡ x + 31 + 1 = omega arith in
-    last-high r x h (omega arith) ∙ ap₂ made f g ∙ sym (carried-top (r / 2 ^ 31) (x + 31) (omega arith)))
-    (split r (2 ^ 63))
-    ∙ sym e
+    let e : round p 1 x ≡ renormalised (r / 2 ^ 31) (x + 31) = parted p x 31 lo hi ∙ ap (λ (m : ℕ). renormalised m (x + 31)) (nearest-31 p) in
+    let l : lastOf r x ≡ renormalised (r / 2 ^ 31) (x + 31) = elim (decLt r (2 ^ 63)) [
+      | yes h ↦ last-low r x h ∙ sym (renormalised-same (r / 2 ^ 31) (x + 31) (omega arith))
+      | no h ↦
+          let f : r / 2 ^ 32 ≡ 2 ^ 31 = omega arith in
+          let g : x + 32 ≡ x + 31 + 1 = omega arith in
+          last-high r x (omega arith) (omega arith) ∙ ap₂ made f g ∙ sym (renormalised-top (r / 2 ^ 31) (x + 31) (omega arith))
+    ] in
+    l ∙ sym e
 
 kept-64 : (p x : ℕ) → 2 ^ 63 ≤ p → p < 2 ^ 64 - 2 ^ 32 + 2 → lastOf (p + (2 ^ 31 - 1) + p / 2 ^ 32 % 2) x ≡ round p 1 x
 kept-64 p x lo hi =
     let r : ℕ = p + (2 ^ 31 - 1) + p / 2 ^ 32 % 2 in
-    let e : round p 1 x ≡ carried (r / 2 ^ 32) (x + 32) = parted p x 32 lo (omega arith) ∙ ap (λ (m : ℕ). carried m (x + 32)) (nearest-32 p) in
-    last-high r x (omega arith) (omega arith) ∙ sym (carried-same (r / 2 ^ 32) (x + 32) (omega arith)) ∙ sym e
+    let e : round p 1 x ≡ renormalised (r / 2 ^ 32) (x + 32) = parted p x 32 lo (omega arith) ∙ ap (λ (m : ℕ). renormalised m (x + 32)) (nearest-32 p) in
+    last-high r x (omega arith) (omega arith) ∙ sym (renormalised-same (r / 2 ^ 32) (x + 32) (omega arith)) ∙ sym e
 
 -- the digits as the code rounds them
 abbrev pub roundedOf : ℕ → ℕ
@@ -114,11 +107,10 @@ rounded-64 p l h =
     ap (λ (t : ℕ). p + 1073741823 + t * 1073741824 + p / 2 ^ 31 / 2 ^ t % 2) e ∙ omega arith
 
 pub kept-is : (p x : ℕ) → 2 ^ 62 ≤ p → p < 2 ^ 64 - 2 ^ 32 + 2 → lastOf (roundedOf p) x ≡ round p 1 x
-kept-is p x lo hi =
-    ⊎-elim
-    (λ (h : p < 2 ^ 63). ap (λ (r : ℕ). lastOf r x) (rounded-63 p h) ∙ kept-63 p x lo h)
-    (λ (h : 2 ^ 63 ≤ p). ap (λ (r : ℕ). lastOf r x) (rounded-64 p h (omega arith)) ∙ kept-64 p x h hi)
-    (split p (2 ^ 63))
+kept-is p x lo hi = elim (decLt p (2 ^ 63)) [
+  | yes h ↦ ap (λ (r : ℕ). lastOf r x) (rounded-63 p h) ∙ kept-63 p x lo h
+  | no h ↦ let l : 2 ^ 63 ≤ p = omega arith in ap (λ (r : ℕ). lastOf r x) (rounded-64 p l (omega arith)) ∙ kept-64 p x l hi
+]
 
 -- ---- what fits a word
 pub rounded-fits : (p : ℕ) → p < 2 ^ 64 - 2 ^ 32 + 2 → roundedOf p < 2 ^ 64
@@ -162,7 +154,7 @@ scaled n j c w y p l e lo hi =
     let f : 2 ^ c * 2 ^ (32 + w - c) ≡ 2 ^ 32 * 2 ^ w = sym (pow-add 2 c (32 + w - c)) ∙ ap (λ (i : ℕ). 2 ^ i) g ∙ pow-add 2 32 w in
     let s : n * (2 ^ c * 2 ^ (32 + w - c)) ≡ n * (2 ^ 32 * 2 ^ w) = ap (λ (z : ℕ). n * z) f in
     round-same n 1 j (n * 2 ^ c) (2 ^ w) (y + w) (32 + w - c) p (omega arith) (pow-pos w) (omega (arith, s)) (omega arith) lo hi
-    ∙ sym (whole-wide (n * 2 ^ c) y w (mul-pos p (pow-pos c)) lo hi)
+    ∙ sym (integer-long (n * 2 ^ c) y w (mul-pos p (pow-pos c)) lo hi)
 
 -- up to 31 places apart nothing is dropped
 aligned-near : (a b k : ℕ) → k ≤ 30 → alignedOf a b k ≡ (a * 2 ^ k + b) * 2 ^ (31 - k)
@@ -187,10 +179,10 @@ aligned-31 : (a b : ℕ) → alignedOf a b 31 ≡ a * 2 ^ 31 + b
 unfolding alignedOf
 aligned-31 a b =
     rw (half b)
-    (⊎-elim
-    (λ (h : b % 2 < 1). rw (unlike-same (b / 2 * 2 ^ 31) (b * 2 ^ 30) (omega arith)) (omega arith))
-    (λ (h : 1 ≤ b % 2). rw (unlike-other (b / 2 * 2 ^ 31) (b * 2 ^ 30) (omega arith)) (omega arith))
-    (split (b % 2) 1))
+    (elim (decLt (b % 2) 1) [
+      | yes h ↦ rw (unlike-same (b / 2 * 2 ^ 31) (b * 2 ^ 30) (omega arith)) (omega arith)
+      | no h ↦ rw (unlike-other (b / 2 * 2 ^ 31) (b * 2 ^ 30) (omega arith)) (omega arith)
+    ])
 
 -- 32 places apart: what is left of b is less than half a unit, half a unit or more, as b is
 module _ (b s : ℕ) (g : b < 2 ^ 32) (e : ((b % 4 ≡ 0) × (s ≡ 0)) ⊎ ((1 ≤ b % 4) × (s ≡ 1))) where
@@ -229,17 +221,17 @@ module _ (b s : ℕ) (g : b < 2 ^ 32) (e : ((b % 4 ≡ 0) × (s ≡ 0)) ⊎ ((1 
       let f₂ : nearest (n / 2 ^ 32) (compare (n % 2 ^ 32 * 2) (2 ^ 32)) ≡ nearest a (compare (b * 2) (2 ^ 32)) =
       ap₂ (λ (q r : ℕ). nearest q (compare (r * 2) (2 ^ 32))) (high a 32 g) (low a 32 g) in
       let x : j + 1 + 31 ≡ j + 32 = omega arith in
-      parted p (j + 1) 31 (omega arith) (omega arith) ∙ ap₂ carried (f₁ ∙ half-same a ∙ sym f₂) x ∙ sym (parted n j 32 (omega arith) (omega arith))
+      parted p (j + 1) 31 (omega arith) (omega arith) ∙ ap₂ renormalised (f₁ ∙ half-same a ∙ sym f₂) x ∙ sym (parted n j 32 (omega arith) (omega arith))
 
 -- whether digits of b are dropped 32 places down
 dropped-32 : (b : ℕ) → ((b % 4 ≡ 0) × (unlikeOf (b * 2 ^ 30 / 2 ^ 32 * 2 ^ 32) (b * 2 ^ 30) ≡ 0))
     ⊎ ((1 ≤ b % 4) × (unlikeOf (b * 2 ^ 30 / 2 ^ 32 * 2 ^ 32) (b * 2 ^ 30) ≡ 1))
 dropped-32 b =
     rw (quarter b)
-    (⊎-elim
-    (λ (h : b % 4 < 1). inl (omega arith, unlike-same (b / 4 * 2 ^ 32) (b * 2 ^ 30) (omega arith)))
-    (λ (h : 1 ≤ b % 4). inr (h, unlike-other (b / 4 * 2 ^ 32) (b * 2 ^ 30) (omega arith)))
-    (split (b % 4) 1))
+    (elim (decLt (b % 4) 1) [
+      | yes h ↦ inl (omega arith, unlike-same (b / 4 * 2 ^ 32) (b * 2 ^ 30) (omega arith))
+      | no h ↦ inr (omega arith, unlike-other (b / 4 * 2 ^ 32) (b * 2 ^ 30) (omega arith))
+    ])
 
 -- ---- the sum of a * 2 ^ k and b at exponent j, as it is aligned
 near : (a b j k : ℕ) → 2 ^ 31 ≤ a → a < 2 ^ 32 → b < 2 ^ 32 → k ≤ 31 → 31 ≤ j + k
@@ -249,12 +241,11 @@ near a b j k lo hi hb hk hj e =
     let pn : 0 < n = omega (arith, mul-pos {m = a} {n = 2 ^ k} (omega arith) (pow-pos k)) in
     let l = aligned-low a b k lo in
     let h = aligned-high a b k hi hb in
-    ap (λ (p : ℕ). round p 1 (j + k - 31)) e
-    ∙ sym
-    (⊎-elim
-    (λ (t : alignedOf a b k < 2 ^ 63). scaled n j (31 - k) 31 (j + k - 31) pn (omega arith) (omega arith) (omega (arith, e, l)) (omega (arith, e)))
-    (λ (t : 2 ^ 63 ≤ alignedOf a b k). scaled n j (31 - k) 32 (j + k - 31) pn (omega arith) (omega arith) (omega (arith, e)) (omega (arith, e, h)))
-    (split (alignedOf a b k) (2 ^ 63)))
+    let s : round n 1 j ≡ round (n * 2 ^ (31 - k)) 1 (j + k - 31) = elim (decLt (alignedOf a b k) (2 ^ 63)) [
+      | yes t ↦ scaled n j (31 - k) 31 (j + k - 31) pn (omega arith) (omega arith) (omega (arith, e, l)) (omega (arith, e))
+      | no t ↦ scaled n j (31 - k) 32 (j + k - 31) pn (omega arith) (omega arith) (omega (arith, e)) (omega (arith, e, h))
+    ] in
+    ap (λ (p : ℕ). round p 1 (j + k - 31)) e ∙ sym s
 
 far : (a b j k m : ℕ) → 2 ^ 31 ≤ a → a < 2 ^ 32 → b < 2 ^ 32 → 33 ≤ k → 33 ≤ m → round (alignedOf a b m) 1 (j + k - 31) ≡ round (a * 2 ^ k + b) 1 j
 unfolding alignedOf
@@ -272,7 +263,7 @@ unfolding alignedOf
 aligned-32 a b = omega arith
 
 pub aligned-is : (a b j k : ℕ) → 2 ^ 31 ≤ a → a < 2 ^ 32 → b < 2 ^ 32 → 31 ≤ j + k → round (alignedOf a b (min k 63)) 1 (j + k - 31) ≡ round (a * 2 ^ k + b) 1 j
-aligned-is a b j k lo hi hb hj = ⊎-elim below above (split k 32)
+aligned-is a b j k lo hi hb hj = elim (decLt k 32) [ yes h ↦ below h | no h ↦ above (omega arith) ]
   where
     Goal : ℕ → Type 0
     Goal i = round (alignedOf a b i) 1 (j + k - 31) ≡ round (a * 2 ^ k + b) 1 j
@@ -288,7 +279,10 @@ aligned-is a b j k lo hi hb hj = ⊎-elim below above (split k 32)
     below : k < 32 → Goal (min k 63)
     below h =
         just k refl (omega arith)
-        (⊎-elim (λ (l : k < 31). near a b j k lo hi hb (omega arith) hj (aligned-near a b k (omega arith))) (λ (l : 31 ≤ k). at-31 (omega arith)) (split k 31))
+        (elim (decLt k 31) [
+          | yes l ↦ near a b j k lo hi hb (omega arith) hj (aligned-near a b k (omega arith))
+          | no l ↦ at-31 (omega arith)
+        ])
 
     at-32 : k ≡ 32 → Goal k
     at-32 e =
@@ -297,9 +291,10 @@ aligned-is a b j k lo hi hb hj = ⊎-elim below above (split k 32)
         ∙ far-32 b (unlikeOf (b * 2 ^ 30 / 2 ^ 32 * 2 ^ 32) (b * 2 ^ 30)) hb (dropped-32 b) a j lo hi)
 
     above : 32 ≤ k → Goal (min k 63)
-    above h =
-        ⊎-elim (λ (l : k < 33). just k refl (omega arith) (at-32 (omega arith)))
-        (λ (l : 33 ≤ k). far a b j k (min k 63) lo hi hb l (omega arith)) (split k 33)
+    above h = elim (decLt k 33) [
+      | yes l ↦ just k refl (omega arith) (at-32 (omega arith))
+      | no l ↦ far a b j k (min k 63) lo hi hb (omega arith) (omega arith)
+    ]
 
 -- the mantissas' product fits, and has 63 or 64 digits
 pub product-low : (a b : ℕ) → 2 ^ 31 ≤ a → 2 ^ 31 ≤ b → 2 ^ 62 ≤ a * b

@@ -4,7 +4,7 @@ use mathlib.Core.Path.{_≡_, ap, subst}
 use Prim.Native.Nat.{ℕ, zero, suc, _+_, _-_, _*_, _^_, _≤_, _<_}
 use native.Mathlib.Nat.{mul-pos, mul-le-mul-right, le-of-mul-le-mul-right}
 use native.Mathlib.Omega.{arith}
-use Rattle.fraction.specs.Fraction.{Fraction, sum, product, quotient}
+use Rattle.fraction.specs.Fraction.{Fraction, fractionSum, fractionProduct, fractionQuotient}
 use Rattle.fraction.specs.Within.{Within}
 use Rattle.fraction.proofs.Within.{within-one}
 use Rattle.number.proofs.Closest.{Near}
@@ -38,16 +38,17 @@ rounds-within {q} {r} w =
     let x = w .x in
     let t = round n d x in
     subst (λ (z : Number). Within 1 (value z) q) (w .result)
-    (within-over (d * scale) (t .m * 2 ^ t .x * d) (n * 2 ^ x) (value t) q (mul-pos (w .divisor) scale-positive) (omega (arith, ap (λ (z : ℕ). z * d) (value-over t))) (w .exact)
+    (within-over (d * scale) (t .m * 2 ^ t .x * d) (n * 2 ^ x) (value t) q (mul-pos (w .divisor) scale-positive)
+    (omega (arith, ap (λ (z : ℕ). z * d) (value-over t))) (w .exact)
     (round-close n d x (w .divisor) (w .half) (w .start)))
 
 -- ---- the operations
-pub sum-within : {r : ℕ} {a b : Number} → Ranged r a → Ranged r b → r + 64 ≤ bias → Within 1 (value (sumOf a b)) (sum (value a) (value b))
+pub sum-within : {r : ℕ} {a b : Number} → Ranged r a → Ranged r b → r + 64 ≤ bias → Within 1 (value (sumOf a b)) (fractionSum (value a) (value b))
 sum-within u v h = rounds-within (sum-rounds u v h)
 
 module _ {r s : ℕ} {a b : Number} (u : Ranged r a) (v : Ranged s b) (h : r + s + 64 ≤ bias) where
-  pub product-within : Within 1 (value (productOf a b)) (product (value a) (value b))
+  pub product-within : Within 1 (value (productOf a b)) (fractionProduct (value a) (value b))
   product-within = rounds-within (product-rounds u v h)
 
-  pub quotient-within : 0 < b .m → Within 1 (value (quotientOf a b)) (quotient (value a) (value b))
+  pub quotient-within : 0 < b .m → Within 1 (value (quotientOf a b)) (fractionQuotient (value a) (value b))
   quotient-within p = rounds-within (quotient-rounds u v h p)

@@ -1,4 +1,4 @@
--- What the code hands to the one rounding: whole numbers by their leading zeros (`whole-wide`, `whole-narrow`), quotients by the order of
+-- What the code hands to the one rounding: whole numbers by their leading zeros (`integer-long`, `integer-short`), quotients by the order of
 -- their mantissas (`quotient-less`, `quotient-more`), products and sums that fit a word, and operands far apart (`sum-far`, `difference-far`).
 use mathlib.Core.Path.{_≡_, refl, sym, ap, _∙_, subst}
 use mathlib.Core.Logic.{⊎-elim}
@@ -10,19 +10,19 @@ use lib.Pow.{pow-pos, pow-add}
 use lib.Ieee.Nearest.{closest}
 use lib.Pow
 use Rattle.number.proofs.Closest.{nearest-up, nearest-down}
-use Rattle.number.proofs.Rounding.{round-same, round-normal, carried-small}
-use Rattle.number.specs.Number.{round, carried}
+use Rattle.number.proofs.Rounding.{round-same, round-normal, renormalised-small}
+use Rattle.number.specs.Number.{round, renormalised}
 
 -- ---- what the leading zeros of a word say: shifted by them it has 32 digits
 module _ (n z j : ℕ) (c : z + suc j ≡ 64) (lo : 2 ^ j ≤ n) (hi : n < 2 ^ suc j) where
-  wide : z ≤ 32 → (2 ^ 31 * 2 ^ (32 - z) ≤ n) × (n < 2 ^ 32 * 2 ^ (32 - z))
-  wide h =
+  long : z ≤ 32 → (2 ^ 31 * 2 ^ (32 - z) ≤ n) × (n < 2 ^ 32 * 2 ^ (32 - z))
+  long h =
       let e : j ≡ 31 + (32 - z) = omega arith in
       let p : 2 ^ j ≡ 2 ^ 31 * 2 ^ (32 - z) = ap (λ (i : ℕ). 2 ^ i) e ∙ pow-add 2 31 (32 - z) in
       omega arith
 
-  narrow : 32 ≤ z → (2 ^ 31 ≤ n * 2 ^ (z - 32)) × (n * 2 ^ (z - 32) < 2 ^ 32)
-  narrow h =
+  short : 32 ≤ z → (2 ^ 31 ≤ n * 2 ^ (z - 32)) × (n * 2 ^ (z - 32) < 2 ^ 32)
+  short h =
       let e : j + (z - 32) ≡ 31 = omega arith in
       let p : 2 ^ j * 2 ^ (z - 32) ≡ 2 ^ 31 = sym (pow-add 2 j (z - 32)) ∙ ap (λ (i : ℕ). 2 ^ i) e in
       let hi' : n < 2 ^ j * 2 = omega arith in
@@ -35,21 +35,22 @@ module _ (n : ℕ) (p : 0 < n) (f : n < 2 ^ 64) where
   pub zeros-lt : zeros < 64
   zeros-lt = omega (arith, leading-top 64 n p f .1)
 
-  pub zeros-wide : zeros ≤ 32 → (2 ^ 31 * 2 ^ (32 - zeros) ≤ n) × (n < 2 ^ 32 * 2 ^ (32 - zeros))
-  zeros-wide h = let t = leading-top 64 n p f in wide n zeros (t .0) (t .1) (t .2) (t .3) h
+  pub zeros-long : zeros ≤ 32 → (2 ^ 31 * 2 ^ (32 - zeros) ≤ n) × (n < 2 ^ 32 * 2 ^ (32 - zeros))
+  zeros-long h = let t = leading-top 64 n p f in long n zeros (t .0) (t .1) (t .2) (t .3) h
 
-  pub zeros-narrow : 32 ≤ zeros → (2 ^ 31 ≤ n * 2 ^ (zeros - 32)) × (n * 2 ^ (zeros - 32) < 2 ^ 32)
-  zeros-narrow h = let t = leading-top 64 n p f in narrow n zeros (t .0) (t .1) (t .2) (t .3) h
+  pub zeros-short : 32 ≤ zeros → (2 ^ 31 ≤ n * 2 ^ (zeros - 32)) × (n * 2 ^ (zeros - 32) < 2 ^ 32)
+  zeros-short h = let t = leading-top 64 n p f in short n zeros (t .0) (t .1) (t .2) (t .3) h
 
 -- ---- whole numbers: w digits are dropped, or w zeros joined
-pub whole-wide : (n x w : ℕ) → 0 < n → 2 ^ 31 * 2 ^ w ≤ n → n < 2 ^ 32 * 2 ^ w → round n 1 x ≡ round n (2 ^ w) (x + w)
-whole-wide n x w p lo hi = round-same n 1 x n (2 ^ w) (x + w) (32 + w) p (omega arith) (pow-pos w) (rw (pow-add 2 32 w) (omega arith)) (omega arith) lo hi
+pub integer-long : (n x w : ℕ) → 0 < n → 2 ^ 31 * 2 ^ w ≤ n → n < 2 ^ 32 * 2 ^ w → round n 1 x ≡ round n (2 ^ w) (x + w)
+integer-long n x w p lo hi = round-same n 1 x n (2 ^ w) (x + w) (32 + w) p (omega arith) (pow-pos w) (rw (pow-add 2 32 w) (omega arith)) (omega arith) lo hi
 
-pub whole-narrow : (n x w : ℕ) → 0 < n → w ≤ 32 → 2 ^ 31 ≤ n * 2 ^ w → n * 2 ^ w < 2 ^ 32 → round n 1 x ≡ round (n * 2 ^ w) 1 (x - w)
-whole-narrow n x w p l lo hi =
+pub integer-short : (n x w : ℕ) → 0 < n → w ≤ 32 → 2 ^ 31 ≤ n * 2 ^ w → n * 2 ^ w < 2 ^ 32 → round n 1 x ≡ round (n * 2 ^ w) 1 (x - w)
+integer-short n x w p l lo hi =
     let g : w + (32 - w) ≡ 32 = omega arith in
     let e : 2 ^ w * 2 ^ (32 - w) ≡ 2 ^ 32 = sym (pow-add 2 w (32 - w)) ∙ ap (λ (i : ℕ). 2 ^ i) g in
-    round-same n 1 x (n * 2 ^ w) 1 (x - w) (32 - w) p (omega arith) (omega arith) (omega (arith, ap (λ (z : ℕ). n * z) e)) (omega arith) (omega arith) (omega arith)
+    round-same n 1 x (n * 2 ^ w) 1 (x - w) (32 - w) p (omega arith) (omega arith) (omega (arith, ap (λ (z : ℕ). n * z) e)) (omega arith) (omega arith)
+    (omega arith)
 
 -- ---- quotients
 pub quotient-less : (a b x : ℕ) → 0 < a → 2 ^ 31 * b ≤ a * 2 ^ 32 → a < b → round a b x ≡ round (a * 2 ^ 32) b (x - 32)
@@ -72,10 +73,10 @@ product-fits a b p q = sum-fits a 0 b p (omega arith) (omega arith) .0
 
 -- ---- operands far apart
 -- n has k digits more than 32, and a units of 2 ^ k are nearest to it
-taken : (n j k a : ℕ) → 2 ^ 31 * 2 ^ k ≤ n → n < 2 ^ 32 * 2 ^ k → closest n (2 ^ k) ≡ a → round n 1 j ≡ carried a (j + k)
+taken : (n j k a : ℕ) → 2 ^ 31 * 2 ^ k ≤ n → n < 2 ^ 32 * 2 ^ k → closest n (2 ^ k) ≡ a → round n 1 j ≡ renormalised a (j + k)
 taken n j k a lo hi c =
     let pk : 0 < 2 ^ k = pow-pos k in
-    whole-wide n j k (omega arith) lo hi ∙ round-normal n (2 ^ k) (j + k) pk lo hi ∙ ap (λ (m : ℕ). carried m (j + k)) c
+    integer-long n j k (omega arith) lo hi ∙ round-normal n (2 ^ k) (j + k) pk lo hi ∙ ap (λ (m : ℕ). renormalised m (j + k)) c
 
 -- a units of 2 ^ k and less than half a unit
 pub sum-far : (a b j k : ℕ) → b * 2 < 2 ^ k → 2 ^ 31 ≤ a → a < 2 ^ 32 → round (a * 2 ^ k + b) 1 j ≡ record { m = a; x = j + k }
@@ -85,10 +86,10 @@ sum-far a b j k h p q =
     let hi : a * 2 ^ k ≤ (2 ^ 32 - 1) * 2 ^ k = mul-le-mul-right (2 ^ k) a' in
     let b' : b < 2 ^ k = omega arith in
     let c : closest (a * 2 ^ k + b) (2 ^ k) ≡ a = rw (Pow.high a k b', Pow.low a k b') (nearest-down a (b * 2) (2 ^ k) h) in
-    taken (a * 2 ^ k + b) j k a (omega arith) (omega arith) c ∙ carried-small a (j + k) q
+    taken (a * 2 ^ k + b) j k a (omega arith) (omega arith) c ∙ renormalised-small a (j + k) q
 
 -- q + 1 units of 2 ^ k less b, where b is less than half a unit
-less-than-half : (q b j k : ℕ) → 0 < b → b * 2 < 2 ^ k → 2 ^ 31 ≤ q → q < 2 ^ 32 → round (q * 2 ^ k + (2 ^ k - b)) 1 j ≡ carried (q + 1) (j + k)
+less-than-half : (q b j k : ℕ) → 0 < b → b * 2 < 2 ^ k → 2 ^ 31 ≤ q → q < 2 ^ 32 → round (q * 2 ^ k + (2 ^ k - b)) 1 j ≡ renormalised (q + 1) (j + k)
 less-than-half q b j k p h lo hi =
     let r : 2 ^ k - b < 2 ^ k = omega arith in
     let q' : q ≤ 2 ^ 32 - 1 = omega arith in
@@ -100,18 +101,22 @@ far-above : (a b j k : ℕ) → b * 2 < 2 ^ k → 2 ^ 31 < a → a < 2 ^ 32 → 
 far-above a b j k h p q s =
     let u : a - 1 + 1 ≡ a = omega arith in
     let n : a * 2 ^ k - b ≡ (a - 1) * 2 ^ k + (2 ^ k - b) = omega (arith, ap (λ (z : ℕ). z * 2 ^ k) u) in
-    ap (λ (z : ℕ). round z 1 j) n ∙ less-than-half (a - 1) b j k s h (omega arith) (omega arith) ∙ ap (λ (m : ℕ). carried m (j + k)) u ∙ carried-small a (j + k) q
+    ap (λ (z : ℕ). round z 1 j) n ∙ less-than-half (a - 1) b j k s h (omega arith) (omega arith) ∙ ap (λ (m : ℕ). renormalised m (j + k)) u
+    ∙ renormalised-small a (j + k) q
 
--- a is the least mantissa: one digit more is kept, rounded up to 2 ^ 32, and carried
+-- a is the least mantissa: one digit more is kept, rounded up to 2 ^ 32, and renormalised
 far-least : (b j w : ℕ) → b * 2 < 2 ^ w → 0 < b → round (2 ^ 31 * 2 ^ suc w - b) 1 j ≡ record { m = 2 ^ 31; x = j + w + 1 }
-unfolding carried
+unfolding renormalised
 far-least b j w h s =
     let n : 2 ^ 31 * 2 ^ suc w - b ≡ (2 ^ 32 - 1) * 2 ^ w + (2 ^ w - b) = rw (pow-succ' 2 w) (omega arith) in
     ap (λ (z : ℕ). round z 1 j) n ∙ less-than-half (2 ^ 32 - 1) b j w s h (omega arith) (omega arith)
 
 -- a units of 2 ^ k less b, which is less than half a unit, and less than a quarter where a is the least mantissa
-pub difference-far : (a b j k : ℕ) → b * 2 < 2 ^ k → (a ≡ 2 ^ 31 → b * 4 < 2 ^ k) → 2 ^ 31 ≤ a → a < 2 ^ 32 → 0 < b → round (a * 2 ^ k - b) 1 j ≡ record { m = a; x = j + k }
-difference-far a b j k h g p q s = ⊎-elim (λ (e : 2 ^ 31 ≡ a). subst (λ (z : ℕ). round (z * 2 ^ k - b) 1 j ≡ record { m = z; x = j + k }) e (least k refl (g (sym e)))) (λ (l : 2 ^ 31 < a). far-above a b j k h l q s) (eq-or-lt-of-le p)
+pub difference-far : (a b j k : ℕ) → b * 2 < 2 ^ k → (a ≡ 2 ^ 31 → b * 4 < 2 ^ k) → 2 ^ 31 ≤ a → a < 2 ^ 32 → 0 < b
+    → round (a * 2 ^ k - b) 1 j ≡ record { m = a; x = j + k }
+difference-far a b j k h g p q s =
+    ⊎-elim (λ (e : 2 ^ 31 ≡ a). subst (λ (z : ℕ). round (z * 2 ^ k - b) 1 j ≡ record { m = z; x = j + k }) e (least k refl (g (sym e))))
+    (λ (l : 2 ^ 31 < a). far-above a b j k h l q s) (eq-or-lt-of-le p)
   where
     least : (i : ℕ) → k ≡ i → b * 4 < 2 ^ i → round (2 ^ 31 * 2 ^ i - b) 1 j ≡ record { m = 2 ^ 31; x = j + i }
     least zero e f = absurd (omega arith)

@@ -1,9 +1,9 @@
--- Document 01's marked examples on numbers hold, by computing.
+-- The worked examples of numbers hold, by computing.
 use mathlib.Core.Path.{refl}
 use lib.Ieee.{size}
 use Rattle.number.specs.Examples.{AllHold, arithmeticTable}
-use Rattle.number.specs.Number.{round, carried, sumOf, productOf, quotientOf}
+use Rattle.number.specs.Number.{round, renormalised, sumOf, productOf, quotientOf}
 
 pub examples : AllHold arithmeticTable
-unfolding arithmeticTable round carried sumOf productOf quotientOf size lib.Ieee.span lib.Ieee.climb
+unfolding arithmeticTable round renormalised sumOf productOf quotientOf size lib.Ieee.span lib.Ieee.climb
 examples = (refl, (refl, (refl, (refl, (refl, tt)))))

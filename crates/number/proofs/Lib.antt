@@ -1,5 +1,4 @@
 pub mod Tests
-pub mod Arrays
 pub mod Closest
 pub mod Rounding
 pub mod Exact
@@ -15,3 +14,4 @@ pub mod Examples
 pub mod Unique
 pub mod Digits
 pub mod Words
+pub mod Integers

@@ -2,16 +2,17 @@
 -- `round-nearest` for every rounding; `sum-nearest`, `product-nearest` and `quotient-nearest` for the operations, zero operands included.
 use mathlib.Core.Path.{_≡_, refl, sym, ap, ap₂, _∙_, subst}
 use Prim.Native.Nat.{ℕ, zero, suc, _+_, _-_, _*_, _%_, _^_, _≤_, _<_}
-use native.Mathlib.Nat.{zero-mul, mul-pos, mul-le-mul-right, mul-lt-mul-of-pos-right, le-of-mul-le-mul-right, eq-of-mul-eq-mul-right, le-antisymm, le-of-lt, not-le-of-lt}
+use native.Mathlib.Nat.{zero-mul, mul-pos, mul-le-mul-right, mul-lt-mul-of-pos-right, le-of-mul-le-mul-right, eq-of-mul-eq-mul-right, le-antisymm, le-of-lt}
+use native.Mathlib.Nat.{not-le-of-lt}
 use native.Mathlib.Decide.{decLe}
 use native.Mathlib.Omega.{arith}
 use lib.Pow.{pow-pos, pow-add, pow-mono}
 use lib.Ieee.Nearest.{closest}
-use Rattle.fraction.specs.Fraction.{Fraction, Same, sum, product, quotient}
+use Rattle.fraction.specs.Fraction.{Fraction, Same, fractionSum, fractionProduct, fractionQuotient}
 use Rattle.number.proofs.Closest.{closest-best, closest-tie}
 use Rattle.number.proofs.Rounding.{Represents, round-zero, round-represents, dropped, scaled-low}
-use Rattle.number.proofs.Value.{scale, scale-positive, scale-is, Over, value-over, Rounds, exactly-rounds, sum-rounds, product-rounds, quotient-rounds}
-use Rattle.number.specs.Nearest.{gap, AtLeastAsNear, Nearest, float, exactly}
+use Rattle.number.proofs.Value.{scale, scale-positive, scale-is, Over, value-over, Rounds, unrounded-rounds, sum-rounds, product-rounds, quotient-rounds}
+use Rattle.number.specs.Nearest.{gap, AtLeastAsNear, Nearest, float, unrounded}
 use Rattle.number.specs.Number.{bias, round, value, Ranged, sumOf, productOf, quotientOf}
 use Rattle.number.specs.declared.Number.{Number}
 
@@ -55,7 +56,8 @@ module _ (s p e c : ℕ) (x q y : Fraction) (ps : 0 < s) (f : Over s x p) (g : O
 
   pub over-near : AtLeastAsNear q x y → gap p e ≤ gap c e
   over-near l =
-      le-of-mul-le-mul-right {k = x .low * y .low * q .low} (rw (left, right) at (mul-le-mul-right s l)) (mul-pos (mul-pos (x .above-zero) (y .above-zero)) (q .above-zero))
+      le-of-mul-le-mul-right {k = x .low * y .low * q .low} (rw (left, right) at (mul-le-mul-right s l))
+      (mul-pos (mul-pos (x .above-zero) (y .above-zero)) (q .above-zero))
 
   same-over : p ≡ c → Same y x
   same-over k =
@@ -109,7 +111,8 @@ module _ (N D : ℕ) (pD : 0 < D) (lo : 2 ^ 31 * D ≤ N) where
         let P : ℕ = 2 ^ suc t in
         let p : M * D * E ≡ M * D * P * F = omega (arith, ap (λ (z : ℕ). M * D * z) f) in
         let e : N * E ≡ N * P * F = omega (arith, ap (λ (z : ℕ). N * z) f) in
-        let a : gap (M * D * E) (N * E) ≡ gap (M * D) N * P * F = ap₂ gap p e ∙ gap-scale (M * D * P) (N * P) F ∙ ap (λ (z : ℕ). z * F) (gap-scale (M * D) N P) in
+        let a : gap (M * D * E) (N * E) ≡ gap (M * D) N * P * F =
+        ap₂ gap p e ∙ gap-scale (M * D * P) (N * P) F ∙ ap (λ (z : ℕ). z * F) (gap-scale (M * D) N P) in
         let b : gap (m * D * F) (N * E) ≡ gap (m * D) (N * P) * F = ap (gap (m * D * F)) e ∙ gap-scale (m * D) (N * P) F in
         let l : gap (M * D * E) (N * E) < gap (m * D * F) (N * E) = rw (a, b) (mul-lt-mul-of-pos-right (lower m t h) pF) in
         record { best = le-of-lt l; even = λ g ne. absurd (not-le-of-lt l g) }
@@ -180,9 +183,12 @@ module _ (n d x : ℕ) (pn : 0 < n) (pd : 0 < d) (half : d ≤ 2 * n) (hx : 32 �
       pS j = mul-pos (mul-pos (mul-pos pd (pow-pos k)) scale-positive) (pow-pos j)
 
       best : (m i j : ℕ) → m < 2 ^ 32 → AtLeastAsNear q (value (round n d x)) (float m i j)
-      best m i j h = near-over _ _ _ _ (value (round n d x)) q (float m i j) (pS j) (result-over m i j) (exact-over m i j q o) (candidate-over m i j) (chosen m i j h .best)
+      best m i j h =
+          near-over _ _ _ _ (value (round n d x)) q (float m i j) (pS j) (result-over m i j) (exact-over m i j q o) (candidate-over m i j)
+          (chosen m i j h .best)
 
-      even : (m i j : ℕ) → m < 2 ^ 32 → AtLeastAsNear q (float m i j) (value (round n d x)) → (Same (float m i j) (value (round n d x)) → ⊥) → round n d x .m % 2 ≡ 0
+      even : (m i j : ℕ) → m < 2 ^ 32 → AtLeastAsNear q (float m i j) (value (round n d x)) → (Same (float m i j) (value (round n d x)) → ⊥)
+          → round n d x .m % 2 ≡ 0
       even m i j h g ne =
           represents .even
           (chosen m i j h .even
@@ -216,16 +222,16 @@ rounds-nearest {q} {r} w = subst (Nearest q) (w .result) (go (w .n) refl)
         (ap (λ (n : ℕ). round n (w .d) (w .x) .m) e ∙ ap (λ (r : Number). r .m) (round-zero (w .d) (w .x)))
     go (suc n) e = nonzero-nearest (w .n) (w .d) (w .x) (omega arith) (w .divisor) (w .half (omega arith)) (w .start) q (w .exact)
 
-pub round-nearest : (n d x : ℕ) (p : 0 < d) → (0 < n → d ≤ 2 * n) → 32 ≤ x → Nearest (exactly n d x p) (round n d x)
-round-nearest n d x p h s = rounds-nearest (exactly-rounds n d x p h s)
+pub round-nearest : (n d x : ℕ) (p : 0 < d) → (0 < n → d ≤ 2 * n) → 32 ≤ x → Nearest (unrounded n d x p) (round n d x)
+round-nearest n d x p h s = rounds-nearest (unrounded-rounds n d x p h s)
 
 -- ---- the operations
-pub sum-nearest : {r : ℕ} {a b : Number} → Ranged r a → Ranged r b → r + 64 ≤ bias → Nearest (sum (value a) (value b)) (sumOf a b)
+pub sum-nearest : {r : ℕ} {a b : Number} → Ranged r a → Ranged r b → r + 64 ≤ bias → Nearest (fractionSum (value a) (value b)) (sumOf a b)
 sum-nearest u v h = rounds-nearest (sum-rounds u v h)
 
 module _ {r s : ℕ} {a b : Number} (u : Ranged r a) (v : Ranged s b) (h : r + s + 64 ≤ bias) where
-  pub product-nearest : Nearest (product (value a) (value b)) (productOf a b)
+  pub product-nearest : Nearest (fractionProduct (value a) (value b)) (productOf a b)
   product-nearest = rounds-nearest (product-rounds u v h)
 
-  pub quotient-nearest : 0 < b .m → Nearest (quotient (value a) (value b)) (quotientOf a b)
+  pub quotient-nearest : 0 < b .m → Nearest (fractionQuotient (value a) (value b)) (quotientOf a b)
   quotient-nearest p = rounds-nearest (quotient-rounds u v h p)

@@ -68,7 +68,12 @@ pub record NotBelow (a b : Number) : Type 0 where
   pub mantissa : b .x ≡ a .x → b .m ≤ a .m
 
 pub not-below : {r s : ℕ} (a b : Number) → Ranged r a → Ranged s b → 0 < b .m → below a b ≡ false → NotBelow a b
-not-below a b u v p h = record { normal = u .low (some (a .m) refl); exponent = upper (decLt (a .x) (b .x)); mantissa = λ e. ltb-false (a .m) (b .m) (sym (below-level a b (sym e)) ∙ h) }
+not-below a b u v p h =
+    record {
+      normal = u .low (some (a .m) refl);
+      exponent = upper (decLt (a .x) (b .x));
+      mantissa = λ e. ltb-false (a .m) (b .m) (sym (below-level a b (sym e)) ∙ h);
+    }
   where
     some : (k : ℕ) → a .m ≡ k → 0 < a .m
     some zero e = absurd (false≢true (sym h ∙ below-zero-left a b e p))

@@ -11,10 +11,11 @@ use lib.Dec.{leb}
 use lib.Pow.{pow-pos, pow-add}
 use Rattle.number.proofs.Tests.{both}
 use Rattle.number.proofs.Rounding.{round-represents, round-start, round-stop, round-zero}
-use Rattle.number.proofs.Zero.{sum-is, sum-comm, sum-zero-left, sum-zero-right, product-zero-left, product-zero-right, quotient-zero-left, round-positive}
+use Rattle.number.proofs.Zero.{sum-is, sum-comm, sum-zero-left, sum-zero-right, product-zero-left, product-zero-right, quotient-zero-left}
+use Rattle.number.proofs.Zero.{round-positive}
 use Rattle.number.proofs.Order.{not-below, difference-is, difference-zero-right}
 use Rattle.number.specs.Number.{bias, zeroNumber, oneNumber, round, Ranged, Stored, inRange, sumOf, productOf, quotientOf}
-use Rattle.number.specs.Signed.{wholeAt, below, differenceOf}
+use Rattle.number.specs.Signed.{integerAt, below, differenceOf}
 use Rattle.number.specs.declared.Number.{Number}
 
 pub ranged-more : {r s : ℕ} {a : Number} → r ≤ s → Ranged r a → Ranged s a
@@ -121,13 +122,13 @@ pub difference-positive : (a b : Number) → below b a ≡ true → 0 < differen
 unfolding below differenceOf
 difference-positive a b h =
     let l : ℕ = min (a .x) (b .x) in
-    let g = ltb-true (wholeAt (min (b .x) (a .x)) b) (wholeAt (min (b .x) (a .x)) a) h in
-    let p : wholeAt l b < wholeAt l a = subst (λ (k : ℕ). wholeAt k b < wholeAt k a) (min-comm (b .x) (a .x)) g in
-    round-positive (wholeAt l a - wholeAt l b) 1 l (omega arith) (omega arith) (omega arith)
+    let g = ltb-true (integerAt (min (b .x) (a .x)) b) (integerAt (min (b .x) (a .x)) a) h in
+    let p : integerAt l b < integerAt l a = subst (λ (k : ℕ). integerAt k b < integerAt k a) (min-comm (b .x) (a .x)) g in
+    round-positive (integerAt l a - integerAt l b) 1 l (omega arith) (omega arith) (omega arith)
 
 -- a positive whole number of at most 32 + k digits, at an exponent within r that is k below one within r
-ranged-whole : (r n k x : ℕ) → r + 64 ≤ bias → bias ≤ x + r → x + k ≤ bias + r → n < 2 ^ 32 * 2 ^ k → Ranged (r + 31) (round n 1 x)
-ranged-whole r n k x small start stop hi = go n refl
+ranged-integer : (r n k x : ℕ) → r + 64 ≤ bias → bias ≤ x + r → x + k ≤ bias + r → n < 2 ^ 32 * 2 ^ k → Ranged (r + 31) (round n 1 x)
+ranged-integer r n k x small start stop hi = go n refl
   where
     go : (i : ℕ) → n ≡ i → Ranged (r + 31) (round n 1 x)
     go zero e = subst (Ranged (r + 31)) (sym (ap (λ (z : ℕ). round z 1 x) e ∙ round-zero 1 x)) (ranged-zero (r + 31))
@@ -149,4 +150,4 @@ ranged-difference {r} {a} {b} u v small h = go (b .m) refl
         let hi : a .m * 2 ^ k ≤ (2 ^ 32 - 1) * 2 ^ k = mul-le-mul-right (2 ^ k) ha in
         let l : b .x ≤ a .x = n .exponent in
         subst (Ranged (r + 31)) (sym (difference-is a b l))
-        (ranged-whole r (a .m * 2 ^ k - b .m) k (b .x) small (v .start) (omega (arith, u .stop)) (omega (arith, pow-pos k)))
+        (ranged-integer r (a .m * 2 ^ k - b .m) k (b .x) small (v .start) (omega (arith, u .stop)) (omega (arith, pow-pos k)))

@@ -3,7 +3,9 @@
 use mathlib.Core.Path.{_≡_, refl, sym, ap, ap₂, _∙_, subst}
 use mathlib.Core.Logic.{⊎-elim}
 use Prim.Native.Nat.{ℕ, suc, _+_, _-_, _*_, _/_, _%_, _^_, _≤_, _<_, compare}
-use native.Mathlib.Nat.{mul-add-div-right, mul-add-mod-self-right, div-eq-of-lt, mod-eq-of-lt, div-one, mod-one, mul-pos, mul-le-mul-right, mul-lt-mul-of-pos-right, le-of-mul-le-mul-right, lt-of-mul-lt-mul-right, le-div-iff-mul-le, div-lt-iff-lt-mul, le-antisymm, lt-of-lt-of-le, lt-of-le-of-lt, lt-of-not-le, not-le-of-lt, eq-or-lt-of-le}
+use native.Mathlib.Nat.{mul-add-div-right, mul-add-mod-self-right, div-eq-of-lt, mod-eq-of-lt, div-one, mod-one, mul-pos, mul-le-mul-right}
+use native.Mathlib.Nat.{mul-lt-mul-of-pos-right, le-of-mul-le-mul-right, lt-of-mul-lt-mul-right, le-div-iff-mul-le, div-lt-iff-lt-mul, le-antisymm}
+use native.Mathlib.Nat.{lt-of-lt-of-le, lt-of-le-of-lt, lt-of-not-le, not-le-of-lt, eq-or-lt-of-le}
 use native.Mathlib.Omega.{arith}
 use borrow.Author.Tests.{ne-eqb, eq-eqb}
 use lib.Pow.{pow-pos, pow-mono, pow-add}
@@ -11,7 +13,7 @@ use lib.Ieee.{size, nearest}
 use lib.Ieee.Digits.{size-lt, size-le, size-reaches}
 use lib.Ieee.Nearest.{closest, closest-same}
 use Rattle.number.proofs.Closest.{Near, nearest-down, closest-near, closest-range}
-use Rattle.number.specs.Number.{zeroNumber, round, carried}
+use Rattle.number.specs.Number.{zeroNumber, round, renormalised}
 use Rattle.number.specs.declared.Number.{Number}
 
 -- where a power of 2 is below another, so is its exponent
@@ -30,7 +32,8 @@ unfolding round
 round-zero d x = refl
 
 -- n / d is N / D times 2 ^ k / 2 ^ 32, where N / D has 32 digits before the point
-pub round-is : (n d x N D k : ℕ) → 0 < n → 0 < d → 0 < D → n * 2 ^ 32 * D ≡ N * (d * 2 ^ k) → 2 ^ 31 * D ≤ N → N < 2 ^ 32 * D → round n d x ≡ carried (closest N D) (x + k - 32)
+pub round-is : (n d x N D k : ℕ) → 0 < n → 0 < d → 0 < D → n * 2 ^ 32 * D ≡ N * (d * 2 ^ k) → 2 ^ 31 * D ≤ N → N < 2 ^ 32 * D
+    → round n d x ≡ renormalised (closest N D) (x + k - 32)
 unfolding round
 round-is n d x N D k pn pd pD e lo hi =
     let P : ℕ = 2 ^ k in
@@ -43,14 +46,14 @@ round-is n d x N D k pn pd pD e lo hi =
     let hi₂ : n * 2 ^ 32 / d < 2 ^ suc (31 + k) = rw s (div-lt-iff-lt-mul pd .1 (lt-of-mul-lt-mul-right D hi₁)) in
     let t : size (n * 2 ^ 32 / d) - 32 ≡ k = omega (arith, size-is (n * 2 ^ 32 / d) (31 + k) lo₂ hi₂) in
     rw (ne-eqb n 0 (omega arith), t)
-    (ap (λ (m : ℕ). carried m (x + k - 32)) (closest-same (n * 2 ^ 32) (d * P) N D pdP pD e))
+    (ap (λ (m : ℕ). renormalised m (x + k - 32)) (closest-same (n * 2 ^ 32) (d * P) N D pdP pD e))
 
 -- n / d has 32 digits before the point itself
-pub round-normal : (n d x : ℕ) → 0 < d → 2 ^ 31 * d ≤ n → n < 2 ^ 32 * d → round n d x ≡ carried (closest n d) x
-round-normal n d x p lo hi = round-is n d x n d 32 (omega arith) p p (omega arith) lo hi ∙ ap (carried (closest n d)) (omega arith)
+pub round-normal : (n d x : ℕ) → 0 < d → 2 ^ 31 * d ≤ n → n < 2 ^ 32 * d → round n d x ≡ renormalised (closest n d) x
+round-normal n d x p lo hi = round-is n d x n d 32 (omega arith) p p (omega arith) lo hi ∙ ap (renormalised (closest n d)) (omega arith)
 
 -- q and r / d: the whole part and the rest, as division gives them
-pub round-parts : (q r d x : ℕ) → r < d → 2 ^ 31 ≤ q → q < 2 ^ 32 → round (q * d + r) d x ≡ carried (nearest q (compare (r * 2) d)) x
+pub round-parts : (q r d x : ℕ) → r < d → 2 ^ 31 ≤ q → q < 2 ^ 32 → round (q * d + r) d x ≡ renormalised (nearest q (compare (r * 2) d)) x
 round-parts q r d x h lo hi =
     let p : 0 < d = omega arith in
     let a : 2 ^ 31 * d ≤ q * d = mul-le-mul-right d lo in
@@ -58,23 +61,24 @@ round-parts q r d x h lo hi =
     let b : suc q * d ≤ 2 ^ 32 * d = mul-le-mul-right d s in
     let e : (q * d + r) / d ≡ q = mul-add-div-right p q r ∙ ap (λ (z : ℕ). q + z) (div-eq-of-lt h) ∙ omega arith in
     let f : (q * d + r) % d ≡ r = mul-add-mod-self-right q d r ∙ mod-eq-of-lt h in
-    round-normal (q * d + r) d x p (omega arith) (omega arith) ∙ ap₂ (λ (m k : ℕ). carried (nearest m (compare (k * 2) d)) x) e f
+    round-normal (q * d + r) d x p (omega arith) (omega arith) ∙ ap₂ (λ (m k : ℕ). renormalised (nearest m (compare (k * 2) d)) x) e f
 
 -- n / d at exponent x and N / D at exponent y are the same fraction, the second with 32 digits before the point
-pub round-same : (n d x N D y k : ℕ) → 0 < n → 0 < d → 0 < D → n * 2 ^ 32 * D ≡ N * (d * 2 ^ k) → x + k - 32 ≡ y → 2 ^ 31 * D ≤ N → N < 2 ^ 32 * D → round n d x ≡ round N D y
+pub round-same : (n d x N D y k : ℕ) → 0 < n → 0 < d → 0 < D → n * 2 ^ 32 * D ≡ N * (d * 2 ^ k) → x + k - 32 ≡ y → 2 ^ 31 * D ≤ N → N < 2 ^ 32 * D
+    → round n d x ≡ round N D y
 round-same n d x N D y k pn pd pD e f lo hi =
-    round-is n d x N D k pn pd pD e lo hi ∙ ap (carried (closest N D)) f ∙ sym (round-normal N D y pD lo hi)
+    round-is n d x N D k pn pd pD e lo hi ∙ ap (renormalised (closest N D)) f ∙ sym (round-normal N D y pD lo hi)
 
-pub carried-small : (m x : ℕ) → m < 2 ^ 32 → carried m x ≡ record { m = m; x = x }
-unfolding carried
-carried-small m x h = simp (ne-eqb m (2 ^ 32) (omega arith))
+pub renormalised-small : (m x : ℕ) → m < 2 ^ 32 → renormalised m x ≡ record { m = m; x = x }
+unfolding renormalised
+renormalised-small m x h = simp (ne-eqb m (2 ^ 32) (omega arith))
 
 -- a whole number whose digits all fit is kept as it is
 pub round-exact : (n x N k : ℕ) → 0 < n → n * 2 ^ 32 ≡ N * 2 ^ k → 2 ^ 31 ≤ N → N < 2 ^ 32 → round n 1 x ≡ record { m = N; x = x + k - 32 }
 round-exact n x N k p e lo hi =
     let c : closest N 1 ≡ N = rw (div-one N, mod-one N) (nearest-down N 0 1 (omega arith)) in
     round-is n 1 x N 1 k p (omega arith) (omega arith) (omega arith) (omega arith) (omega arith)
-    ∙ ap (λ (z : ℕ). carried z (x + k - 32)) c ∙ carried-small N (x + k - 32) hi
+    ∙ ap (λ (z : ℕ). renormalised z (x + k - 32)) c ∙ renormalised-small N (x + k - 32) hi
 
 -- ---- a result of 32 digits that stands for m × 2 ^ x
 pub record Represents (m x : ℕ) (r : Number) : Type 0 where
@@ -85,12 +89,21 @@ pub record Represents (m x : ℕ) (r : Number) : Type 0 where
   pub same : r .m * 2 ^ r .x ≡ m * 2 ^ x
   pub even : m % 2 ≡ 0 → r .m % 2 ≡ 0
 
-carried-represents : (m x : ℕ) → 2 ^ 31 ≤ m → m ≤ 2 ^ 32 → Represents m x (carried m x)
-unfolding carried
-carried-represents m x lo hi =
+renormalised-represents : (m x : ℕ) → 2 ^ 31 ≤ m → m ≤ 2 ^ 32 → Represents m x (renormalised m x)
+unfolding renormalised
+renormalised-represents m x lo hi =
     ⊎-elim
-    (λ (e : m ≡ 2 ^ 32). rw (eq-eqb m (2 ^ 32) e) (record { low = omega arith; high = omega arith; start = omega arith; stop = omega arith; same = rw (pow-add 2 x 1) (omega (arith, ap (λ (z : ℕ). z * 2 ^ x) e)); even = λ h. refl }))
-    (λ (h : m < 2 ^ 32). rw (ne-eqb m (2 ^ 32) (omega arith)) (record { low = lo; high = h; start = omega arith; stop = omega arith; same = refl; even = λ h. h }))
+    (λ (e : m ≡ 2 ^ 32). rw (eq-eqb m (2 ^ 32) e)
+    (record {
+      low = omega arith;
+      high = omega arith;
+      start = omega arith;
+      stop = omega arith;
+      same = rw (pow-add 2 x 1) (omega (arith, ap (λ (z : ℕ). z * 2 ^ x) e));
+      even = λ h. refl;
+    }))
+    (λ (h : m < 2 ^ 32). rw (ne-eqb m (2 ^ 32) (omega arith))
+    (record { low = lo; high = h; start = omega arith; stop = omega arith; same = refl; even = λ h. h }))
     (eq-or-lt-of-le hi)
 
 module _ (n d x : ℕ) (pn : 0 < n) (pd : 0 < d) (half : d ≤ 2 * n) where
@@ -125,7 +138,7 @@ module _ (n d x : ℕ) (pn : 0 < n) (pd : 0 < d) (half : d ≤ 2 * n) where
   unfolding round
   round-represents =
       let r = closest-range (n * 2 ^ 32) (d * 2 ^ k) (mul-pos pd (pow-pos k)) scaled-low scaled-high in
-      rw (ne-eqb n 0 (omega arith)) (carried-represents (closest (n * 2 ^ 32) (d * 2 ^ k)) (x + k - 32) (r .0) (r .1))
+      rw (ne-eqb n 0 (omega arith)) (renormalised-represents (closest (n * 2 ^ 32) (d * 2 ^ k)) (x + k - 32) (r .0) (r .1))
 
   -- the rounded value over the exact one
   pub round-near : 32 ≤ x → Near (round n d x .m * 2 ^ round n d x .x * d) (n * 2 ^ x)

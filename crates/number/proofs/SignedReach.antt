@@ -6,7 +6,8 @@ use Prim.Native.Nat.{ℕ, zero, _+_, _≤_, _<_}
 use native.Mathlib.Omega.{arith}
 use borrow.Author.Tests.{eq-eqb}
 use Rattle.number.proofs.Reach.{ranged-more, ranged-zero, ranged-sum, ranged-product, ranged-difference, difference-positive}
-use Rattle.number.proofs.Signs.{signed-difference-below, signed-difference-not-below, below-not-below, signed-sum-plain, signed-sum-negative, signed-sum-left, signed-sum-right, negative-positive}
+use Rattle.number.proofs.Signs.{signed-difference-below, signed-difference-not-below, below-not-below, signed-sum-plain, signed-sum-negative}
+use Rattle.number.proofs.Signs.{signed-sum-left, signed-sum-right, negative-positive}
 use Rattle.number.proofs.Zero.{sum-positive-left}
 use Rattle.number.specs.Number.{bias, Ranged, sumOf}
 use Rattle.number.specs.Signed.{below, plain, zeroSigned, signedDifference, signedSum, signedProduct, withSign, SignedRanged}
@@ -30,7 +31,9 @@ signed-ranged-difference : {r : ℕ} {a b : Number} → Ranged r a → Ranged r 
 signed-ranged-difference {r} {a} {b} u v small = go (below a b) refl
   where
     go : (t : Bool) → below a b ≡ t → SignedRanged (r + 31) (signedDifference a b)
-    go true e = subst (SignedRanged (r + 31)) (sym (signed-difference-below a b e)) (signed-ranged-nonzero (ranged-difference v u small (below-not-below a b e)) (difference-positive b a e))
+    go true e =
+        subst (SignedRanged (r + 31)) (sym (signed-difference-below a b e))
+        (signed-ranged-nonzero (ranged-difference v u small (below-not-below a b e)) (difference-positive b a e))
     go false e = subst (SignedRanged (r + 31)) (sym (signed-difference-not-below a b e)) (signed-ranged-plain (ranged-difference u v small e))
 
 -- the exponent rises by at most 2, and cancellation may lower it by 31
@@ -50,7 +53,12 @@ signed-ranged-sum {r} {a} {b} u v small = go (a .negative) (b .negative) refl re
 
 pub signed-ranged-product : {r s : ℕ} {a b : Signed} → SignedRanged r a → SignedRanged s b → r + s + 64 ≤ bias → SignedRanged (r + s + 33) (signedProduct a b)
 unfolding signedProduct withSign
-signed-ranged-product {r} {s} {a} {b} u v small = record { size = ranged-product (u .size) (v .size) small; zero = λ e. ap (λ (t : Bool). xor (a .negative) (b .negative) && not t) (eq-eqb _ 0 e) ∙ go (xor (a .negative) (b .negative)) }
+signed-ranged-product {r} {s} {a} {b} u v small =
+    record {
+      size = ranged-product (u .size) (v .size) small;
+      zero = λ e. ap (λ (t : Bool). xor (a .negative) (b .negative) && not t) (eq-eqb _ 0 e)
+          ∙ go (xor (a .negative) (b .negative));
+    }
   where
     go : (t : Bool) → (t && false) ≡ false
     go true = refl

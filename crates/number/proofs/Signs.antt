@@ -10,7 +10,7 @@ use lib.Dec.{ltb}
 use lib.Pow.{pow-pos}
 use Rattle.number.proofs.Zero.{product-comm}
 use Rattle.number.specs.Number.{round, sumOf, productOf}
-use Rattle.number.specs.Signed.{wholeAt, below, differenceOf, plain, signedRound, signedDifference, signedSum, signedProduct, withSign, SignedRanged}
+use Rattle.number.specs.Signed.{integerAt, below, differenceOf, plain, signedRound, signedDifference, signedSum, signedProduct, withSign, SignedRanged}
 use Rattle.number.specs.declared.Number.{Number}
 use Rattle.number.specs.declared.signed.Signed.{Signed}
 
@@ -31,22 +31,22 @@ pub signed-difference-below : (a b : Number) → below a b ≡ true → signedDi
 unfolding signedDifference below differenceOf
 signed-difference-below a b h =
     let l : ℕ = min (a .x) (b .x) in
-    signed-round-less (wholeAt l a) (wholeAt l b) l (ltb-true (wholeAt l a) (wholeAt l b) h)
-    ∙ ap (λ (k : ℕ). minus (round (wholeAt k b - wholeAt k a) 1 k)) (min-comm (a .x) (b .x))
+    signed-round-less (integerAt l a) (integerAt l b) l (ltb-true (integerAt l a) (integerAt l b) h)
+    ∙ ap (λ (k : ℕ). minus (round (integerAt k b - integerAt k a) 1 k)) (min-comm (a .x) (b .x))
 
 pub signed-difference-not-below : (a b : Number) → below a b ≡ false → signedDifference a b ≡ plain (differenceOf a b)
 unfolding signedDifference below differenceOf
 signed-difference-not-below a b h =
     let l : ℕ = min (a .x) (b .x) in
-    signed-round-more (wholeAt l a) (wholeAt l b) l (ltb-false (wholeAt l a) (wholeAt l b) h)
+    signed-round-more (integerAt l a) (integerAt l b) l (ltb-false (integerAt l a) (integerAt l b) h)
 
 -- a is not below b if it is above it
 pub below-not-below : (a b : Number) → below a b ≡ true → below b a ≡ false
 unfolding below
 below-not-below a b h =
     let l : ℕ = min (a .x) (b .x) in
-    ap (λ (k : ℕ). ltb (wholeAt k b) (wholeAt k a)) (min-comm (b .x) (a .x))
-    ∙ le-ltb (wholeAt l b) (wholeAt l a) (omega (arith, ltb-true (wholeAt l a) (wholeAt l b) h))
+    ap (λ (k : ℕ). ltb (integerAt k b) (integerAt k a)) (min-comm (b .x) (a .x))
+    ∙ le-ltb (integerAt l b) (integerAt l a) (omega (arith, ltb-true (integerAt l a) (integerAt l b) h))
 
 -- ---- sums
 module _ (a b : Number) where
@@ -56,39 +56,41 @@ module _ (a b : Number) where
   both-plain : signedSum (plain a) (plain b) ≡ plain (sumOf a b)
   unfolding signedSum sumOf
   both-plain =
-      signed-round-more (wholeAt l a + wholeAt l b) 0 l (omega arith)
-      ∙ ap (λ (n : ℕ). plain (round n 1 l)) (sub-zero (wholeAt l a + wholeAt l b))
+      signed-round-more (integerAt l a + integerAt l b) 0 l (omega arith)
+      ∙ ap (λ (n : ℕ). plain (round n 1 l)) (sub-zero (integerAt l a + integerAt l b))
 
   both-minus : 0 < a .m → signedSum (minus a) (minus b) ≡ minus (sumOf a b)
   unfolding signedSum sumOf
   both-minus p =
-      let n : 0 < wholeAt l a = mul-pos p (pow-pos (a .x - l)) in
-      signed-round-less 0 (wholeAt l a + wholeAt l b) l (omega arith)
-      ∙ ap (λ (n : ℕ). minus (round n 1 l)) (sub-zero (wholeAt l a + wholeAt l b))
+      let n : 0 < integerAt l a = mul-pos p (pow-pos (a .x - l)) in
+      signed-round-less 0 (integerAt l a + integerAt l b) l (omega arith)
+      ∙ ap (λ (n : ℕ). minus (round n 1 l)) (sub-zero (integerAt l a + integerAt l b))
 
   first-minus : signedSum (minus a) (plain b) ≡ signedDifference b a
   unfolding signedSum signedDifference
   first-minus =
-      let e : 0 + wholeAt l b ≡ wholeAt l b = omega arith in
-      let f : wholeAt l a + 0 ≡ wholeAt l a = omega arith in
+      let e : 0 + integerAt l b ≡ integerAt l b = omega arith in
+      let f : integerAt l a + 0 ≡ integerAt l a = omega arith in
       ap₂ (λ (p q : ℕ). signedRound p q l) e f
-      ∙ ap (λ (k : ℕ). signedRound (wholeAt k b) (wholeAt k a) k) (min-comm (a .x) (b .x))
+      ∙ ap (λ (k : ℕ). signedRound (integerAt k b) (integerAt k a) k) (min-comm (a .x) (b .x))
 
   second-minus : signedSum (plain a) (minus b) ≡ signedDifference a b
   unfolding signedSum signedDifference
   second-minus =
-      let e : wholeAt l a + 0 ≡ wholeAt l a = omega arith in
-      let f : 0 + wholeAt l b ≡ wholeAt l b = omega arith in
+      let e : integerAt l a + 0 ≡ integerAt l a = omega arith in
+      let f : 0 + integerAt l b ≡ integerAt l b = omega arith in
       ap₂ (λ (p q : ℕ). signedRound p q l) e f
 
 module _ (a b : Signed) where
-  by-signs : (s t : Bool) → a .negative ≡ s → b .negative ≡ t → signedSum a b ≡ signedSum (record { negative = s; size = a .size }) (record { negative = t; size = b .size })
+  by-signs : (s t : Bool) → a .negative ≡ s → b .negative ≡ t
+      → signedSum a b ≡ signedSum (record { negative = s; size = a .size }) (record { negative = t; size = b .size })
   by-signs s t e f = ap₂ (λ (s t : Bool). signedSum (record { negative = s; size = a .size }) (record { negative = t; size = b .size })) e f
 
   pub signed-sum-plain : a .negative ≡ false → b .negative ≡ false → signedSum a b ≡ plain (sumOf (a .size) (b .size))
   signed-sum-plain e f = by-signs false false e f ∙ both-plain (a .size) (b .size)
 
-  pub signed-sum-negative : a .negative ≡ true → b .negative ≡ true → 0 < a .size .m → signedSum a b ≡ record { negative = true; size = sumOf (a .size) (b .size) }
+  pub signed-sum-negative : a .negative ≡ true → b .negative ≡ true → 0 < a .size .m
+      → signedSum a b ≡ record { negative = true; size = sumOf (a .size) (b .size) }
   signed-sum-negative e f p = by-signs true true e f ∙ both-minus (a .size) (b .size) p
 
   pub signed-sum-left : a .negative ≡ true → b .negative ≡ false → signedSum a b ≡ signedDifference (b .size) (a .size)
@@ -110,17 +112,23 @@ signed-product-comm a b = ap₂ withSign (go (a .negative) (b .negative)) (produ
 
 pub signed-product-zero : (a : Signed) (w : Number) → productOf (a .size) w .m ≡ 0 → signedProduct a (plain w) ≡ plain (productOf (a .size) w)
 unfolding signedProduct withSign
-signed-product-zero a w e = ap (λ (t : Bool). record { negative = xor (a .negative) false && not t; size = productOf (a .size) w }) (eq-eqb (productOf (a .size) w .m) 0 e) ∙ go (xor (a .negative) false)
+signed-product-zero a w e =
+    ap (λ (t : Bool). record { negative = xor (a .negative) false && not t; size = productOf (a .size) w }) (eq-eqb (productOf (a .size) w .m) 0 e)
+    ∙ go (xor (a .negative) false)
   where
     go : (s : Bool) → _≡_ {A = Signed} (record { negative = s && false; size = productOf (a .size) w }) (plain (productOf (a .size) w))
     go true = refl
     go false = refl
 
-pub signed-product-sign : (a : Signed) (w : Number) → (productOf (a .size) w .m ≡ 0 → ⊥) → signedProduct a (plain w) ≡ record { negative = a .negative; size = productOf (a .size) w }
+pub signed-product-sign : (a : Signed) (w : Number) → (productOf (a .size) w .m ≡ 0 → ⊥)
+    → signedProduct a (plain w) ≡ record { negative = a .negative; size = productOf (a .size) w }
 unfolding signedProduct withSign xor
-signed-product-sign a w e = ap (λ (t : Bool). record { negative = xor (a .negative) false && not t; size = productOf (a .size) w }) (ne-eqb (productOf (a .size) w .m) 0 e) ∙ go (a .negative)
+signed-product-sign a w e =
+    ap (λ (t : Bool). record { negative = xor (a .negative) false && not t; size = productOf (a .size) w }) (ne-eqb (productOf (a .size) w .m) 0 e)
+    ∙ go (a .negative)
   where
-    go : (s : Bool) → _≡_ {A = Signed} (record { negative = xor s false && true; size = productOf (a .size) w }) (record { negative = s; size = productOf (a .size) w })
+    go : (s : Bool)
+        → _≡_ {A = Signed} (record { negative = xor s false && true; size = productOf (a .size) w }) (record { negative = s; size = productOf (a .size) w })
     go true = refl
     go false = refl
 

@@ -6,9 +6,9 @@ use Prim.Native.Nat.{ℕ, _+_, _-_, _*_, _^_, _≤_, _<_, min}
 use native.Mathlib.Nat.{mul-pos, eq-of-mul-eq-mul-right, min-le-left, min-le-right}
 use native.Mathlib.Omega.{arith}
 use lib.Pow.{pow-pos, pow-add}
-use Rattle.fraction.specs.Fraction.{Fraction, Same, whole, sum, product, quotient}
+use Rattle.fraction.specs.Fraction.{Fraction, Same, natural, fractionSum, fractionProduct, fractionQuotient}
 use Rattle.fraction.proofs.Fraction.{factor-positive, quotient-top, quotient-low}
-use Rattle.number.specs.Nearest.{exactly}
+use Rattle.number.specs.Nearest.{unrounded}
 use Rattle.number.specs.Number.{bias, zeroNumber, oneNumber, round, value, Ranged, sumOf, productOf, quotientOf}
 use Rattle.number.specs.declared.Number.{Number}
 
@@ -37,14 +37,14 @@ pub value-over : (a : Number) → Over scale (value a) (a .m * 2 ^ a .x)
 unfolding value
 value-over a = omega (arith, ap (λ (z : ℕ). a .m * z) (places (a .x)))
 
-exactly-over : (n d x : ℕ) (p : 0 < d) → Over (d * scale) (exactly n d x p) (n * 2 ^ x)
-exactly-over n d x p = omega (arith, ap (λ (z : ℕ). n * d * z) (places x))
+unrounded-over : (n d x : ℕ) (p : 0 < d) → Over (d * scale) (unrounded n d x p) (n * 2 ^ x)
+unrounded-over n d x p = omega (arith, ap (λ (z : ℕ). n * d * z) (places x))
 
-pub value-zero : Same (value zeroNumber) (whole 0)
+pub value-zero : Same (value zeroNumber) (natural 0)
 unfolding value
 value-zero = refl
 
-pub value-one : Same (value oneNumber) (whole 1)
+pub value-one : Same (value oneNumber) (natural 1)
 unfolding value
 value-one = refl
 
@@ -61,18 +61,20 @@ module _ (a b : Number) where
   B = value b
 
   -- both operands brought to the lower exponent
-  sum-over : let l = min (a .x) (b .x) in Over (1 * scale) (sum (value a) (value b)) ((a .m * 2 ^ (a .x - l) + b .m * 2 ^ (b .x - l)) * 2 ^ l)
+  sum-over : let l = min (a .x) (b .x) in Over (1 * scale) (fractionSum (value a) (value b)) ((a .m * 2 ^ (a .x - l) + b .m * 2 ^ (b .x - l)) * 2 ^ l)
   sum-over =
       let l : ℕ = min (a .x) (b .x) in
       let fa : a .x - l + l ≡ a .x = omega (arith, min-le-left (a .x) (b .x)) in
       let fb : b .x - l + l ≡ b .x = omega (arith, min-le-right (a .x) (b .x)) in
       let ea : 2 ^ (a .x - l) * 2 ^ l ≡ 2 ^ a .x = sym (pow-add 2 (a .x - l) l) ∙ ap (λ (k : ℕ). 2 ^ k) fa in
       let eb : 2 ^ (b .x - l) * 2 ^ l ≡ 2 ^ b .x = sym (pow-add 2 (b .x - l) l) ∙ ap (λ (k : ℕ). 2 ^ k) fb in
-      let ga : a .m * 2 ^ a .x * (A .low * B .low) ≡ a .m * (2 ^ (a .x - l) * 2 ^ l) * (A .low * B .low) = ap (λ (z : ℕ). a .m * z * (A .low * B .low)) (sym ea) in
-      let gb : b .m * 2 ^ b .x * (A .low * B .low) ≡ b .m * (2 ^ (b .x - l) * 2 ^ l) * (A .low * B .low) = ap (λ (z : ℕ). b .m * z * (A .low * B .low)) (sym eb) in
+      let ga : a .m * 2 ^ a .x * (A .low * B .low) ≡ a .m * (2 ^ (a .x - l) * 2 ^ l) * (A .low * B .low) =
+      ap (λ (z : ℕ). a .m * z * (A .low * B .low)) (sym ea) in
+      let gb : b .m * 2 ^ b .x * (A .low * B .low) ≡ b .m * (2 ^ (b .x - l) * 2 ^ l) * (A .low * B .low) =
+      ap (λ (z : ℕ). b .m * z * (A .low * B .low)) (sym eb) in
       omega (arith, ap (λ (z : ℕ). z * B .low) (value-over a), ap (λ (z : ℕ). z * A .low) (value-over b))
 
-  product-over : bias ≤ a .x + b .x → Over (1 * scale) (product (value a) (value b)) (a .m * b .m * 2 ^ (a .x + b .x - bias))
+  product-over : bias ≤ a .x + b .x → Over (1 * scale) (fractionProduct (value a) (value b)) (a .m * b .m * 2 ^ (a .x + b .x - bias))
   product-over h =
       let x : ℕ = a .x + b .x - bias in
       let f : a .x + b .x ≡ x + bias = omega arith in
@@ -82,7 +84,7 @@ module _ (a b : Number) where
       let w = ap (λ (z : ℕ). a .m * 2 ^ a .x * A .low * z) (value-over b) in
       eq-of-mul-eq-mul-right scale scale-positive _ _ (omega arith)
 
-  quotient-over : b .x ≤ a .x + bias → 0 < b .m → Over (b .m * scale) (quotient (value a) (value b)) (a .m * 2 ^ (a .x + bias - b .x))
+  quotient-over : b .x ≤ a .x + bias → 0 < b .m → Over (b .m * scale) (fractionQuotient (value a) (value b)) (a .m * 2 ^ (a .x + bias - b .x))
   quotient-over h p =
       let x : ℕ = a .x + bias - b .x in
       let q = value-positive b .0 p in
@@ -104,24 +106,51 @@ pub record Rounds (q : Fraction) (r : Number) : Type 0 where
   pub half : 0 < n → d ≤ 2 * n
   pub start : 32 ≤ x
 
-pub exactly-rounds : (n d x : ℕ) (p : 0 < d) → (0 < n → d ≤ 2 * n) → 32 ≤ x → Rounds (exactly n d x p) (round n d x)
-exactly-rounds n d x p h s = record { n = n; d = d; x = x; result = refl; exact = exactly-over n d x p; divisor = p; half = h; start = s }
+pub unrounded-rounds : (n d x : ℕ) (p : 0 < d) → (0 < n → d ≤ 2 * n) → 32 ≤ x → Rounds (unrounded n d x p) (round n d x)
+unrounded-rounds n d x p h s = record { n = n; d = d; x = x; result = refl; exact = unrounded-over n d x p; divisor = p; half = h; start = s }
 
-pub sum-rounds : {r : ℕ} {a b : Number} → Ranged r a → Ranged r b → r + 64 ≤ bias → Rounds (sum (value a) (value b)) (sumOf a b)
+pub sum-rounds : {r : ℕ} {a b : Number} → Ranged r a → Ranged r b → r + 64 ≤ bias → Rounds (fractionSum (value a) (value b)) (sumOf a b)
 unfolding sumOf
 sum-rounds {r} {a} {b} u v h =
     let l : ℕ = min (a .x) (b .x) in
-    record { n = a .m * 2 ^ (a .x - l) + b .m * 2 ^ (b .x - l); d = 1; x = l; result = refl; exact = sum-over a b; divisor = omega arith; half = λ p. omega arith; start = omega (arith, u .start, v .start) }
+    record {
+      n = a .m * 2 ^ (a .x - l) + b .m * 2 ^ (b .x - l);
+      d = 1;
+      x = l;
+      result = refl;
+      exact = sum-over a b;
+      divisor = omega arith;
+      half = λ p. omega arith;
+      start = omega (arith, u .start, v .start);
+    }
 
 module _ {r s : ℕ} {a b : Number} (u : Ranged r a) (v : Ranged s b) (h : r + s + 64 ≤ bias) where
-  pub product-rounds : Rounds (product (value a) (value b)) (productOf a b)
+  pub product-rounds : Rounds (fractionProduct (value a) (value b)) (productOf a b)
   unfolding productOf
   product-rounds =
       let g : bias + 64 ≤ a .x + b .x = omega (arith, u .start, v .start) in
-      record { n = a .m * b .m; d = 1; x = a .x + b .x - bias; result = refl; exact = product-over a b (omega arith); divisor = omega arith; half = λ p. omega arith; start = omega arith }
+      record {
+        n = a .m * b .m;
+        d = 1;
+        x = a .x + b .x - bias;
+        result = refl;
+        exact = product-over a b (omega arith);
+        divisor = omega arith;
+        half = λ p. omega arith;
+        start = omega arith;
+      }
 
-  pub quotient-rounds : 0 < b .m → Rounds (quotient (value a) (value b)) (quotientOf a b)
+  pub quotient-rounds : 0 < b .m → Rounds (fractionQuotient (value a) (value b)) (quotientOf a b)
   unfolding quotientOf
   quotient-rounds p =
       let g : b .x + 64 ≤ a .x + bias = omega (arith, u .start, v .stop) in
-      record { n = a .m; d = b .m; x = a .x + bias - b .x; result = refl; exact = quotient-over a b (omega arith) p; divisor = p; half = λ q. omega (arith, u .low q, v .high); start = omega arith }
+      record {
+        n = a .m;
+        d = b .m;
+        x = a .x + bias - b .x;
+        result = refl;
+        exact = quotient-over a b (omega arith) p;
+        divisor = p;
+        half = λ q. omega (arith, u .low q, v .high);
+        start = omega arith;
+      }

@@ -21,7 +21,9 @@ sum-is a b h = rw (min-eq-right h, sub-self (b .x), mul-one (b .m)) refl
 
 pub sum-comm : (a b : Number) → sumOf a b ≡ sumOf b a
 unfolding sumOf
-sum-comm a b = rw (min-comm (a .x) (b .x)) (ap (λ (n : ℕ). round n 1 (min (b .x) (a .x))) (add-comm (a .m * 2 ^ (a .x - min (b .x) (a .x))) (b .m * 2 ^ (b .x - min (b .x) (a .x)))))
+sum-comm a b =
+    rw (min-comm (a .x) (b .x))
+    (ap (λ (n : ℕ). round n 1 (min (b .x) (a .x))) (add-comm (a .m * 2 ^ (a .x - min (b .x) (a .x))) (b .m * 2 ^ (b .x - min (b .x) (a .x)))))
 
 pub product-comm : (a b : Number) → productOf a b ≡ productOf b a
 unfolding productOf

@@ -1,4 +1,4 @@
--- Document 01's marked examples on numbers, as rows of one table.
+-- Worked examples as rows of a table (`Row`, `AllHold`), and those of numbers (arithmeticTable).
 use mathlib.Core.Path.{_≡_}
 use mathlib.Core.List.{List, [], _∷_}
 use Prim.Native.Nat.{ℕ, _+_, _-_, _*_, _^_}
@@ -11,6 +11,7 @@ pub record Row : Type 1 where
   pub given : Answer
   pub said : Answer
 
+-- a row of the table
 abbrev pub row : {A : Type 0} → A → A → Row
 row {A} a b = record { Answer = A; given = a; said = b }
 
@@ -26,11 +27,12 @@ up m e = record { m = m; x = bias + e }
 abbrev pub down : ℕ → ℕ → Number
 down m e = record { m = m; x = bias - e }
 
+-- P1 to P4 and P10, document 01's marked examples on sums, products and quotients
 unfoldable pub arithmeticTable : List Row
 arithmeticTable =
-    row (sumOf (down (2 ^ 31) 31) (down (2 ^ 31) 63)) (down (2 ^ 31) 31)  -- P1: 1 + 2 ^ -32 is 1
-    ∷ row (sumOf (down (2 ^ 31 + 1) 31) (down (2 ^ 31) 63)) (down 2147483650 31)  -- P2: (2 ^ 31 + 1) × 2 ^ -31 plus 2 ^ -32
-    ∷ row (sumOf (up (2 ^ 32 - 1) 0) (down (2 ^ 31) 32)) (up (2 ^ 31) 1)  -- P3: (2 ^ 32 - 1) + 1 / 2
-    ∷ row (productOf (up (2 ^ 32 - 1) 0) (up (2 ^ 32 - 1) 0)) (up 4294967294 32)  -- P4: (2 ^ 32 - 1) squared
-    ∷ row (quotientOf (down (2 ^ 31) 31) (down (3 * 2 ^ 30) 30)) (down 2863311531 33)  -- P10: 1 / 3
+    row (sumOf (down (2 ^ 31) 31) (down (2 ^ 31) 63)) (down (2 ^ 31) 31)  -- 1 + 2 ^ -32 is 1
+    ∷ row (sumOf (down (2 ^ 31 + 1) 31) (down (2 ^ 31) 63)) (down 2147483650 31)  -- (2 ^ 31 + 1) × 2 ^ -31 plus 2 ^ -32
+    ∷ row (sumOf (up (2 ^ 32 - 1) 0) (down (2 ^ 31) 32)) (up (2 ^ 31) 1)  -- (2 ^ 32 - 1) + 1 / 2
+    ∷ row (productOf (up (2 ^ 32 - 1) 0) (up (2 ^ 32 - 1) 0)) (up 4294967294 32)  -- (2 ^ 32 - 1) squared
+    ∷ row (quotientOf (down (2 ^ 31) 31) (down (3 * 2 ^ 30) 30)) (down 2863311531 33)  -- 1 / 3
     ∷ []

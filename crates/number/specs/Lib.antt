@@ -4,3 +4,4 @@ pub mod Signed
 pub mod Examples
 pub mod Digits
 pub mod Packed
+pub mod Integer

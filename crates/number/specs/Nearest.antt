@@ -16,8 +16,8 @@ abbrev pub AtLeastAsNear : Fraction → Fraction → Fraction → Type 0
 AtLeastAsNear q x y = gap (x .top * q .low) (q .top * x .low) * y .low ≤ gap (y .top * q .low) (q .top * y .low) * x .low
 
 -- n / d at exponent x, which `round n d x` rounds
-abbrev pub exactly : (n d x : ℕ) → 0 < d → Fraction
-exactly n d x p = record { top = n * 2 ^ (x - bias); low = d * 2 ^ (bias - x); above-zero = mul-pos p (pow-pos (bias - x)) }
+abbrev pub unrounded : (n d x : ℕ) → 0 < d → Fraction
+unrounded n d x p = record { top = n * 2 ^ (x - bias); low = d * 2 ^ (bias - x); above-zero = mul-pos p (pow-pos (bias - x)) }
 
 -- m × 2 ^ (i - j)
 abbrev pub float : ℕ → ℕ → ℕ → Fraction

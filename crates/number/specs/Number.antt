@@ -20,12 +20,13 @@ bias = 2 ^ 22
 abbrev pub zeroNumber : Number
 zeroNumber = record { m = 0; x = bias }
 
+-- one, 2 ^ 31 × 2 ^ -31
 abbrev pub oneNumber : Number
 oneNumber = record { m = 2 ^ 31; x = bias - 31 }
 
 -- a mantissa that was rounded up to 2 ^ 32 is 2 ^ 31 one exponent higher
-unfoldable pub carried : ℕ → ℕ → Number
-carried m x = cond (eqb m (2 ^ 32)) (record { m = 2 ^ 31; x = x + 1 }) (record { m = m; x = x })
+unfoldable pub renormalised : ℕ → ℕ → Number
+renormalised m x = cond (eqb m (2 ^ 32)) (record { m = 2 ^ 31; x = x + 1 }) (record { m = m; x = x })
 
 -- The exact n / d at exponent x, rounded once, where n is 0 or n / d at least a half.
 -- With 32 more binary places its whole part, n * 2 ^ 32 / d, has 32 digits or more; 32 of them are kept and k dropped.
@@ -33,7 +34,7 @@ carried m x = cond (eqb m (2 ^ 32)) (record { m = 2 ^ 31; x = x + 1 }) (record {
 unfoldable pub round : ℕ → ℕ → ℕ → Number
 round n d x =
     let k = size (n * 2 ^ 32 / d) - 32 in
-    cond (eqb n 0) zeroNumber (carried (closest (n * 2 ^ 32) (d * 2 ^ k)) (x + k - 32))
+    cond (eqb n 0) zeroNumber (renormalised (closest (n * 2 ^ 32) (d * 2 ^ k)) (x + k - 32))
 
 -- the exact sum, both operands brought to the lower exponent, rounded once
 unfoldable pub sumOf : Number → Number → Number
@@ -41,9 +42,11 @@ sumOf a b =
     let l = min (a .x) (b .x) in
     round (a .m * 2 ^ (a .x - l) + b .m * 2 ^ (b .x - l)) 1 l
 
+-- the exact product, rounded once
 unfoldable pub productOf : Number → Number → Number
 productOf a b = round (a .m * b .m) 1 (a .x + b .x - bias)
 
+-- the exact quotient, rounded once
 unfoldable pub quotientOf : Number → Number → Number
 quotientOf a b = round (a .m) (b .m) (a .x + bias - b .x)
 

@@ -9,25 +9,26 @@ use Rattle.number.specs.declared.Number.{Number}
 use Rattle.number.specs.declared.signed.Signed.{Signed}
 
 -- a number as a whole number at exponent l, which is not above its own
-abbrev pub wholeAt : ℕ → Number → ℕ
-wholeAt l a = a .m * 2 ^ (a .x - l)
+abbrev pub integerAt : ℕ → Number → ℕ
+integerAt l a = a .m * 2 ^ (a .x - l)
 
 -- whether a is less than b, both brought to the lower exponent
 unfoldable pub below : Number → Number → Bool
 below a b =
     let l = min (a .x) (b .x) in
-    ltb (wholeAt l a) (wholeAt l b)
+    ltb (integerAt l a) (integerAt l b)
 
 -- the exact difference rounded once, for a b that is not larger
 unfoldable pub differenceOf : Number → Number → Number
 differenceOf a b =
     let l = min (a .x) (b .x) in
-    round (wholeAt l a - wholeAt l b) 1 l
+    round (integerAt l a - integerAt l b) 1 l
 
 -- a number with the sign plus
 abbrev pub plain : Number → Signed
 plain a = record { negative = false; size = a }
 
+-- zero, which is not negative
 abbrev pub zeroSigned : Signed
 zeroSigned = plain zeroNumber
 
@@ -39,14 +40,14 @@ signedRound p q x = cond (ltb p q) (record { negative = true; size = round (q - 
 unfoldable pub signedDifference : Number → Number → Signed
 signedDifference a b =
     let l = min (a .x) (b .x) in
-    signedRound (wholeAt l a) (wholeAt l b) l
+    signedRound (integerAt l a) (integerAt l b) l
 
 -- what a signed number adds to the positive part of a sum, and to the negative part, as whole numbers at exponent l
 abbrev pub positivePart : ℕ → Signed → ℕ
-positivePart l a = cond (a .negative) 0 (wholeAt l (a .size))
+positivePart l a = cond (a .negative) 0 (integerAt l (a .size))
 
 abbrev pub negativePart : ℕ → Signed → ℕ
-negativePart l a = cond (a .negative) (wholeAt l (a .size)) 0
+negativePart l a = cond (a .negative) (integerAt l (a .size)) 0
 
 -- the exact signed sum, both operands brought to the lower exponent, rounded once
 unfoldable pub signedSum : Signed → Signed → Signed
@@ -58,6 +59,7 @@ signedSum a b =
 unfoldable pub withSign : Bool → Number → Signed
 withSign s a = record { negative = s && not (eqb (a .m) 0); size = a }
 
+-- the product and the quotient of the sizes, each rounded once, negative where one operand is
 unfoldable pub signedProduct : Signed → Signed → Signed
 signedProduct a b = withSign (xor (a .negative) (b .negative)) (productOf (a .size) (b .size))
 

@@ -3,10 +3,11 @@
 ghost use mathlib.Core.Path.{_≡_};
 ghost use mathlib.Core.Bool.{false, cond};
 ghost use Prim.Native.Nat.{_+_, _-_, _*_, _^_, _≤_, _<_, min};
-ghost use Rattle.number.specs.Number.{zeroNumber, oneNumber, carried, round, sumOf, productOf, quotientOf, Ranged, reach, exponentOf, inRange};
+ghost use Rattle.number.specs.Number.{zeroNumber, oneNumber, renormalised, round, sumOf, productOf, quotientOf, Ranged, reach, exponentOf, inRange};
 ghost use Rattle.number.specs.Signed.{below, differenceOf};
 ghost use Rattle.number.specs.Digits.{unlikeOf, alignedOf};
 
+pub mod integer; // integer.rt: whole numbers with a sign
 pub mod packed; // packed.rt: a number in one word
 pub mod signed; // signed.rt: numbers with a sign
 
@@ -21,9 +22,9 @@ pub struct Number {
 }
 
 // A mantissa that was rounded up to 2^32 is 2^31 one exponent higher.
-fn carried(m: u64, x: u64) -> Number
+fn renormalised(m: u64, x: u64) -> Number
     requires { ⌜ x < 2 ^ 62 ⌝ }
-    ensures { λ r. ⌜ r ≡ carried m x ⌝ }
+    ensures { λ r. ⌜ r ≡ renormalised m x ⌝ }
 {
     if m == 0x1_0000_0000 {
         return Number {
@@ -41,15 +42,15 @@ fn round(q: u64, rest: u64, d: u64, x: u64) -> Number
 {
     let t = rest * 2;
     if d < t {
-        return carried(q + 1, x);
+        return renormalised(q + 1, x);
     }
     if t < d {
-        return carried(q, x);
+        return renormalised(q, x);
     }
     if q % 2 == 1 {
-        return carried(q + 1, x);
+        return renormalised(q + 1, x);
     }
-    carried(q, x)
+    renormalised(q, x)
 }
 
 fn power(k: u64) -> u64
@@ -60,7 +61,7 @@ fn power(k: u64) -> u64
 }
 
 // A whole number of more than 32 digits at exponent x: w digits are left behind the point.
-fn wide(n: u64, w: u64, x: u64) -> Number
+fn round_long(n: u64, w: u64, x: u64) -> Number
     requires { ⌜ (w ≤ 32) × (2 ^ 31 * 2 ^ w ≤ n) × (n < 2 ^ 32 * 2 ^ w) × (x < 2 ^ 61) ⌝ }
     ensures { λ r. ⌜ r ≡ round n (2 ^ w) (x + w) ⌝ }
 {
@@ -70,13 +71,13 @@ fn wide(n: u64, w: u64, x: u64) -> Number
 }
 
 // A whole number at exponent x: digits past the 32nd are left behind the point, zeros are joined to fewer.
-fn whole(n: u64, x: u64) -> Number
+fn round_integer(n: u64, x: u64) -> Number
     requires { ⌜ (0 < n) × (32 ≤ x) × (x < 2 ^ 61) ⌝ }
     ensures { λ r. ⌜ r ≡ round n 1 x ⌝ }
 {
     let z = u64::leading_zeros(n) as u64;
     if z < 32 {
-        return wide(n, 32 - z, x);
+        return round_long(n, 32 - z, x);
     }
     round(n * power(z - 32), 0, 1, x - (z - 32))
 }
@@ -156,14 +157,14 @@ fn difference(a: u64, i: u64, b: u64, j: u64) -> Number
 {
     let k = i - j;
     if k < 33 {
-        return whole(a * power(k) - b, j);
+        return round_integer(a * power(k) - b, j);
     }
     if k == 33 {
         if a == 0x8000_0000 {
-            return whole(u64::MAX - b + 1, j);
+            return round_integer(u64::MAX - b + 1, j);
         }
     }
-    whole(a * 8 - 1, i - 3)
+    round_integer(a * 8 - 1, i - 3)
 }
 
 impl Number {

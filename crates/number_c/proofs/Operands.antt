@@ -1,4 +1,4 @@
--- What the test of an operand says: `usable-ranged`; and what it answers where the code has its tests.
+-- What the test of an operand says (`usable-ranged`), and what it answers where the code has its tests.
 use mathlib.Core.Path.{_≡_, refl}
 use mathlib.Core.Bool.{Bool, true, false, not, cond, _&&_, and-eq-true-iff}
 use Prim.Native.Nat.{ℕ, _+_, _-_, _^_, _≤_, _<_}
@@ -7,8 +7,8 @@ use borrow.Author.Tests.{eqb-true, leb-true, ltb-true, not-true, eq-eqb, ne-eqb,
 use lib.Dec.{eqb, leb, ltb}
 use Rattle.number.specs.Number.{bias, reach}
 use Rattle.number.specs.Signed.{SignedRanged}
-use Rattle.number_c.specs.Answer.{usableParts, usable, signedOf}
-use Rattle.number_c.specs.declared.Item.{Item}
+use Rattle.number_c.specs.Answer.{usableParts, usable, toSigned}
+use Rattle.number_c.specs.declared.Operand.{Operand}
 
 module _ (s : Bool) (m x : ℕ) where
   pub zero-negative : m ≡ 0 → s ≡ true → usableParts s m x ≡ false
@@ -35,13 +35,14 @@ module _ (s : Bool) (m x : ℕ) where
   unfolding usableParts
   else-high l h f = rw (ne-eqb m 0 (λ e. omega arith), le-leb (2 ^ 31) m l, lt-ltb m (2 ^ 32) h, le-leb (bias - reach) x f) refl
 
-pub usable-ranged : (a : Item) → usable a ≡ true → SignedRanged reach (signedOf a)
+pub usable-ranged : (a : Operand) → usable a ≡ true → SignedRanged reach (toSigned a)
 unfolding usableParts
 usable-ranged a = go (eqb (a .m) 0) refl
   where
     go : (t : Bool) → eqb (a .m) 0 ≡ t
-        → cond t (not (a .negative) && eqb (a .x) bias) (leb (2 ^ 31) (a .m) && (ltb (a .m) (2 ^ 32) && (leb (bias - reach) (a .x) && leb (a .x) (bias + reach)))) ≡ true
-        → SignedRanged reach (signedOf a)
+        → cond t (not (a .negative) && eqb (a .x) bias)
+        (leb (2 ^ 31) (a .m) && (ltb (a .m) (2 ^ 32) && (leb (bias - reach) (a .x) && leb (a .x) (bias + reach)))) ≡ true
+        → SignedRanged reach (toSigned a)
     go true e h =
         let z = eqb-true (a .m) 0 e in
         let p = and-eq-true-iff (not (a .negative)) (eqb (a .x) bias) .0 h in
@@ -64,7 +65,7 @@ usable-ranged a = go (eqb (a .m) 0) refl
         }
 
 -- both operands
-pub both-ranged : (a b : Item) → (usable a && usable b) ≡ true → SignedRanged reach (signedOf a) × SignedRanged reach (signedOf b)
+pub both-ranged : (a b : Operand) → (usable a && usable b) ≡ true → SignedRanged reach (toSigned a) × SignedRanged reach (toSigned b)
 both-ranged a b h =
     let p = and-eq-true-iff (usable a) (usable b) .0 h in
     (usable-ranged a (p .0), usable-ranged b (p .1))

@@ -1,7 +1,7 @@
 // The arithmetic for programs in C. Nothing proves what such a caller hands over, so each function tests its operands.
 ghost use mathlib.Core.Path.{_≡_};
 ghost use mathlib.Core.Bool.{_&&_};
-ghost use Rattle.number_c.specs.Answer.{usable, refused, numberOf, signedOf, itemOf, addAnswer, mulAnswer, divAnswer};
+ghost use Rattle.number_c.specs.Answer.{usable, noAnswer, toNumber, toSigned, fromSigned, addAnswer, mulAnswer, divAnswer};
 use number::BIAS;
 use number::Number;
 use number::signed::Signed;
@@ -11,13 +11,13 @@ const REACH: u64 = 2097088;
 
 // m times 2 to the power x - BIAS, with a sign. Zero has m 0 and x BIAS, and is not negative.
 #[repr(C)]
-pub struct Item {
+pub struct Operand {
     pub negative: bool,
     pub m: u64,
     pub x: u64,
 }
 
-fn usable(a: Item) -> bool
+fn usable(a: Operand) -> bool
     ensures { λ r. ⌜ r ≡ usable a ⌝ }
 {
     if a.m == 0 {
@@ -38,7 +38,7 @@ fn usable(a: Item) -> bool
     a.x <= BIAS + REACH
 }
 
-fn both_usable(a: Item, b: Item) -> bool
+fn both_usable(a: Operand, b: Operand) -> bool
     ensures { λ r. ⌜ r ≡ (usable a && usable b) ⌝ }
 {
     if usable(a) {
@@ -47,24 +47,24 @@ fn both_usable(a: Item, b: Item) -> bool
     false
 }
 
-fn refused() -> Item
-    ensures { λ r. ⌜ r ≡ refused ⌝ }
+fn no_answer() -> Operand
+    ensures { λ r. ⌜ r ≡ noAnswer ⌝ }
 {
-    Item {
+    Operand {
         negative: false,
         m: 0,
         x: 0,
     }
 }
 
-fn number(a: Item) -> Number
-    ensures { λ r. ⌜ r ≡ numberOf a ⌝ }
+fn number(a: Operand) -> Number
+    ensures { λ r. ⌜ r ≡ toNumber a ⌝ }
 {
     Number { m: a.m, x: a.x }
 }
 
-fn signed(a: Item) -> Signed
-    ensures { λ r. ⌜ r ≡ signedOf a ⌝ }
+fn signed(a: Operand) -> Signed
+    ensures { λ r. ⌜ r ≡ toSigned a ⌝ }
 {
     Signed {
         negative: a.negative,
@@ -72,10 +72,10 @@ fn signed(a: Item) -> Signed
     }
 }
 
-fn answer(a: Signed) -> Item
-    ensures { λ r. ⌜ r ≡ itemOf a ⌝ }
+fn answer(a: Signed) -> Operand
+    ensures { λ r. ⌜ r ≡ fromSigned a ⌝ }
 {
-    Item {
+    Operand {
         negative: a.negative,
         m: a.size.m,
         x: a.size.x,
@@ -84,33 +84,33 @@ fn answer(a: Signed) -> Item
 
 // The signed sum; m 0 and x 0 for an operand that is not usable.
 #[no_mangle]
-pub extern "C" fn number_c_add(a: Item, b: Item) -> Item
+pub extern "C" fn number_c_add(a: Operand, b: Operand) -> Operand
     ensures { λ r. ⌜ r ≡ addAnswer a b ⌝ }
 {
     if both_usable(a, b) {
         return answer(signed(a).add(signed(b)));
     }
-    refused()
+    no_answer()
 }
 
 // The first operand times the size of the second.
 #[no_mangle]
-pub extern "C" fn number_c_mul(a: Item, b: Item) -> Item
+pub extern "C" fn number_c_mul(a: Operand, b: Operand) -> Operand
     ensures { λ r. ⌜ r ≡ mulAnswer a b ⌝ }
 {
     if both_usable(a, b) {
         return answer(signed(a).times(number(b)));
     }
-    refused()
+    no_answer()
 }
 
 // The quotient of the sizes; m 0 and x 0 for a zero divisor too.
 #[no_mangle]
-pub extern "C" fn number_c_div(a: Item, b: Item) -> Item
+pub extern "C" fn number_c_div(a: Operand, b: Operand) -> Operand
     ensures { λ r. ⌜ r ≡ divAnswer a b ⌝ }
 {
     if b.m == 0 {
-        return refused();
+        return no_answer();
     }
     if both_usable(a, b) {
         let q = number(a).div(number(b));
@@ -119,5 +119,5 @@ pub extern "C" fn number_c_div(a: Item, b: Item) -> Item
             size: q,
         });
     }
-    refused()
+    no_answer()
 }

@@ -1,29 +1,35 @@
--- A minor of a place: the answer by what was found (`minor-turned`, `minor-unfit`, `minor-outside`, `minor-done`).
+-- A minor of a place: the tests of its place and sets (`set-verdict`, `sets-passed`), and the answer by what was found (`minor-turned`, `minor-outside`,
+-- `minor-done`).
 use Prim.Native.Nat.{ℕ, _+_, _^_, _≤_, _<_}
 use native.Mathlib.Omega.{arith}
 use mathlib.Core.Path.{_≡_, refl, sym, ap, ap₂, _∙_}
 use mathlib.Core.Bool.{Bool, true, false, not}
-use lib.Dec.{leb}
-use borrow.Author.Tests.{leb-true}
 use mathlib.Core.List.{List, [], _∷_}
+use lib.Dec.{leb}
+use lib.IntN.{pos}
+use borrow.Author.Tests.{leb-true}
 use Rattle.number.specs.declared.Number.{Number}
 use Rattle.number.specs.Number.{bias, rounded, inRange, Stored, exponentOf}
+use Rattle.number.proofs.Tests.{both}
 use Rattle.rowset.specs.Mask.{maskCount}
 use Rattle.words.specs.Sources.{Each}
 use Rattle.words.specs.RowSet.{ofMask}
 use Rattle.words.specs.Word.{word}
 use Rattle.words.specs.Walk.{minor}
-use Rattle.walk.specs.Table.{factorsOf}
+use Rattle.table.specs.Table.{factorsOf}
+use Rattle.verdict.specs.declared.Refusal.{Refusal}
+use Rattle.verdict.specs.declared.Verdict.{Verdict}
+use Rattle.verdict.specs.declared.Verdict.the-variants.{Accepted, Refused}
+use Rattle.verdict.specs.Verdict.{firstOf, orElse, when, refusedAt}
+use Rattle.verdict.specs.Report.{reportOf}
+use Rattle.verdict.proofs.Verdicts.{first-last, first-passed}
 use Rattle.places.specs.declared.Shelf.{Shelf}
-use Rattle.places.specs.declared.Refusal.{Refusal}
-use Rattle.places.specs.declared.Verdict.{Verdict}
-use Rattle.places.specs.declared.Verdict.the-variants.{Accepted, Refused}
 use Rattle.places.specs.Shelf.{rowsAt, tableAt, Good}
-use Rattle.places.specs.Refusal.{firstOf, orElse, when, refused, unfit, sourceTests}
-use Rattle.places.proofs.Verdicts.{first-append, first-last, Source, Fit}
-use Rattle.operations.specs.declared.Valued.the-variants as value
-use Rattle.operations.specs.Operations.{minorAt, minorTests, valued, minorCall}
-use Rattle.number.proofs.Tests.{both}
+use Rattle.places.specs.Tests.{unfit, sourceTests}
+use Rattle.places.proofs.Verdicts.{Source, Fit, source-accepted, sets-accepted}
+use Rattle.operations.specs.declared.Valued.the-variants as valued
+use Rattle.operations.specs.Operations.{minorAt, setTests, minorCall}
+use Rattle.operations.specs.Reports.{valuedReport}
 
 module _ (s : Shelf) (p I J : ℕ) where
   abbrev fit : Verdict
@@ -32,43 +38,45 @@ module _ (s : Shelf) (p I J : ℕ) where
   abbrev range : Verdict
   range = when (not (inRange (minorAt s p I J))) 14
 
-  minor-verdict : firstOf (minorTests s p I J) ≡ orElse (firstOf (sourceTests s p)) (orElse fit range)
-  unfolding firstOf
-  minor-verdict = first-append (sourceTests s p) (fit ∷ range ∷ []) ∙ ap (orElse (firstOf (sourceTests s p))) (first-last (fit ∷ []) range ∙ ap (λ (v : Verdict). orElse v range) alone)
-    where
-      alone : firstOf (fit ∷ []) ≡ fit
-      alone = first-last [] fit
+  -- the tests of the place, and then that of the sets
+  pub set-verdict : (n i j : ℕ) (u v : Verdict) → n ≡ rowsAt s p → i ≡ I → j ≡ J → u ≡ firstOf (sourceTests s p) → v ≡ orElse u (when (unfit n i j) 8)
+      → v ≡ firstOf (setTests s p I J)
+  set-verdict n i j u v e f g h k =
+      let x : orElse u (when (unfit n i j) 8) ≡ orElse (firstOf (sourceTests s p)) fit = rw (e, f, g, h) in
+      k ∙ x ∙ sym (first-last (sourceTests s p) fit)
 
-  by : (u v w : Verdict) → firstOf (sourceTests s p) ≡ u → fit ≡ v → range ≡ w → valued (minorAt s p I J) (orElse u (orElse v w)) ≡ minorCall s p I J
+  pub sets-passed : firstOf (setTests s p I J) ≡ Accepted → Source s p × Fit (rowsAt s p) I J
+  sets-passed e =
+      let a = first-passed (sourceTests s p) fit e in
+      (source-accepted s p (a .0), sets-accepted (rowsAt s p) I J (a .1))
+
+  by : (v w : Verdict) → firstOf (setTests s p I J) ≡ v → range ≡ w
+      → reportOf (orElse v w) (pos (minorAt s p I J .m) ∷ exponentOf (minorAt s p I J) ∷ []) ≡ minorCall s p I J
   unfolding minorCall
-  by u v w e f g = ap (valued (minorAt s p I J)) (sym (minor-verdict ∙ ap₂ orElse e (ap₂ orElse f g)))
+  by v w e f =
+      ap (λ (u : Verdict). reportOf u (pos (minorAt s p I J .m) ∷ exponentOf (minorAt s p I J) ∷ []))
+      (sym (first-last (setTests s p I J) range ∙ ap₂ orElse e f))
 
-  pub minor-turned : (w : Refusal) → firstOf (sourceTests s p) ≡ Refused w → value.Refused w ≡ minorCall s p I J
-  minor-turned w e = by (Refused w) fit range e refl refl
+  pub minor-turned : (w : Refusal) → firstOf (setTests s p I J) ≡ Refused w → valuedReport (valued.Refused w) ≡ minorCall s p I J
+  minor-turned w e = by (Refused w) range e refl
 
-  module _ (e : firstOf (sourceTests s p) ≡ Accepted) where
-    pub minor-unfit : (w : Refusal) → fit ≡ Refused w → value.Refused w ≡ minorCall s p I J
-    minor-unfit w f = by Accepted (Refused w) range e f refl
+  module _ (e : firstOf (setTests s p I J) ≡ Accepted) where
+    pub minor-outside : inRange (minorAt s p I J) ≡ false → valuedReport (valued.Refused (record { number = 14; offset = 0 })) ≡ minorCall s p I J
+    minor-outside g = by Accepted (refusedAt 14 0) e (ap (λ (t : Bool). when (not t) 14) g)
 
-    module _ (f : fit ≡ Accepted) where
-      pub minor-outside : inRange (minorAt s p I J) ≡ false → value.Refused (record { number = 14; offset = 0 }) ≡ minorCall s p I J
-      minor-outside g = by Accepted Accepted (refused 14 0) e f (ap (λ (t : Bool). when (not t) 14) g)
+    pub minor-done : inRange (minorAt s p I J) ≡ true → valuedReport (valued.Value (minorAt s p I J .m) (exponentOf (minorAt s p I J))) ≡ minorCall s p I J
+    minor-done g = by Accepted Accepted e (ap (λ (t : Bool). when (not t) 14) g)
 
-      pub minor-done : inRange (minorAt s p I J) ≡ true → value.Value (minorAt s p I J .m) (exponentOf (minorAt s p I J)) ≡ minorCall s p I J
-      minor-done g = by Accepted Accepted Accepted e f (ap (λ (t : Bool). when (not t) 14) g)
-
-  pub minor-is : (n i j : ℕ) (t : List Number) (a : Number) → n ≡ rowsAt s p → t ≡ tableAt s p → i ≡ I → j ≡ J → a ≡ minor rounded (word n (factorsOf t)) (ofMask n i) (ofMask n j) → a ≡ minorAt s p I J
+  pub minor-is : (n i j : ℕ) (t : List Number) (a : Number) → n ≡ rowsAt s p → t ≡ tableAt s p → i ≡ I → j ≡ J
+      → a ≡ minor rounded (word n (factorsOf t)) (ofMask n i) (ofMask n j) → a ≡ minorAt s p I J
   unfolding minorAt
   minor-is n i j t a e f g h k = k ∙ rw (e, f, g, h)
 
-  -- the tests of the sets, and what the minor of a place asks
-  module _ (n i j : ℕ) (e : n ≡ rowsAt s p) (f : i ≡ I) (g : j ≡ J) where
-    pub sets-same : when (unfit n i j) 8 ≡ fit
-    sets-same = rw (e, f, g)
-
-    pub minor-workable : Good s → Source s p → Fit (rowsAt s p) I J → (t : List Number) → t ≡ tableAt s p →
-        ((1 ≤ n) × (n ≤ 8) × Each Stored n (factorsOf t)) × ((i < 2 ^ n) × (j < 2 ^ n) × (maskCount i ≡ maskCount j))
-    minor-workable good o w t h = rw (e, f, g, h) ((o .some, good .held p (o .small) .few, good .held p (o .small) .stored), (w .rows, w .columns, w .counts))
+  -- what the minor of a place asks
+  pub minor-workable : (n i j : ℕ) (t : List Number) → n ≡ rowsAt s p → i ≡ I → j ≡ J → t ≡ tableAt s p → Good s → Source s p → Fit (rowsAt s p) I J
+      → ((1 ≤ n) × (n ≤ 8) × Each Stored n (factorsOf t)) × ((i < 2 ^ n) × (j < 2 ^ n) × (maskCount i ≡ maskCount j))
+  minor-workable n i j t e f g h good o w =
+      rw (e, f, g, h) ((o .some, good .held p (o .small) .few, good .held p (o .small) .stored), (w .rows, w .columns, w .counts))
 
 pub in-range-small : (a : Number) → inRange a ≡ true → a .x < 2 ^ 32
 unfolding inRange

@@ -1,15 +1,17 @@
 // The operations on places: transpose, product, re-signed inverse, converse, submatrix; and minors. A result is worked first and kept by a step of its own.
 ghost use mathlib.Core.Path.{_≡_};
 ghost use Rattle.places.specs.Shelf.{rowsAt, Good};
-ghost use Rattle.operations.specs.Operations.{productOf, inverseOf, converseOf, submatrixOf};
+ghost use Rattle.operations.specs.Operations.{productAt, inverseAt, converseAt, submatrixAt};
 ghost use Rattle.operations.specs.Operations.{transposeCall, productCall, inverseCall, converseCall, submatrixCall, minorCall};
+ghost use Rattle.operations.specs.Reports.{operatedOutcome, valuedReport};
 ghost use Rattle.operations.specs.Promise.{Promised};
 use number::Number;
-use places::Refusal;
 use places::Shelf;
-use places::Verdict;
 use places::judge;
-use rule::Whole;
+use verdict::Refusal;
+use verdict::Verdict;
+use verdict::test;
+use walk::Way;
 
 mod value; // value.rt: a minor
 mod work; // work.rt: results, and how they are kept
@@ -42,7 +44,7 @@ pub struct Operated {
 // The transpose of a place, to an empty place.
 pub fn transpose(shelf: Shelf, source: usize, target: usize) -> Operated
     requires { ⌜ Good shelf ⌝ }
-    ensures { λ r. ⌜ r ≡ transposeCall shelf source target ⌝ }
+    ensures { λ r. ⌜ operatedOutcome r ≡ transposeCall shelf source target ⌝ }
     ensures { λ r. ⌜ Good (r .shelf) ⌝ }
 {
     work::keep(shelf, target, work::transposed(shelf, source, target))
@@ -51,9 +53,9 @@ pub fn transpose(shelf: Shelf, source: usize, target: usize) -> Operated
 // The product of two places, left times right, to an empty place.
 pub fn product(shelf: Shelf, left: usize, right: usize, target: usize) -> Operated
     requires { ⌜ Good shelf ⌝ }
-    ensures { λ r. ⌜ r ≡ productCall shelf left right target ⌝ }
+    ensures { λ r. ⌜ operatedOutcome r ≡ productCall shelf left right target ⌝ }
     ensures { λ r. ⌜ Good (r .shelf) ⌝ }
-    ensures { λ r. ⌜ Promised (r .shelf) target (rowsAt shelf left) (productOf shelf left right) (r .answer) ⌝ }
+    ensures { λ r. ⌜ Promised (r .shelf) target (rowsAt shelf left) (productAt shelf left right) (r .answer) ⌝ }
 {
     work::keep(shelf, target, work::product(shelf, left, right, target))
 }
@@ -61,37 +63,37 @@ pub fn product(shelf: Shelf, left: usize, right: usize, target: usize) -> Operat
 // The re-signed inverse of a place, to an empty place.
 pub fn inverse(shelf: Shelf, source: usize, target: usize) -> Operated
     requires { ⌜ Good shelf ⌝ }
-    ensures { λ r. ⌜ r ≡ inverseCall shelf source target ⌝ }
+    ensures { λ r. ⌜ operatedOutcome r ≡ inverseCall shelf source target ⌝ }
     ensures { λ r. ⌜ Good (r .shelf) ⌝ }
-    ensures { λ r. ⌜ Promised (r .shelf) target (rowsAt shelf source) (inverseOf shelf source) (r .answer) ⌝ }
+    ensures { λ r. ⌜ Promised (r .shelf) target (rowsAt shelf source) (inverseAt shelf source) (r .answer) ⌝ }
 {
     work::keep(
         shelf,
         target,
-        work::of_whole(shelf, Whole::Inverse, source, target),
+        work::of_whole(shelf, Way::Inverted, source, target),
     )
 }
 
 // The converse of a place, to an empty place.
 pub fn converse(shelf: Shelf, source: usize, target: usize) -> Operated
     requires { ⌜ Good shelf ⌝ }
-    ensures { λ r. ⌜ r ≡ converseCall shelf source target ⌝ }
+    ensures { λ r. ⌜ operatedOutcome r ≡ converseCall shelf source target ⌝ }
     ensures { λ r. ⌜ Good (r .shelf) ⌝ }
-    ensures { λ r. ⌜ Promised (r .shelf) target (rowsAt shelf source) (converseOf shelf source) (r .answer) ⌝ }
+    ensures { λ r. ⌜ Promised (r .shelf) target (rowsAt shelf source) (converseAt shelf source) (r .answer) ⌝ }
 {
     work::keep(
         shelf,
         target,
-        work::of_whole(shelf, Whole::Converse, source, target),
+        work::of_whole(shelf, Way::Conversed, source, target),
     )
 }
 
 // The chosen rows and columns of a place, given as masks, to an empty place.
 pub fn submatrix(shelf: Shelf, source: usize, rows: u8, columns: u8, target: usize) -> Operated
     requires { ⌜ Good shelf ⌝ }
-    ensures { λ r. ⌜ r ≡ submatrixCall shelf source rows columns target ⌝ }
+    ensures { λ r. ⌜ operatedOutcome r ≡ submatrixCall shelf source rows columns target ⌝ }
     ensures { λ r. ⌜ Good (r .shelf) ⌝ }
-    ensures { λ r. ⌜ Promised (r .shelf) target (rowsAt shelf source) (submatrixOf shelf source rows columns) (r .answer) ⌝ }
+    ensures { λ r. ⌜ Promised (r .shelf) target (rowsAt shelf source) (submatrixAt shelf source rows columns) (r .answer) ⌝ }
 {
     let row_set = rowset::wide(rows);
     let column_set = rowset::wide(columns);
@@ -105,17 +107,14 @@ pub fn submatrix(shelf: Shelf, source: usize, rows: u8, columns: u8, target: usi
 // Any minor of a place, its row and column sets given as masks.
 pub fn minor(shelf: Shelf, place: usize, rows: u8, columns: u8) -> Valued
     requires { ⌜ Good shelf ⌝ }
-    ensures { λ r. ⌜ r ≡ minorCall shelf place rows columns ⌝ }
+    ensures { λ r. ⌜ valuedReport r ≡ minorCall shelf place rows columns ⌝ }
 {
-    let first = judge::source(shelf, place);
-    if let Verdict::Refused(why) = first {
-        return Valued::Refused(why);
-    }
     let n = places::rows_at(shelf, place);
     let i = rowset::wide(rows);
     let j = rowset::wide(columns);
-    let second = judge::sets(n, i, j);
-    if let Verdict::Refused(why) = second {
+    let mut v = judge::source(shelf, place);
+    v = test(v, judge::unfit(n, i, j), 8);
+    if let Verdict::Refused(why) = v {
         return Valued::Refused(why);
     }
     let a = value::minor(places::table_at(shelf, place), n, i, j);

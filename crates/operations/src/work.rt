@@ -1,27 +1,30 @@
 // The operations: a result is worked first (`Proposed`) and kept by a step of its own.
 ghost use mathlib.Core.Path.{_≡_};
 ghost use Prim.Native.Nat.{_<_};
-ghost use Rattle.rule.specs.Result.{wholeOf};
-ghost use Rattle.places.specs.Shelf.{factorsAt, Good};
-ghost use Rattle.places.specs.Refusal.{firstOf};
-ghost use Rattle.operations.specs.Operations.{Keepable, refusal, kept, rangedOf, submatrixTests};
-ghost use Rattle.operations.specs.Operations.{transposeProposal, productProposal, wholeProposal, submatrixProposal};
+ghost use Rattle.walk.specs.Steps.{wayOf};
+ghost use Rattle.words.specs.Word.{exchanged};
+ghost use Rattle.places.specs.Shelf.{rowsAt, factorsAt, Good};
+ghost use Rattle.places.specs.Tests.{oneSource, twoSources};
+ghost use Rattle.verdict.specs.Verdict.{firstOf};
+ghost use Rattle.operations.specs.Operations.{productAt, takenAt, submatrixAt, submatrixTests};
+ghost use Rattle.operations.specs.Proposed.{turnedDown, proposal, proposed, kept, rangedOf, Keepable};
 use crate::Bounded;
 use crate::Operated;
 use crate::Proposed;
-use places::Refusal;
 use places::Shelf;
-use places::Verdict;
 use places::judge;
-use places::tables;
 use rule::Refactored;
-use rule::Whole;
+use verdict::Refusal;
+use verdict::Verdict;
+use verdict::test;
+use walk::Way;
+use walk::source;
 
 // What is proposed where a call is turned down: no rows.
-fn refusal(why: Refusal) -> Proposed
-    ensures { λ r. ⌜ r ≡ refusal why ⌝ }
+fn turned_down(why: Refusal) -> Proposed
+    ensures { λ r. ⌜ r ≡ turnedDown why ⌝ }
 {
-    let factors = tables::blank();
+    let factors = table::blank();
     Proposed {
         answer: Bounded::Refused(why),
         rows: 0,
@@ -39,8 +42,9 @@ pub fn keep(shelf: Shelf, target: usize, result: Proposed) -> Operated
     match answer {
         Bounded::Bound(bound) => {
             let factors = result.factors;
+            let after = places::with_table(shelf, target, result.rows, factors);
             Operated {
-                shelf: places::with_table(shelf, target, result.rows, factors),
+                shelf: after,
                 answer: Bounded::Bound(bound),
             }
         }
@@ -54,15 +58,15 @@ pub fn keep(shelf: Shelf, target: usize, result: Proposed) -> Operated
 // The transpose: factors exchanged, no rounding.
 pub fn transposed(shelf: Shelf, source: usize, target: usize) -> Proposed
     requires { ⌜ Good shelf ⌝ }
-    ensures { λ r. ⌜ r ≡ transposeProposal shelf source target ⌝ }
+    ensures { λ r. ⌜ r ≡ proposal (firstOf (oneSource shelf source target)) (rowsAt shelf source) 0 (exchanged (factorsAt shelf source)) ⌝ }
     ensures { λ r. ⌜ Keepable target r ⌝ }
 {
     let first = judge::one_source(shelf, source, target);
     if let Verdict::Refused(why) = first {
-        return refusal(why);
+        return turned_down(why);
     }
     let rows = places::rows_at(shelf, source);
-    let factors = tables::exchanged(places::table_at(shelf, source));
+    let factors = table::exchanged(places::table_at(shelf, source));
     Proposed {
         answer: Bounded::Bound(0),
         rows,
@@ -75,8 +79,8 @@ fn ranged(result: Refactored) -> Proposed
     ensures { λ r. ⌜ r ≡ rangedOf result ⌝ }
 {
     let factors = result.factors;
-    if tables::outside(factors) {
-        return refusal(Refusal {
+    if table::outside(factors) {
+        return turned_down(Refusal {
             number: 14,
             offset: 0,
         });
@@ -90,32 +94,43 @@ fn ranged(result: Refactored) -> Proposed
 
 pub fn product(shelf: Shelf, left: usize, right: usize, target: usize) -> Proposed
     requires { ⌜ Good shelf ⌝ }
-    ensures { λ r. ⌜ r ≡ productProposal shelf left right target ⌝ }
+    ensures { λ r. ⌜ r ≡ proposed (twoSources shelf left right target) (rowsAt shelf left) (productAt shelf left right) ⌝ }
     ensures { λ r. ⌜ Keepable target r ⌝ }
 {
     let first = judge::two_sources(shelf, left, right, target);
     if let Verdict::Refused(why) = first {
-        return refusal(why);
+        return turned_down(why);
     }
     let n = places::rows_at(shelf, left);
     let b = places::table_at(shelf, left);
     let c = places::table_at(shelf, right);
-    ranged(rule::product(b, c, n))
+    let mut letters = [0u16; 342];
+    let mut sources = [0u64; 768];
+    let none = source::no_steps(n);
+    let one = source::put_step(none, &mut letters, &mut sources, Way::Plain, b);
+    let both = source::put_step(one, &mut letters, &mut sources, Way::Plain, c);
+    let all = rowset::run(1, n);
+    ranged(rule::work(both, &letters, &sources, b, all, all))
 }
 
-// The re-signed inverse or the converse.
-pub fn of_whole(shelf: Shelf, which: Whole, source: usize, target: usize) -> Proposed
+// One source taken this way: inverted it is the re-signed inverse, conversed the converse.
+pub fn of_whole(shelf: Shelf, way: Way, source: usize, target: usize) -> Proposed
     requires { ⌜ Good shelf ⌝ }
-    ensures { λ r. ⌜ r ≡ wholeProposal shelf source target (wholeOf which (factorsAt shelf source)) ⌝ }
+    ensures { λ r. ⌜ r ≡ proposed (oneSource shelf source target) (rowsAt shelf source) (takenAt (wayOf way) shelf source) ⌝ }
     ensures { λ r. ⌜ Keepable target r ⌝ }
 {
     let first = judge::one_source(shelf, source, target);
     if let Verdict::Refused(why) = first {
-        return refusal(why);
+        return turned_down(why);
     }
     let n = places::rows_at(shelf, source);
     let b = places::table_at(shelf, source);
-    ranged(rule::of_whole(which, b, n))
+    let mut letters = [0u16; 342];
+    let mut sources = [0u64; 768];
+    let none = source::no_steps(n);
+    let word = source::put_step(none, &mut letters, &mut sources, way, b);
+    let all = rowset::run(1, n);
+    ranged(rule::work(word, &letters, &sources, b, all, all))
 }
 
 // The tests of a submatrix before its factors are worked.
@@ -129,11 +144,13 @@ fn submatrix_tests(
     requires { ⌜ Good shelf × (rows < 256) × (columns < 256) ⌝ }
     ensures { λ r. ⌜ r ≡ firstOf (submatrixTests shelf source rows columns target) ⌝ }
 {
-    let first = judge::one_source(shelf, source, target);
-    match first {
-        Verdict::Accepted => judge::sets(places::rows_at(shelf, source), rows, columns),
-        Verdict::Refused(why) => Verdict::Refused(why),
-    }
+    let mut v = judge::one_source(shelf, source, target);
+    v = test(
+        v,
+        judge::unfit(places::rows_at(shelf, source), rows, columns),
+        8,
+    );
+    v
 }
 
 // The row and column sets are masks.
@@ -145,14 +162,18 @@ pub fn submatrix(
     target: usize,
 ) -> Proposed
     requires { ⌜ Good shelf × (rows < 256) × (columns < 256) ⌝ }
-    ensures { λ r. ⌜ r ≡ submatrixProposal shelf source rows columns target ⌝ }
+    ensures { λ r. ⌜ r ≡ proposed (submatrixTests shelf source rows columns target) (rowsAt shelf source) (submatrixAt shelf source rows columns) ⌝ }
     ensures { λ r. ⌜ Keepable target r ⌝ }
 {
     let first = submatrix_tests(shelf, source, rows, columns, target);
     if let Verdict::Refused(why) = first {
-        return refusal(why);
+        return turned_down(why);
     }
     let n = places::rows_at(shelf, source);
     let b = places::table_at(shelf, source);
-    ranged(rule::submatrix(b, n, rows, columns))
+    let mut letters = [0u16; 342];
+    let mut sources = [0u64; 768];
+    let none = source::no_steps(n);
+    let word = source::put_step(none, &mut letters, &mut sources, Way::Plain, b);
+    ranged(rule::work(word, &letters, &sources, b, rows, columns))
 }

@@ -1,4 +1,5 @@
--- The test of a shelf holds of no shelf but good ones (`tested-good`), and of every good one (`good-tested`). Its loops are tests of all numbers below one (`all-below`, `all-fails`).
+-- The test of a shelf holds of no shelf but good ones (`tested-good`), and of every good one (`good-tested`). Its loops are tests of all numbers below one
+-- (`all-below`, `all-fails`).
 use Prim.Native.Nat.{ℕ, zero, suc, _+_, _-_, _*_, _/_, _%_, _^_, _<_, _≤_}
 use native.Mathlib.Nat.{mul-add-div-right, mul-add-mod-self-right, div-eq-of-lt, mod-eq-of-lt, add-zero, div-add-mod', div-lt-iff-lt-mul, mod-lt}
 use native.Mathlib.Decide.{ℕ-discrete}
@@ -15,14 +16,14 @@ use Rattle.number.specs.Number.{bias, zeroNumber, inRange, Stored}
 use Rattle.number.proofs.Tests.{unless}
 use Rattle.words.specs.Word.{Factors}
 use Rattle.words.specs.Sources.{Each}
-use Rattle.walk.specs.Table.{absent, factorsOf, padded, tableOf}
+use Rattle.table.specs.Table.{absent, factorsOf, padded, tableOf}
 use Rattle.places.specs.declared.Shelf.{Shelf}
 use Rattle.places.specs.Shelf.{rowsAt, tableAt, factorsAt, Good}
 use Rattle.places.specs.Check.{allBelow, isStored, isZero, sound, fewRows, soundAt, soundNumbers, isGood}
-use Rattle.places.proofs.Filled.{read-any}
+use Rattle.arrays.proofs.Filled.{read-any}
 use Rattle.places.proofs.Holding.{number-at}
-use Rattle.places.proofs.RowByRow.{row-below}
-use Rattle.places.proofs.Table.{table-at, table-list}
+use Rattle.table.proofs.RowByRow.{row-below}
+use Rattle.table.proofs.Table.{within-cases, table-at, table-list}
 
 -- A TEST OF ALL NUMBERS BELOW n
 module _ (f : ℕ → Bool) where
@@ -95,17 +96,17 @@ unfolding isStored inRange
 stored-tested a h =
     rw (le-leb (2 ^ 31) (a .m) (h .low), lt-ltb (a .m) (2 ^ 32) (h .high), le-leb bias (a .x + 1000) (h .start), le-leb (a .x) (bias + 1000) (h .stop))
 
--- what a tested number is, at row i and column j
-tested-within : (t u : Bool) (a : Number) → cond (t && u) (isStored a) (isZero a) ≡ true → a ≡ cond (t && u) a zeroNumber
-tested-within true true a e = refl
-tested-within true false a e = zero-is a e
-tested-within false u a e = zero-is a e
+-- what a tested number is: where a factor stands (t), or past the rows
+tested-within : (t : Bool) (a : Number) → cond t (isStored a) (isZero a) ≡ true → a ≡ cond t a zeroNumber
+tested-within true a e = refl
+tested-within false a e = zero-is a e
 
-within-tested : (n : ℕ) (b : Factors Number) → Each Stored n b → (i j : ℕ) → 1 ≤ i → 1 ≤ j → (t u : Bool) → leb i n ≡ t → leb j n ≡ u
-    → cond (t && u) (isStored (cond (t && u) (b i j) zeroNumber)) (isZero (cond (t && u) (b i j) zeroNumber)) ≡ true
-within-tested n b s i j h g true true p q = stored-tested (b i j) (s i j (h, leb-true i n p) (g, leb-true j n q))
-within-tested n b s i j h g true false p q = zero-tested
-within-tested n b s i j h g false u p q = zero-tested
+-- the number of row i and column j passes
+within-tested : (n : ℕ) (b : Factors Number) → Each Stored n b → (i j : ℕ) → 1 ≤ i → 1 ≤ j
+    → cond (leb i n && leb j n) (isStored (padded n b i j)) (isZero (padded n b i j)) ≡ true
+within-tested n b s i j h g =
+    within-cases n (λ t. cond t (isStored (cond t (b i j) zeroNumber)) (isZero (cond t (b i j) zeroNumber)) ≡ true) i j h g
+    (λ x y. stored-tested (b i j) (s i j x y)) zero-tested
 
 -- p * m + k, taken apart
 pub quotient-of : (m p k : ℕ) → k < m → (p * m + k) / m ≡ p
@@ -161,7 +162,8 @@ module _ (s : Shelf) (eight : length (s .sizes) ≡ 8) (all : length (s .numbers
         let x : suc i - 1 ≡ i = omega arith in
         let y : suc j - 1 ≡ j = omega arith in
         let e : factorsAt s p (suc i) (suc j) ≡ getD (tableAt s p) (i * 8 + j) zeroNumber = rw (x, y) in
-        sym e ∙ tested-within (leb (suc i) (rowsAt s p)) (leb (suc j) (rowsAt s p)) (factorsAt s p (suc i) (suc j)) (cell-of p i j h k l (factorsAt s p (suc i) (suc j)) e))
+        let a = factorsAt s p (suc i) (suc j) in
+        sym e ∙ tested-within (leb (suc i) (rowsAt s p) && leb (suc j) (rowsAt s p)) a (cell-of p i j h k l a e))
 
     pub tested-good : Good s
     tested-good = record { places = eight; numbers = all; held = λ p h. record { few = few-of p h; stored = stored-of p h; rest = rest-is p h } }
@@ -177,7 +179,7 @@ good-tested s g =
           let r : k % 64 < 64 = mod-lt k (omega arith) in
           let n = rowsAt s (k / 64) in
           let b = factorsAt s (k / 64) in
-          let i : k % 64 / 8 < 8 = row-below zeroNumber 8 (omega arith) (k % 64) r in
+          let i : k % 64 / 8 < 8 = row-below 8 (k % 64) r in
           let j : k % 64 % 8 < 8 = mod-lt (k % 64) (omega arith) in
           let e : getD (s .numbers) k absent ≡ padded n b (suc (k % 64 / 8)) (suc (k % 64 % 8)) =
           ap (λ (x : ℕ). getD (s .numbers) x absent) (sym (div-add-mod' k 64))
@@ -186,5 +188,5 @@ good-tested s g =
           ∙ ap (λ (x : ℕ). getD (tableOf n b) x zeroNumber) (sym (div-add-mod' (k % 64) 8))
           ∙ table-at n b zeroNumber (k % 64 / 8) (k % 64 % 8) i j in
           subst (λ (a : Number). cond (leb (suc (k % 64 / 8)) n && leb (suc (k % 64 % 8)) n) (isStored a) (isZero a) ≡ true) (sym e)
-          (within-tested n b (g .held (k / 64) p .stored) (suc (k % 64 / 8)) (suc (k % 64 % 8)) (omega arith) (omega arith) (leb (suc (k % 64 / 8)) n) (leb (suc (k % 64 % 8)) n) refl refl)),
+          (within-tested n b (g .held (k / 64) p .stored) (suc (k % 64 / 8)) (suc (k % 64 % 8)) (omega arith) (omega arith))),
     )

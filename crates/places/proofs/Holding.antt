@@ -1,50 +1,28 @@
--- Laws of the shelf. Put and read: a place holds what was put there (`rows-put`, `table-put`), the others what they held (`rows-kept`, `table-kept`); what was put last counts (`put-put`),
--- and what is there may be put again (`put-held`). A shelf is given by what it holds (`shelf-determined`). The empty shelf is good (`good-empty`), and stays good with what fits (`good-put`).
-use Prim.Native.Nat.{ℕ, suc, _+_, _-_, _*_, _/_, _%_, _<_, _≤_}
+-- Laws of the shelf. Put and read: a place holds what was put there (`rows-put`, `table-put`), the others what they held (`rows-kept`, `table-kept`); what was
+-- put last counts (`put-put`), and what is there may be put again (`put-held`). A shelf is given by what it holds (`shelf-determined`). The empty shelf is good
+-- (`good-empty`), and stays good with what fits (`good-put`).
+use Prim.Native.Nat.{ℕ, suc, _+_, _*_, _/_, _%_, _<_, _≤_}
 use native.Mathlib.Nat.{div-add-mod', div-lt-iff-lt-mul, mod-lt}
 use native.Mathlib.Decide.{ℕ-discrete}
-use native.Mathlib.Numerals.{add-one}
 use native.Mathlib.Omega.{arith}
-use mathlib.Core.Path.{_≡_, refl, sym, ap, ap₂, _∙_}
-use mathlib.Core.List.{List, [], _∷_, _++_, append-assoc}
-use lib.ListN.{length, getD, take, drop, set, replicate, length-set, length-take, length-drop, length-replicate, getD-replicate}
-use lib.Seq.{sets, length-sets, sets-eq, take-at, drop-at, length-take-le, getD-take, getD-drop, getD-set-same, getD-set-other, ext-getD, set-set, take-set-le, drop-set-lt, take-suc}
+use mathlib.Core.Path.{_≡_, sym, ap, ap₂, _∙_}
+use mathlib.Core.List.{List, _++_, append-assoc}
+use lib.ListN.{length, getD, take, drop, replicate, length-set, length-take, length-drop, length-replicate, getD-replicate}
+use lib.Seq.{sets, length-sets, sets-eq, take-at, drop-at, length-take-le, getD-take, getD-drop, getD-set-same, getD-set-other, ext-getD, set-set}
 use Rattle.number.specs.declared.Number.{Number}
 use Rattle.number.specs.Number.{zeroNumber, Stored}
 use Rattle.words.specs.Word.{Factors}
 use Rattle.words.specs.RowSet.{In}
 use Rattle.words.specs.Sources.{Each}
 use Rattle.places.specs.declared.Shelf.{Shelf}
-use Rattle.walk.specs.Table.{absent, factorsOf, tableOf}
+use Rattle.table.specs.Table.{absent, factorsOf, tableOf}
 use Rattle.places.specs.Shelf.{rowsAt, tableAt, factorsAt, withTable, holding, emptyShelf, Fits, Good}
-use Rattle.writer.proofs.Parts.{sets-append}
-use Rattle.places.proofs.Filled.{Filled, filled-all}
-use Rattle.places.proofs.Table.{table-length, factors-table, table-list, table-same, table-refactored, padded-none}
+use Rattle.arrays.proofs.Runs.{getD-sets-other, sets-over}
+use Rattle.arrays.proofs.Filled.{Filled, filled-all}
+use Rattle.table.proofs.Table.{table-length, factors-table, table-list, table-same, table-refactored, padded-none}
 
 pub shelf-fields : (s t : Shelf) → s .numbers ≡ t .numbers → s .sizes ≡ t .sizes → s ≡ t
 shelf-fields s t e f = ap₂ (λ (a : List Number) (b : List ℕ). let r : Shelf = record { numbers = a; sizes = b } in r) e f
-
--- elements that a run does not reach
-getD-sets-other : {A : Type 0} (l : List A) (i : ℕ) (vs : List A) (k : ℕ) (d : A) → ((j : ℕ) → j < length vs → k ≡ i + j → ⊥) → getD (sets l i vs) k d ≡ getD l k d
-getD-sets-other l i [] k d h = refl
-getD-sets-other l i (v ∷ vs) k d h =
-    getD-sets-other (set l i v) (suc i) vs k d (λ j g e. h (suc j) (omega arith) (omega arith))
-    ∙ getD-set-other l i k v d (λ e. h 0 (omega arith) (omega arith))
-
-take-sets : {A : Type 0} (n : ℕ) (l : List A) (i : ℕ) (vs : List A) → n ≤ i → take n (sets l i vs) ≡ take n l
-take-sets n l i [] h = refl
-take-sets n l i (v ∷ vs) h = take-sets n (set l i v) (suc i) vs (omega arith) ∙ take-set-le n l i v h
-
-drop-sets : {A : Type 0} (n : ℕ) (l : List A) (i : ℕ) (vs : List A) → i + length vs ≤ n → drop n (sets l i vs) ≡ drop n l
-drop-sets n l i [] h = refl
-drop-sets n l i (v ∷ vs) h = drop-sets n (set l i v) (suc i) vs (omega arith) ∙ drop-set-lt n l i v (omega arith)
-
--- a run over a run of the same length
-sets-over : {A : Type 0} (l : List A) (i : ℕ) (vs ws : List A) → length vs ≡ length ws → i + length ws ≤ length l → sets (sets l i vs) i ws ≡ sets l i ws
-sets-over l i vs ws e h =
-    sets-eq ws (sets l i vs) i (omega (arith, length-sets l i vs))
-    ∙ rw (take-sets i l i vs (omega arith), drop-sets (i + length ws) l i vs (omega arith))
-    (sym (sets-eq ws l i h))
 
 module _ (s : Shelf) (p n : ℕ) (t : List Number) (small : p < 8) (eight : length (s .sizes) ≡ 8) (all : length (s .numbers) ≡ 512) (long : length t ≡ 64) where
   pub rows-put : rowsAt (withTable s p n t) p ≡ n
@@ -59,13 +37,15 @@ module _ (s : Shelf) (p n : ℕ) (t : List Number) (small : p < 8) (eight : leng
   unfolding tableAt withTable
   table-put =
       rw (sets-eq t (s .numbers) (p * 64) (omega arith), append-assoc (take (p * 64) (s .numbers)) t (drop (p * 64 + length t) (s .numbers)))
-      (ap (take 64) (drop-at (take (p * 64) (s .numbers)) (t ++ drop (p * 64 + length t) (s .numbers)) (p * 64) (length-take-le (p * 64) (s .numbers) (omega arith)))
+      (ap (take 64)
+      (drop-at (take (p * 64) (s .numbers)) (t ++ drop (p * 64 + length t) (s .numbers)) (p * 64) (length-take-le (p * 64) (s .numbers) (omega arith)))
       ∙ take-at t (drop (p * 64 + length t) (s .numbers)) 64 long)
 
   pub table-kept : (q : ℕ) → (q ≡ p → ⊥) → tableAt (withTable s p n t) q ≡ tableAt s q
   unfolding tableAt withTable
   table-kept q h =
-      ext-getD zeroNumber (take 64 (drop (q * 64) (sets (s .numbers) (p * 64) t))) (take 64 (drop (q * 64) (s .numbers))) (rw (length-take, length-take, length-drop, length-drop, length-sets))
+      ext-getD zeroNumber (take 64 (drop (q * 64) (sets (s .numbers) (p * 64) t))) (take 64 (drop (q * 64) (s .numbers)))
+      (rw (length-take, length-take, length-drop, length-drop, length-sets))
       (λ k g.
       let l : k < 64 = omega (arith, length-take 64 (drop (q * 64) (sets (s .numbers) (p * 64) t))) in
       getD-take 64 (drop (q * 64) (sets (s .numbers) (p * 64) t)) k zeroNumber l
@@ -84,22 +64,13 @@ unfolding tableAt
 number-at s p k h = getD-take 64 (drop (p * 64) (s .numbers)) k zeroNumber h ∙ getD-drop (p * 64) (s .numbers) k zeroNumber
 
 -- a place's numbers read one after the other
-pub table-read : (s : Shelf) (p : ℕ) → p < 8 → length (s .numbers) ≡ 512 → {k : ℕ} {t : List Number} → Filled absent (λ i. getD (s .numbers) (p * 64 + i) absent) 64 k t → 64 ≤ k
-    → t ≡ tableAt s p
+pub table-read : (s : Shelf) (p : ℕ) → p < 8 → length (s .numbers) ≡ 512 → {k : ℕ} {t : List Number}
+    → Filled absent (λ i. getD (s .numbers) (p * 64 + i) absent) 64 k t → 64 ≤ k → t ≡ tableAt s p
 unfolding tableAt
 table-read s p small all w h =
     filled-all absent (λ i. getD (s .numbers) (p * 64 + i) absent) 64 w h (take 64 (drop (p * 64) (s .numbers)))
     (length-take-le 64 (drop (p * 64) (s .numbers)) (omega (arith, length-drop (p * 64) (s .numbers))))
     (λ i l. getD-take 64 (drop (p * 64) (s .numbers)) i absent l ∙ getD-drop (p * 64) (s .numbers) i absent)
-
--- and put one after the other
-pub put-more : (l t : List Number) (a k : ℕ) → k < length t → set (sets l a (take k t)) (a + k) (getD t k absent) ≡ sets l a (take (k + 1) t)
-put-more l t a k h =
-    let e : length (take k t) ≡ k = length-take-le k t (omega arith) in
-    let more : take (k + 1) t ≡ take k t ++ (getD t k absent ∷ []) = rw add-one (take-suc t k absent h) in
-    ap (λ (i : ℕ). set (sets l a (take k t)) (a + i) (getD t k absent)) (sym e)
-    ∙ sets-append l (take k t) (getD t k absent ∷ []) a
-    ∙ ap (sets l a) (sym more)
 
 -- shelves with the same sizes and tables are the same
 same-places : (s t : Shelf) → Good s → Good t → ((p : ℕ) → p < 8 → rowsAt s p ≡ rowsAt t p) → ((p : ℕ) → p < 8 → tableAt s p ≡ tableAt t p) → s ≡ t
@@ -161,7 +132,8 @@ module _ (s : Shelf) (g : Good s) (p n : ℕ) (t : List Number) (small : p < 8) 
   good-put =
       record { places = length-set (s .sizes) p n ∙ g .places; numbers = length-sets (s .numbers) (p * 64) t ∙ g .numbers; held = each-held }
 
-pub factors-held : (s : Shelf) → Good s → (p n : ℕ) (b : Factors Number) → p < 8 → Fits n (tableOf n b) → (i j : ℕ) → In n i → In n j → factorsAt (holding s p n b) p i j ≡ b i j
+pub factors-held : (s : Shelf) → Good s → (p n : ℕ) (b : Factors Number) → p < 8 → Fits n (tableOf n b) → (i j : ℕ) → In n i → In n j
+    → factorsAt (holding s p n b) p i j ≡ b i j
 factors-held s g p n b small fits i j h k =
     ap (λ (t : List Number). factorsOf t i j) (table-held s g p n (tableOf n b) small fits) ∙ factors-table n b (fits .few) i j h k
 
@@ -197,7 +169,9 @@ module _ (p : ℕ) (small : p < 8) where
 
   empty-length : length (tableAt emptyShelf p) ≡ 64
   unfolding tableAt emptyShelf
-  empty-length = length-take-le 64 (drop (p * 64) (replicate 512 zeroNumber)) (omega (arith, length-drop (p * 64) (replicate 512 zeroNumber), length-replicate 512 zeroNumber))
+  empty-length =
+      length-take-le 64 (drop (p * 64) (replicate 512 zeroNumber))
+      (omega (arith, length-drop (p * 64) (replicate 512 zeroNumber), length-replicate 512 zeroNumber))
 
   empty-table : (b : Factors Number) → tableAt emptyShelf p ≡ tableOf 0 b
   empty-table b =

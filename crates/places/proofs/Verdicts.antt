@@ -1,54 +1,24 @@
--- Laws of verdicts: one list of tests behind another (`first-append`, `first-last`), and what the tests of an accepted call have shown (`source-accepted`, `target-accepted`, `one-accepted`,
--- `two-accepted`, `sets-accepted`).
+-- What the tests of an accepted call have shown: of a source and a target (`source-accepted`, `target-accepted`, `one-accepted`, `two-accepted`) and of row and
+-- column sets
+-- (`sets-accepted`); a shelf changed by accepted calls only stays good (`after-good`).
 use Prim.Native.Nat.{ℕ, _^_, _<_, _≤_}
+use native.Mathlib.Decide.{decLt}
 use native.Mathlib.Omega.{arith}
-use mathlib.Core.Path.{_≡_, refl, sym, ap, _∙_}
+use mathlib.Core.Path.{_≡_, refl}
 use mathlib.Core.Bool.{Bool, true, false, not, _||_}
-use mathlib.Core.List.{List, [], _∷_, _++_}
+use mathlib.Core.List.{List, [], _∷_}
 use lib.Dec.{eqb}
+use lib.ListN.{getD, List·getD-eq-default}
 use borrow.Author.Tests.{ltb-false, eqb-true, eqb-false, not-false}
 use Rattle.rowset.specs.Mask.{maskCount, maskBeyond}
 use Rattle.rowset.proofs.Masks.{mask-within}
 use Rattle.places.specs.declared.Shelf.{Shelf}
-use Rattle.places.specs.declared.Verdict.{Verdict}
-use Rattle.places.specs.declared.Verdict.the-variants.{Accepted, Refused}
+use Rattle.verdict.specs.declared.Verdict.{Verdict}
+use Rattle.verdict.specs.declared.Verdict.the-variants.{Accepted, Refused}
+use Rattle.verdict.specs.Verdict.{firstOf, after, when}
+use Rattle.verdict.proofs.Verdicts.{when-passed, when-accepted}
 use Rattle.places.specs.Shelf.{rowsAt, Good}
-use Rattle.places.specs.Refusal.{firstOf, orElse, after, when, above, empty, full, differ, unfit, sourceTests, targetTests, oneSource, twoSources}
-
-or-else-assoc : (u v w : Verdict) → orElse u (orElse v w) ≡ orElse (orElse u v) w
-or-else-assoc Accepted v w = refl
-or-else-assoc (Refused r) v w = refl
-
-pub or-else-accepted : (v : Verdict) → orElse v Accepted ≡ v
-or-else-accepted Accepted = refl
-or-else-accepted (Refused r) = refl
-
-pub first-append : (L M : List Verdict) → firstOf (L ++ M) ≡ orElse (firstOf L) (firstOf M)
-unfolding firstOf
-first-append [] M = refl
-first-append (v ∷ L) M = ap (orElse v) (first-append L M) ∙ or-else-assoc v (firstOf L) (firstOf M)
-
-pub first-last : (L : List Verdict) (v : Verdict) → firstOf (L ++ (v ∷ [])) ≡ orElse (firstOf L) v
-unfolding firstOf
-first-last L v = first-append L (v ∷ []) ∙ ap (orElse (firstOf L)) (or-else-accepted v)
-
--- where nothing turned a call down, neither this nor that did
-pub or-else-both : (u v : Verdict) → orElse u v ≡ Accepted → (u ≡ Accepted) × (v ≡ Accepted)
-or-else-both Accepted v e = (refl, e)
-or-else-both (Refused w) v e = absurd (let z : _≡_ {A = ℕ} 0 1 = cc in omega arith)
-
-pub when-passed : (t : Bool) (k : ℕ) → when t k ≡ Accepted → t ≡ false
-when-passed false k e = refl
-when-passed true k e = absurd (let z : _≡_ {A = ℕ} 0 1 = cc in omega arith)
-
-pub first-passed : (L : List Verdict) (v : Verdict) → firstOf (L ++ (v ∷ [])) ≡ Accepted → (firstOf L ≡ Accepted) × (v ≡ Accepted)
-first-passed L v e = or-else-both (firstOf L) v (sym (first-last L v) ∙ e)
-
--- the first test passed, and the others
-when-accepted : (c : Bool) (k : ℕ) (L : List Verdict) → firstOf (when c k ∷ L) ≡ Accepted → (c ≡ false) × (firstOf L ≡ Accepted)
-unfolding firstOf
-when-accepted true k L e = absurd (let z : _≡_ {A = ℕ} 0 1 = cc in omega arith)
-when-accepted false k L e = (refl, e)
+use Rattle.places.specs.Tests.{above, empty, full, differ, unfit, sourceTests, targetTests, oneSource, twoSources}
 
 module _ (s : Shelf) where
   above-accepted : (p : ℕ) (L : List Verdict) → firstOf (when (above p) 1 ∷ L) ≡ Accepted → (p < 8) × (firstOf L ≡ Accepted)
@@ -113,6 +83,14 @@ module _ (s : Shelf) where
       let h = differ-accepted l r _ (g .1) in
       (record { small = a .0; some = d .0 }, record { small = b .0; some = f .0 }, record { small = c .0; none = g .0 }, h .0)
 
+-- every place of a good shelf has at most eight rows, and one above 7 has none
+pub rows-few : (s : Shelf) → Good s → (p : ℕ) → rowsAt s p ≤ 8
+unfolding rowsAt
+rows-few s g p = elim (decLt p 8) [ yes h ↦ g .held p h .few | no h ↦ past h ]
+  where
+    past : (p < 8 → ⊥) → getD (s .sizes) p 0 ≤ 8
+    past h = rw (List·getD-eq-default (s .sizes) 0 {n = p} (omega (arith, g .places, h))) (omega arith)
+
 -- a shelf that is changed only where the call was accepted stays good
 pub after-good : (old new : Shelf) → Good old → (v : Verdict) → (v ≡ Accepted → Good new) → Good (after v old new)
 after-good old new g Accepted h = h refl
@@ -132,10 +110,10 @@ or-false true u e = absurd (let z : _≡_ {A = ℕ} 0 1 = cc in omega arith)
 pub sets-accepted : (n I J : ℕ) → when (unfit n I J) 8 ≡ Accepted → Fit n I J
 sets-accepted n I J e =
     let a = or-false (not (eqb (maskCount I) (maskCount J))) _ (when-passed (unfit n I J) 8 e) in
-    let b = or-false (eqb I 0) _ (a .1) in
-    let c = or-false (eqb J 0) _ (b .1) in
-    let d = or-false (maskBeyond n I) (maskBeyond n J) (c .1) in
-    let z : I ≡ 0 → ⊥ = eqb-false I 0 (b .0) in
+    let b = or-false (eqb I 0 || eqb J 0) _ (a .1) in
+    let c = or-false (eqb I 0) (eqb J 0) (b .0) in
+    let d = or-false (maskBeyond n I) (maskBeyond n J) (b .1) in
+    let z : I ≡ 0 → ⊥ = eqb-false I 0 (c .0) in
     record {
       counts = eqb-true (maskCount I) (maskCount J) (not-false (eqb (maskCount I) (maskCount J)) (a .0));
       some = omega arith;

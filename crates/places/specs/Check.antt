@@ -5,7 +5,7 @@ use lib.Dec.{eqb, leb, ltb}
 use lib.ListN.{getD}
 use Rattle.number.specs.declared.Number.{Number}
 use Rattle.number.specs.Number.{bias, inRange}
-use Rattle.walk.specs.Table.{absent}
+use Rattle.table.specs.Table.{absent}
 use Rattle.places.specs.declared.Shelf.{Shelf}
 use Rattle.places.specs.Shelf.{rowsAt}
 

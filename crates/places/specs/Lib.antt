@@ -1,4 +1,4 @@
-pub mod Table
 pub mod Shelf
-pub mod Refusal
+pub mod Tests
 pub mod Check
+pub mod Outcome

@@ -1,5 +1,6 @@
--- The shelf (document 01, "Shelf calls"): places 0 to 7, each empty or holding a matrix. What a place holds (`rowsAt`, `factorsAt`), a matrix put at a place (`holding`),
--- a place emptied (`without`), and what holds of every shelf that a call hands back (`Good`, by `Fits` of each place). An empty place holds no rows.
+-- The shelf (document 01, "Shelf calls"): places 0 to 7, each empty or holding a matrix. What a place holds (`rowsAt`, `factorsAt`), a matrix put at a place
+-- (`holding`), a place emptied (`without`), and what holds of every shelf that a call hands back (`Good`, by `Fits` of each place). An empty place holds no
+-- rows.
 use Prim.Native.Nat.{ℕ, _*_, _≤_, _<_}
 use mathlib.Core.Path.{_≡_}
 use mathlib.Core.List.{List}
@@ -10,7 +11,7 @@ use Rattle.number.specs.Number.{zeroNumber, Stored}
 use Rattle.words.specs.Word.{Factors}
 use Rattle.words.specs.Sources.{Each}
 use Rattle.places.specs.declared.Shelf.{Shelf}
-use Rattle.walk.specs.Table.{factorsOf, tableOf}
+use Rattle.table.specs.Table.{factorsOf, tableOf}
 
 unfoldable pub rowsAt : Shelf → ℕ → ℕ
 rowsAt s p = getD (s .sizes) p 0

@@ -1,112 +1,74 @@
-// The tests of the calls, in document 01's order: the first condition that holds turns a call down.
+// The tests of the calls, a line each, in document 01's order: the first condition that holds turns a call down.
 ghost use mathlib.Core.Path.{_≡_};
 ghost use Prim.Native.Nat.{_≤_, _<_};
-ghost use Rattle.places.specs.Refusal.{firstOf, refused, when, unfit, sourceTests, targetTests, oneSource, twoSources};
-use crate::Refusal;
+ghost use Rattle.verdict.specs.Verdict.{firstOf};
+ghost use Rattle.places.specs.Tests.{unfit, sourceTests, targetTests, oneSource, twoSources};
 use crate::Shelf;
-use crate::Verdict;
 use crate::rows_at;
-
-// A number with no offset.
-pub fn refused(number: u8) -> Verdict
-    ensures { λ r. ⌜ r ≡ refused number 0 ⌝ }
-{
-    Verdict::Refused(Refusal { number, offset: 0 })
-}
+use verdict::Verdict;
+use verdict::test;
 
 // A source alone.
 pub fn source(shelf: Shelf, place: usize) -> Verdict
     ensures { λ r. ⌜ r ≡ firstOf (sourceTests shelf place) ⌝ }
 {
-    if place > 7 {
-        return refused(1);
-    }
-    if rows_at(shelf, place) == 0 {
-        return refused(11);
-    }
-    Verdict::Accepted
+    let rows = rows_at(shelf, place);
+    let mut v = Verdict::Accepted;
+    v = test(v, 7 < place, 1);
+    v = test(v, rows == 0, 11);
+    v
 }
 
 // A target alone.
 pub fn target(shelf: Shelf, place: usize) -> Verdict
     ensures { λ r. ⌜ r ≡ firstOf (targetTests shelf place) ⌝ }
 {
-    if place > 7 {
-        return refused(1);
-    }
-    if rows_at(shelf, place) != 0 {
-        return refused(12);
-    }
-    Verdict::Accepted
+    let rows = rows_at(shelf, place);
+    let mut v = Verdict::Accepted;
+    v = test(v, 7 < place, 1);
+    v = test(v, rows != 0, 12);
+    v
 }
 
 // One source and a target.
 pub fn one_source(shelf: Shelf, source: usize, target: usize) -> Verdict
     ensures { λ r. ⌜ r ≡ firstOf (oneSource shelf source target) ⌝ }
 {
-    if source > 7 {
-        return refused(1);
-    }
-    if target > 7 {
-        return refused(1);
-    }
-    if rows_at(shelf, source) == 0 {
-        return refused(11);
-    }
-    if rows_at(shelf, target) != 0 {
-        return refused(12);
-    }
-    Verdict::Accepted
+    let rows = rows_at(shelf, source);
+    let there = rows_at(shelf, target);
+    let mut v = Verdict::Accepted;
+    v = test(v, 7 < source, 1);
+    v = test(v, 7 < target, 1);
+    v = test(v, rows == 0, 11);
+    v = test(v, there != 0, 12);
+    v
 }
 
 // Two sources and a target.
 pub fn two_sources(shelf: Shelf, left: usize, right: usize, target: usize) -> Verdict
     ensures { λ r. ⌜ r ≡ firstOf (twoSources shelf left right target) ⌝ }
 {
-    if left > 7 {
-        return refused(1);
-    }
-    if right > 7 {
-        return refused(1);
-    }
-    if target > 7 {
-        return refused(1);
-    }
     let rows = rows_at(shelf, left);
-    if rows == 0 {
-        return refused(11);
-    }
-    if rows_at(shelf, right) == 0 {
-        return refused(11);
-    }
-    if rows_at(shelf, target) != 0 {
-        return refused(12);
-    }
-    if rows != rows_at(shelf, right) {
-        return refused(13);
-    }
-    Verdict::Accepted
+    let columns = rows_at(shelf, right);
+    let there = rows_at(shelf, target);
+    let mut v = Verdict::Accepted;
+    v = test(v, 7 < left, 1);
+    v = test(v, 7 < right, 1);
+    v = test(v, 7 < target, 1);
+    v = test(v, rows == 0, 11);
+    v = test(v, columns == 0, 11);
+    v = test(v, there != 0, 12);
+    v = test(v, rows != columns, 13);
+    v
 }
 
-// Row and column sets of n rows.
-pub fn sets(n: usize, rows: usize, columns: usize) -> Verdict
+// Whether row and column sets of n rows are of unequal count, empty, or beyond n.
+pub fn unfit(n: usize, rows: usize, columns: usize) -> bool
     requires { ⌜ (n ≤ 8) × (rows < 256) × (columns < 256) ⌝ }
-    ensures { λ r. ⌜ r ≡ when (unfit n rows columns) 8 ⌝ }
+    ensures { λ r. ⌜ r ≡ unfit n rows columns ⌝ }
 {
-    if rowset::count(rows) != rowset::count(columns) {
-        return refused(8);
-    }
-    if rows == 0 {
-        return refused(8);
-    }
-    if columns == 0 {
-        return refused(8);
-    }
-    if rowset::beyond(rows, n) {
-        return refused(8);
-    }
-    if rowset::beyond(columns, n) {
-        return refused(8);
-    }
-    Verdict::Accepted
+    let unequal = rowset::count(rows) != rowset::count(columns);
+    let none = (rows == 0) | (columns == 0);
+    let beyond = rowset::beyond(rows, n) | rowset::beyond(columns, n);
+    unequal | (none | beyond)
 }

@@ -6,24 +6,12 @@ use number::Number;
 
 pub mod check; // check.rt: the test of a shelf that nothing vouches for
 pub mod judge; // judge.rt: the tests of the calls
-pub mod tables; // tables.rt: the 64 numbers of a place
 
 // Eight places of 64 numbers each, and the rows of the matrix at each, 0 where the place is empty.
 #[repr(C)]
 pub struct Shelf {
     numbers: [Number; 512],
     sizes: [u8; 8],
-}
-
-// Document 01's number of what turned a call down, and its offset in the input, 0 where the number is not about bytes.
-pub struct Refusal {
-    pub number: u8,
-    pub offset: usize,
-}
-
-pub enum Verdict {
-    Accepted,
-    Refused(Refusal),
 }
 
 // All places empty.

@@ -11,14 +11,14 @@ use Rattle.group.specs.declared.Group.the-variants.{Value}
 use Rattle.group.specs.Group.{Inside}
 use Rattle.number.specs.declared.Number.{Number}
 use Rattle.number.specs.Number.{zeroNumber}
-use Rattle.reader.specs.declared.Factor.{Factor}
-use Rattle.reader.specs.declared.Factor.the-variants.{At, Fault}
-use Rattle.reader.specs.declared.Outcome.{Outcome}
-use Rattle.reader.specs.declared.Outcome.the-variants as outcome
-use Rattle.reader.specs.declared.Outcome.the-variants.{Matrix}
+use Rattle.reader.specs.declared.ByteFactor.{ByteFactor}
+use Rattle.reader.specs.declared.ByteFactor.the-variants.{At, Fault}
+use Rattle.reader.specs.declared.ReadOutcome.{ReadOutcome}
+use Rattle.reader.specs.declared.ReadOutcome.the-variants as outcome
+use Rattle.reader.specs.declared.ReadOutcome.the-variants.{Matrix}
 use Rattle.reader.specs.declared.Parsed.{Parsed}
-use Rattle.reader.specs.Matrix.{factorAt, Reading, factorsFrom, parsed, blank, behindBy}
-use Rattle.writer.proofs.Parts.{part-is, sets-append}
+use Rattle.reader.specs.Matrix.{factorAt, Reading, factorsFrom, parsed, zeroTable, behindBy}
+use Rattle.arrays.proofs.Runs.{part-is, sets-append}
 
 -- a callee found e, which is r′: a result by cases of that
 pub matched : {A B : Type 0} (f : A → B) {r r′ e : A} → r ≡ e → r ≡ r′ → {x : B} → x ≡ f r′ → x ≡ f e
@@ -42,7 +42,8 @@ pub factors-more : (s : List ℕ) (n : ℕ) (before : List Number) (c p q : ℕ)
 unfolding factorsFrom
 factors-more s n before c p q a e = rw e
 
-pub factors-fault : (s : List ℕ) (n : ℕ) (before : List Number) (c p k o : ℕ) → factorAt s n before p ≡ Fault k o → factorsFrom s n before (suc c) p ≡ Reading.fault k o
+pub factors-fault : (s : List ℕ) (n : ℕ) (before : List Number) (c p k o : ℕ) → factorAt s n before p ≡ Fault k o
+    → factorsFrom s n before (suc c) p ≡ Reading.fault k o
 unfolding factorsFrom
 factors-fault s n before c p k o e = rw e
 
@@ -51,28 +52,28 @@ pub record ReadSoFar (s : List ℕ) (n count at : ℕ) (numbers : List Number) (
   pub few : k ≤ count
   pub room : count ≤ 64
   pub inside : p ≤ length s
-  pub rest-blank : numbers ≡ sets blank 0 (take k numbers)
+  pub rest-blank : numbers ≡ sets zeroTable 0 (take k numbers)
   pub same : factorsFrom s n [] count at ≡ factorsFrom s n (take k numbers) (count - k) p
 
 -- a matrix that was read
 abbrev held : ℕ → ℕ → List Number → Parsed
 held n p numbers = record { outcome = Matrix n p; numbers = numbers }
 
-pub read-none : (s : List ℕ) (n count at : ℕ) → count ≤ 64 → at ≤ length s → ReadSoFar s n count at blank at 0
+pub read-none : (s : List ℕ) (n count at : ℕ) → count ≤ 64 → at ≤ length s → ReadSoFar s n count at zeroTable at 0
 read-none s n count at m h =
     let k : count - 0 ≡ count = omega arith in
     record { few = omega arith; room = m; inside = h; rest-blank = refl; same = rw k }
 
 module _ {s : List ℕ} {n count at : ℕ} {numbers : List Number} {p k : ℕ} (w : ReadSoFar s n count at numbers p k) where
   long : length numbers ≡ 64
-  long = ap length (w .rest-blank) ∙ length-sets blank 0 (take k numbers) ∙ length-replicate 64 zeroNumber
+  long = ap length (w .rest-blank) ∙ length-sets zeroTable 0 (take k numbers) ∙ length-replicate 64 zeroNumber
 
   pub read-all : count ≤ k → held n p numbers ≡ parsed (factorsFrom s n [] count at)
   read-all h =
       let z : count - k ≡ 0 = omega arith in
       rw (w .same, z, factors-none s n (take k numbers) p) (ap (held n p) (w .rest-blank))
 
-  module _ (r : Factor) (e : r ≡ factorAt s n (take k numbers) p) (h : k < count) where
+  module _ (r : ByteFactor) (e : r ≡ factorAt s n (take k numbers) p) (h : k < count) where
     left : count - k ≡ suc (count - (k + 1))
     left = omega arith
 
@@ -86,9 +87,9 @@ module _ {s : List ℕ} {n count at : ℕ} {numbers : List Number} {p k : ℕ} (
           inside = l;
           rest-blank =
               ap (λ (l : List Number). set l k a) (w .rest-blank)
-              ∙ ap (λ (i : ℕ). set (sets blank 0 (take k numbers)) i a) (sym past)
-              ∙ sets-append blank (take k numbers) (a ∷ []) 0
-              ∙ ap (sets blank 0) (sym more);
+              ∙ ap (λ (i : ℕ). set (sets zeroTable 0 (take k numbers)) i a) (sym past)
+              ∙ sets-append zeroTable (take k numbers) (a ∷ []) 0
+              ∙ ap (sets zeroTable 0) (sym more);
           same = rw (w .same, left, factors-more s n (take k numbers) (count - (k + 1)) p q a (sym e ∙ f), more);
         }
 
@@ -96,7 +97,7 @@ module _ {s : List ℕ} {n count at : ℕ} {numbers : List Number} {p k : ℕ} (
     read-fault j o f = rw (w .same, left, factors-fault s n (take k numbers) (count - (k + 1)) p j o (sym e ∙ f))
 
 -- the bytes behind, by the outcome
-abbrev pub behindOutcome : List ℕ → Outcome → List ℕ
+abbrev pub behindOutcome : List ℕ → ReadOutcome → List ℕ
 behindOutcome s (Matrix n q) = drop q s
 behindOutcome s (outcome.Fault k o) = s
 

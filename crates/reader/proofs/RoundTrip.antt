@@ -16,63 +16,71 @@ use Rattle.group.specs.Group.{groupOf, bytesOf, Bytes}
 use Rattle.group.proofs.RoundTrip.{group-written, group-read}
 use Rattle.number.specs.declared.Number.{Number}
 use Rattle.number.specs.Number.{Stored}
-use Rattle.reader.specs.declared.Item.{Item}
-use Rattle.reader.specs.declared.Item.the-variants as item
-use Rattle.reader.specs.declared.Verdict.{Verdict}
-use Rattle.reader.specs.declared.Verdict.the-variants.{Accepted, Refused}
-use Rattle.reader.specs.declared.Factor.{Factor}
-use Rattle.reader.specs.declared.Factor.the-variants as factor
-use Rattle.reader.specs.declared.Outcome.the-variants as outcome
+use Rattle.reader.specs.declared.ByteItem.{ByteItem}
+use Rattle.reader.specs.declared.ByteItem.the-variants as item
+use Rattle.reader.specs.declared.CodeVerdict.{CodeVerdict}
+use Rattle.reader.specs.declared.CodeVerdict.the-variants.{Accepted, Refused}
+use Rattle.reader.specs.declared.ByteFactor.{ByteFactor}
+use Rattle.reader.specs.declared.ByteFactor.the-variants as factor
+use Rattle.reader.specs.declared.ReadOutcome.the-variants as outcome
 use Rattle.reader.specs.declared.Parsed.{Parsed}
-use Rattle.writer.specs.Encoding.{codeZero, codeOf, partOf, factorBytes, factorsBytes, encoding, factorsOf, AllStored, Storable}
-use Rattle.reader.specs.Matrix.{itemBy, itemAt, mantissaBy, mantissaAt, judged, numberOf, judgedBy, factorBy, factorAt}
-use Rattle.reader.specs.Matrix.{Reading, matrix, fault, onFactor, factorsFrom, matrixBy, matrixOf, blank, parsed, behindOf}
+use Rattle.writer.specs.Encoding.{codeZero, exponentCode, partOf, factorBytes, factorsBytes, encoding, squareFactors, AllStored, Storable}
+use Rattle.reader.specs.Matrix.{itemByGroup, itemAt, mantissaBy, mantissaAt, judgedCode, decoded, judgedBy, factorByItem, factorAt}
+use Rattle.reader.specs.Matrix.{Reading, matrix, fault, onFactor, factorsFrom, matrixBy, matrixOf, zeroTable, parsed, behindOf}
 use Rattle.reader.proofs.Reading.{factors-none, factors-more}
 use Rattle.writer.proofs.Writing.{factor-bytes-some, factor-bytes-stored, square-small}
 
 -- which exponent codes are taken
-judged-taken : (n : ℕ) (before : List Number) (code : ℕ) → 0 < code → code ≤ 2001 → judged n before code ≡ Accepted
+judged-taken : (n : ℕ) (before : List Number) (code : ℕ) → 0 < code → code ≤ 2001 → judgedCode n before code ≡ Accepted
 judged-taken n before code g h = rw (le-ltb 2001 code h, ne-eqb code 0 (λ z. omega arith))
 
-judged-by : (code : ℕ) (t u : Bool) → ltb 2001 code ≡ t → eqb code 0 ≡ u → cond t (Refused 5) (cond u (Refused 6) Accepted) ≡ Accepted → (0 < code) × (code ≤ 2001)
+judged-by : (code : ℕ) (t u : Bool) → ltb 2001 code ≡ t → eqb code 0 ≡ u → cond t (Refused 5) (cond u (Refused 6) Accepted) ≡ Accepted
+    → (0 < code) × (code ≤ 2001)
 judged-by code true u b d f = absurd (suc-ne-zero 0 (cc))
 judged-by code false true b d f = absurd (suc-ne-zero 0 (cc))
 judged-by code false false b d f =
     let z : code ≡ 0 → ⊥ = eqb-false code 0 d in
     (omega arith, ltb-false 2001 code b)
 
-judged-only : (n : ℕ) (before : List Number) (code : ℕ) → judged n before code ≡ Accepted → (0 < code) × (code ≤ 2001)
+judged-only : (n : ℕ) (before : List Number) (code : ℕ) → judgedCode n before code ≡ Accepted → (0 < code) × (code ≤ 2001)
 judged-only n before code f = judged-by code (ltb 2001 code) (eqb code 0) refl refl f
 
 -- a factor of two items
 factor-items : (s : List ℕ) (n : ℕ) (before : List Number) (p q r code m : ℕ) → itemAt s p ≡ item.Value code q → itemAt s q ≡ item.Value m r →
-    0 < code → code ≤ 2001 → m < 2 ^ 31 → factorAt s n before p ≡ factor.At (numberOf code m) r
+    0 < code → code ≤ 2001 → m < 2 ^ 31 → factorAt s n before p ≡ factor.At (decoded code m) r
 unfolding factorAt mantissaAt
 factor-items s n before p q r code m e f g h l =
-    rw e (ap (judgedBy p (mantissaAt s q code)) (judged-taken n before code g h) ∙ rw (ne-eqb code 0 (λ z. omega arith), f, le-ltb (2 ^ 31 - 1) m (omega arith)))
+    rw e (ap (judgedBy p (mantissaAt s q code)) (judged-taken n before code g h)
+    ∙ rw (ne-eqb code 0 (λ z. omega arith), f, le-ltb (2 ^ 31 - 1) m (omega arith)))
 
 -- Written bytes, behind any others and in front of any others.
-item-written : (front rest : List ℕ) (v : ℕ) → v < 2 ^ 32 → itemAt (front ++ (bytesOf v ++ rest)) (length front) ≡ item.Value v (length front + length (bytesOf v))
+item-written : (front rest : List ℕ) (v : ℕ) → v < 2 ^ 32
+    → itemAt (front ++ (bytesOf v ++ rest)) (length front) ≡ item.Value v (length front + length (bytesOf v))
 unfolding itemAt
 item-written front rest v h = rw (drop-append-seam, group-written v rest h)
 
 module _ (a : Number) (s : Stored a) where
-  number-same : numberOf (codeOf a) (partOf a) ≡ a
+  number-same : decoded (exponentCode a) (partOf a) ≡ a
   number-same =
       let em : partOf a + 2 ^ 31 ≡ a .m = omega (arith, s .low) in
-      let ex : codeOf a + codeZero ≡ a .x = omega (arith, s .start) in
-      ap (λ (m : ℕ). record { m = m; x = codeOf a + codeZero }) em ∙ ap (λ (x : ℕ). record { m = a .m; x = x }) ex
+      let ex : exponentCode a + codeZero ≡ a .x = omega (arith, s .start) in
+      ap (λ (m : ℕ). record { m = m; x = exponentCode a + codeZero }) em ∙ ap (λ (x : ℕ). record { m = a .m; x = x }) ex
 
   factor-written : (front rest : List ℕ) (n : ℕ) (before : List Number) →
       factorAt (front ++ (factorBytes a ++ rest)) n before (length front) ≡ factor.At a (length front + length (factorBytes a))
   factor-written front rest n before =
-      let e : front ++ (bytesOf (codeOf a) ++ (bytesOf (partOf a) ++ rest)) ≡ front ++ (factorBytes a ++ rest) = rw (factor-bytes-stored a s) (simp append-assoc) in
-      let f : (front ++ bytesOf (codeOf a)) ++ (bytesOf (partOf a) ++ rest) ≡ front ++ (factorBytes a ++ rest) = rw (factor-bytes-stored a s) (simp append-assoc) in
-      let l : length front + length (bytesOf (codeOf a)) ≡ length (front ++ bytesOf (codeOf a)) = sym (length-append front (bytesOf (codeOf a))) in
-      let i = rw (e, l) at (item-written front (bytesOf (partOf a) ++ rest) (codeOf a) (omega (arith, s .stop))) in
-      let j = rw f at (item-written (front ++ bytesOf (codeOf a)) rest (partOf a) (omega (arith, s .high))) in
-      let r : length (front ++ bytesOf (codeOf a)) + length (bytesOf (partOf a)) ≡ length front + length (factorBytes a) = rw (factor-bytes-stored a s) (simp (length-append, add-assoc)) in
-      factor-items _ n before _ _ _ (codeOf a) (partOf a) i j (omega (arith, s .start)) (omega (arith, s .stop)) (omega (arith, s .high)) ∙ rw (number-same, r)
+      let e : front ++ (bytesOf (exponentCode a) ++ (bytesOf (partOf a) ++ rest)) ≡ front ++ (factorBytes a ++ rest) =
+      rw (factor-bytes-stored a s) (simp append-assoc) in
+      let f : (front ++ bytesOf (exponentCode a)) ++ (bytesOf (partOf a) ++ rest) ≡ front ++ (factorBytes a ++ rest) =
+      rw (factor-bytes-stored a s) (simp append-assoc) in
+      let l : length front + length (bytesOf (exponentCode a)) ≡ length (front ++ bytesOf (exponentCode a)) =
+      sym (length-append front (bytesOf (exponentCode a))) in
+      let i = rw (e, l) at (item-written front (bytesOf (partOf a) ++ rest) (exponentCode a) (omega (arith, s .stop))) in
+      let j = rw f at (item-written (front ++ bytesOf (exponentCode a)) rest (partOf a) (omega (arith, s .high))) in
+      let r : length (front ++ bytesOf (exponentCode a)) + length (bytesOf (partOf a)) ≡ length front + length (factorBytes a) =
+      rw (factor-bytes-stored a s) (simp (length-append, add-assoc)) in
+      factor-items _ n before _ _ _ (exponentCode a) (partOf a) i j (omega (arith, s .start)) (omega (arith, s .stop)) (omega (arith, s .high))
+      ∙ rw (number-same, r)
 
 -- the factors, behind those in front
 factors-written : (L : List Number) (front rest : List ℕ) (n : ℕ) (before : List Number) → AllStored L →
@@ -125,7 +133,7 @@ pub record MatrixRead (s : List ℕ) (n : ℕ) (L : List Number) (q : ℕ) : Typ
   pub taken : take q s ≡ encoding n L
 
 module _ (s : List ℕ) (bs : Bytes s) where
-  item-group : (p v q : ℕ) (r : Group) → groupOf (drop p s) ≡ r → itemBy s p r ≡ item.Value v q → (v < 2 ^ 32) × Stands s p q (bytesOf v)
+  item-group : (p v q : ℕ) (r : Group) → groupOf (drop p s) ≡ r → itemByGroup s p r ≡ item.Value v q → (v < 2 ^ 32) × Stands s p q (bytesOf v)
   item-group p v q (group.Value w n) e f =
       let ev : w ≡ v = cc in
       let eq : p + n ≡ q = cc in
@@ -144,26 +152,28 @@ module _ (s : List ℕ) (bs : Bytes s) where
     stands : Stands s p q (factorBytes a)
 
   factor-made : (code m p r q : ℕ) → 0 < code → code ≤ 2001 → m < 2 ^ 31 → itemAt s p ≡ item.Value code r → itemAt s r ≡ item.Value m q →
-      FactorRead (numberOf code m) p q
+      FactorRead (decoded code m) p q
   factor-made code m p r q g h l e f =
       let ec : code + codeZero - codeZero ≡ code = omega arith in
       let em : m + 2 ^ 31 - 2 ^ 31 ≡ m = omega arith in
       let z : m + 2 ^ 31 ≡ 0 → ⊥ = λ q. omega arith in
       record {
         stored = record { low = omega arith; high = omega arith; start = omega arith; stop = omega arith };
-        stands = rw (factor-bytes-some (numberOf code m) z, ec, em) (stands-append s p r q (bytesOf code) (bytesOf m) (item-read p code r e .1) (item-read r m q f .1));
+        stands =
+            rw (factor-bytes-some (decoded code m) z, ec, em)
+            (stands-append s p r q (bytesOf code) (bytesOf m) (item-read p code r e .1) (item-read r m q f .1));
       }
 
   module _ (code p r : ℕ) (g : 0 < code) (h : code ≤ 2001) (e : itemAt s p ≡ item.Value code r) (a : Number) (q : ℕ) where
     mantissa-value : (m q′ : ℕ) → itemAt s r ≡ item.Value m q′ → (t : Bool) → ltb (2 ^ 31 - 1) m ≡ t →
-        cond t (factor.Fault 5 r) (factor.At (numberOf code m) q′) ≡ factor.At a q → FactorRead a p q
+        cond t (factor.Fault 5 r) (factor.At (decoded code m) q′) ≡ factor.At a q → FactorRead a p q
     mantissa-value m q′ i true b f = absurd (suc-ne-zero 0 (cc))
     mantissa-value m q′ i false b f =
-        let ea : numberOf code m ≡ a = cc in
+        let ea : decoded code m ≡ a = cc in
         let eq : q′ ≡ q = cc in
         rw (← ea, ← eq) (factor-made code m p r q′ g h (omega (arith, ltb-false (2 ^ 31 - 1) m b)) e i)
 
-    mantissa-item : (w : Item) → itemAt s r ≡ w → mantissaBy r code w ≡ factor.At a q → FactorRead a p q
+    mantissa-item : (w : ByteItem) → itemAt s r ≡ w → mantissaBy r code w ≡ factor.At a q → FactorRead a p q
     mantissa-item (item.Value m q′) i f = mantissa-value m q′ i (ltb (2 ^ 31 - 1) m) refl f
     mantissa-item (item.Fault k o) i f = absurd (suc-ne-zero 0 (cc))
 
@@ -172,14 +182,15 @@ module _ (s : List ℕ) (bs : Bytes s) where
     mantissa-read f = mantissa-item (itemAt s r) refl (rw (ne-eqb code 0 (λ z. omega arith)) at f)
 
   module _ (n : ℕ) (before : List Number) (p : ℕ) (a : Number) (q : ℕ) where
-    code-judged : (code r : ℕ) → itemAt s p ≡ item.Value code r → (w : Verdict) → judged n before code ≡ w → judgedBy p (mantissaAt s r code) w ≡ factor.At a q → FactorRead a p q
+    code-judged : (code r : ℕ) → itemAt s p ≡ item.Value code r → (w : CodeVerdict) → judgedCode n before code ≡ w
+        → judgedBy p (mantissaAt s r code) w ≡ factor.At a q → FactorRead a p q
     code-judged code r e Accepted d f =
         let j = judged-only n before code d in
         mantissa-read code p r (j .0) (j .1) e a q f
     code-judged code r e (Refused k) d f = absurd (suc-ne-zero 0 (cc))
 
-    factor-item : (w : Item) → itemAt s p ≡ w → factorBy s n before p w ≡ factor.At a q → FactorRead a p q
-    factor-item (item.Value code r) e f = code-judged code r e (judged n before code) refl f
+    factor-item : (w : ByteItem) → itemAt s p ≡ w → factorByItem s n before p w ≡ factor.At a q → FactorRead a p q
+    factor-item (item.Value code r) e f = code-judged code r e (judgedCode n before code) refl f
     factor-item (item.Fault k o) e f = absurd (suc-ne-zero 0 (cc))
 
     factor-read : factorAt s n before p ≡ factor.At a q → FactorRead a p q
@@ -197,7 +208,8 @@ module _ (s : List ℕ) (bs : Bytes s) where
   module _ (n : ℕ) where
     factors-first : (before : List Number) (c p m : ℕ) (L : List Number) (q : ℕ) →
         ((a : Number) (r : ℕ) → factorsFrom s n (before ++ (a ∷ [])) c r ≡ matrix m L q → (m ≡ n) × FactorsRead (before ++ (a ∷ [])) c r L q) →
-        (w : Factor) → factorAt s n before p ≡ w → onFactor (λ a r. factorsFrom s n (before ++ (a ∷ [])) c r) w ≡ matrix m L q → (m ≡ n) × FactorsRead before (suc c) p L q
+        (w : ByteFactor) → factorAt s n before p ≡ w → onFactor (λ a r. factorsFrom s n (before ++ (a ∷ [])) c r) w ≡ matrix m L q
+        → (m ≡ n) × FactorsRead before (suc c) p L q
     unfolding factorsBytes
     factors-first before c p m L q behind (factor.At a r) e f =
         let g = behind a r f in
@@ -213,7 +225,8 @@ module _ (s : List ℕ) (bs : Bytes s) where
         )
     factors-first before c p m L q behind (factor.Fault k o) e f = absurd (suc-ne-zero 0 (cc))
 
-    factors-read : (c : ℕ) (before : List Number) (p m : ℕ) (L : List Number) (q : ℕ) → factorsFrom s n before c p ≡ matrix m L q → (m ≡ n) × FactorsRead before c p L q
+    factors-read : (c : ℕ) (before : List Number) (p m : ℕ) (L : List Number) (q : ℕ) → factorsFrom s n before c p ≡ matrix m L q
+        → (m ≡ n) × FactorsRead before c p L q
     unfolding factorsFrom factorsBytes
     factors-read zero before p m L q f =
         let em : m ≡ n = cc in
@@ -238,7 +251,7 @@ module _ (s : List ℕ) (bs : Bytes s) where
         taken = w .taken;
       })
 
-  matrix-item : (n : ℕ) (L : List Number) (q : ℕ) (w : Item) → itemAt s 0 ≡ w → matrixBy s w ≡ matrix n L q → MatrixRead s n L q
+  matrix-item : (n : ℕ) (L : List Number) (q : ℕ) (w : ByteItem) → itemAt s 0 ≡ w → matrixBy s w ≡ matrix n L q → MatrixRead s n L q
   matrix-item n L q (item.Value v r) e f = rows-judged r v n L q e (ltb v 1) (ltb 8 v) refl refl f
   matrix-item n L q (item.Fault k o) e f = absurd (suc-ne-zero 0 (cc))
 
@@ -248,16 +261,16 @@ module _ (s : List ℕ) (bs : Bytes s) where
   matrix-read n L q e = matrix-item n L q (itemAt s 0) refl e
 
 -- the factors of a matrix stand at the start of 64 numbers, where a writer finds them
-pub factors-held : (n : ℕ) (L : List Number) → Storable n L → factorsOf n (sets blank 0 L) ≡ L
+pub factors-held : (n : ℕ) (L : List Number) → Storable n L → squareFactors n (sets zeroTable 0 L) ≡ L
 factors-held n L w =
     let h : length L ≤ 64 = omega (arith, w .square, square-small n (omega (arith, w .few))) in
-    rw (sets-eq L blank 0 (omega arith)) (take-at L _ (n * n) (w .square))
+    rw (sets-eq L zeroTable 0 (omega arith)) (take-at L _ (n * n) (w .square))
 
 -- what an answer of the reader holds
 record Held (w : Reading) (n q : ℕ) (numbers : List Number) : Type 0 where
   list : List Number
   found : w ≡ matrix n list q
-  placed : numbers ≡ sets blank 0 list
+  placed : numbers ≡ sets zeroTable 0 list
 
 held : (w : Reading) (n q : ℕ) (r : Parsed) → r ≡ parsed w → r .outcome ≡ outcome.Matrix n q → Held w n q (r .numbers)
 held (matrix m L p) n q r e f =
@@ -270,7 +283,8 @@ held (fault k o) n q r e f =
     absurd (suc-ne-zero 0 (cc))
 
 -- an accepted matrix is held where a writer finds it, and the writer makes the bytes that were read
-pub accepted : (s : List ℕ) → Bytes s → (n q : ℕ) (r : Parsed) → r ≡ parsed (matrixOf s) → r .outcome ≡ outcome.Matrix n q → MatrixRead s n (factorsOf n (r .numbers)) q
+pub accepted : (s : List ℕ) → Bytes s → (n q : ℕ) (r : Parsed) → r ≡ parsed (matrixOf s) → r .outcome ≡ outcome.Matrix n q
+    → MatrixRead s n (squareFactors n (r .numbers)) q
 accepted s bs n q r e f =
     let h = held (matrixOf s) n q r e f in
     let m = matrix-read s bs n (h .list) q (h .found) in

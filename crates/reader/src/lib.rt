@@ -4,29 +4,31 @@ ghost use mathlib.Core.Path.{_≡_};
 ghost use mathlib.Core.List.{[]};
 ghost use Prim.Native.Nat.{_*_, _^_, _≤_, _<_};
 ghost use lib.ListN.{length, take};
-ghost use Rattle.reader.specs.Matrix.{Reading, itemAt, ItemInside, mantissaAt, judged, factorAt, FactorInside, factorsFrom, parsed, matrixOf, OutcomeInside, behindOf};
+ghost use Rattle.reader.specs.Matrix.{Reading, itemAt, ItemInside, mantissaAt, judgedCode, factorAt, FactorInside, factorsFrom};
+ghost use Rattle.reader.specs.Matrix.{parsed, matrixOf, OutcomeInside, behindOf};
 use number::BIAS;
 use number::Number;
 use writer::CODE_ZERO;
 
 // A group number of the input, with the offset behind it.
-enum Item {
+enum ByteItem {
     Value { value: u64, next: usize },
     Fault { number: u8, offset: usize },
 }
 
-enum Verdict {
+// What a test of an exponent code says.
+enum CodeVerdict {
     Accepted,
     Refused { number: u8 },
 }
 
 // A factor of the input, with the offset behind it.
-enum Factor {
+enum ByteFactor {
     At { factor: Number, next: usize },
     Fault { number: u8, offset: usize },
 }
 
-pub enum Outcome {
+pub enum ReadOutcome {
     // A matrix of so many rows, and the offset behind it.
     Matrix { rows: usize, next: usize },
     // Document 01's number, 2 to 6, and the offset.
@@ -36,27 +38,27 @@ pub enum Outcome {
 // What was read, in as many numbers as a place of the shelf has. The factors of a matrix stand first, row by row: factor (i, j) of n rows is number
 // (i - 1) * n + j - 1, counted from 0. The numbers past them, and all of them beside a fault, are zero.
 pub struct Parsed {
-    pub outcome: Outcome,
+    pub outcome: ReadOutcome,
     pub numbers: [Number; 64],
 }
 
 // The group number at an offset.
-fn item_at(s: &[u8], at: usize) -> Item
+fn item_at(s: &[u8], at: usize) -> ByteItem
     requires { ⌜ at ≤ length (now s) ⌝ }
     ensures { λ r. ⌜ r ≡ itemAt (now (s .entry)) at ⌝ }
     ensures { λ r. ⌜ ItemInside (length (now (s .entry))) r ⌝ }
 {
     let got = group::group_at(&s[at..]);
     match got {
-        group::Group::Value { value, bytes } => Item::Value {
+        group::Group::Value { value, bytes } => ByteItem::Value {
             value: value,
             next: at + bytes,
         },
-        group::Group::Ended => Item::Fault {
+        group::Group::Ended => ByteItem::Fault {
             number: 2,
             offset: s.len(),
         },
-        group::Group::Faulty => Item::Fault {
+        group::Group::Faulty => ByteItem::Fault {
             number: 3,
             offset: at,
         },
@@ -64,41 +66,41 @@ fn item_at(s: &[u8], at: usize) -> Item
 }
 
 // Judges the exponent code of the factor that follows the first k numbers in a matrix of n rows.
-fn judge(n: usize, numbers: [Number; 64], k: usize, code: u64) -> Verdict
-    ensures { λ r. ⌜ r ≡ judged n (take k numbers) code ⌝ }
+fn judge(n: usize, numbers: [Number; 64], k: usize, code: u64) -> CodeVerdict
+    ensures { λ r. ⌜ r ≡ judgedCode n (take k numbers) code ⌝ }
 {
     if code > 2001 {
-        return Verdict::Refused { number: 5 };
+        return CodeVerdict::Refused { number: 5 };
     }
     if code == 0 {
-        return Verdict::Refused { number: 6 };
+        return CodeVerdict::Refused { number: 6 };
     }
-    Verdict::Accepted
+    CodeVerdict::Accepted
 }
 
 // The factor whose exponent code was read, from the offset behind that.
-fn mantissa_at(s: &[u8], at: usize, code: u64) -> Factor
+fn mantissa_at(s: &[u8], at: usize, code: u64) -> ByteFactor
     requires { ⌜ at ≤ length (now s) ⌝ }
     requires { ⌜ code < 2 ^ 32 ⌝ }
     ensures { λ r. ⌜ r ≡ mantissaAt (now (s .entry)) at code ⌝ }
     ensures { λ r. ⌜ FactorInside (length (now (s .entry))) r ⌝ }
 {
     if code == 0 {
-        return Factor::At {
+        return ByteFactor::At {
             factor: Number { m: 0, x: BIAS },
             next: at,
         };
     }
     let item = item_at(s, at);
     match item {
-        Item::Value { value, next } => {
+        ByteItem::Value { value, next } => {
             if value > 2147483647 {
-                return Factor::Fault {
+                return ByteFactor::Fault {
                     number: 5,
                     offset: at,
                 };
             }
-            Factor::At {
+            ByteFactor::At {
                 factor: Number {
                     m: value + 2147483648,
                     x: code + CODE_ZERO,
@@ -106,7 +108,7 @@ fn mantissa_at(s: &[u8], at: usize, code: u64) -> Factor
                 next: next,
             }
         }
-        Item::Fault { number, offset } => Factor::Fault {
+        ByteItem::Fault { number, offset } => ByteFactor::Fault {
             number: number,
             offset: offset,
         },
@@ -114,24 +116,24 @@ fn mantissa_at(s: &[u8], at: usize, code: u64) -> Factor
 }
 
 // The factor at an offset, behind the first k numbers in a matrix of n rows.
-fn factor_at(s: &[u8], at: usize, n: usize, numbers: [Number; 64], k: usize) -> Factor
+fn factor_at(s: &[u8], at: usize, n: usize, numbers: [Number; 64], k: usize) -> ByteFactor
     requires { ⌜ at ≤ length (now s) ⌝ }
     ensures { λ r. ⌜ r ≡ factorAt (now (s .entry)) n (take k numbers) at ⌝ }
     ensures { λ r. ⌜ FactorInside (length (now (s .entry))) r ⌝ }
 {
     let item = item_at(s, at);
     match item {
-        Item::Value { value, next } => {
+        ByteItem::Value { value, next } => {
             let verdict = judge(n, numbers, k, value);
             match verdict {
-                Verdict::Accepted => mantissa_at(s, next, value),
-                Verdict::Refused { number } => Factor::Fault {
+                CodeVerdict::Accepted => mantissa_at(s, next, value),
+                CodeVerdict::Refused { number } => ByteFactor::Fault {
                     number: number,
                     offset: at,
                 },
             }
         }
-        Item::Fault { number, offset } => Factor::Fault {
+        ByteItem::Fault { number, offset } => ByteFactor::Fault {
             number: number,
             offset: offset,
         },
@@ -143,7 +145,7 @@ fn fault(number: u8, offset: usize) -> Parsed
     ensures { λ r. ⌜ r ≡ parsed (Reading.fault number offset) ⌝ }
 {
     Parsed {
-        outcome: Outcome::Fault {
+        outcome: ReadOutcome::Fault {
             number: number,
             offset: offset,
         },
@@ -164,18 +166,18 @@ fn factors_from(s: &[u8], n: usize, at: usize) -> Parsed
     while k < count {
         let got = factor_at(s, p, n, numbers, k);
         match got {
-            Factor::At { factor, next } => {
+            ByteFactor::At { factor, next } => {
                 numbers[k] = factor;
                 p = next;
                 k = k + 1;
             }
-            Factor::Fault { number, offset } => {
+            ByteFactor::Fault { number, offset } => {
                 return fault(number, offset);
             }
         }
     }
     Parsed {
-        outcome: Outcome::Matrix { rows: n, next: p },
+        outcome: ReadOutcome::Matrix { rows: n, next: p },
         numbers: numbers,
     }
 }
@@ -187,7 +189,7 @@ pub fn read_matrix(s: &[u8]) -> Parsed
 {
     let item = item_at(s, 0);
     match item {
-        Item::Value { value, next } => {
+        ByteItem::Value { value, next } => {
             if value < 1 {
                 return fault(4, 0);
             }
@@ -196,7 +198,7 @@ pub fn read_matrix(s: &[u8]) -> Parsed
             }
             factors_from(s, value as usize, next)
         }
-        Item::Fault { number, offset } => fault(number, offset),
+        ByteItem::Fault { number, offset } => fault(number, offset),
     }
 }
 
@@ -207,8 +209,8 @@ pub fn behind(s: &[u8]) -> &[u8]
     let read = read_matrix(s);
     let outcome = read.outcome;
     match outcome {
-        Outcome::Matrix { rows: _, next } => &s[next..],
-        Outcome::Fault {
+        ReadOutcome::Matrix { rows: _, next } => &s[next..],
+        ReadOutcome::Fault {
             number: _,
             offset: _,
         } => s,

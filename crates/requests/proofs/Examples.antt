@@ -5,27 +5,27 @@ use lib.IntN.{pos, negsuc}
 use Rattle.lines.specs.Ascii.{ascii}
 use Rattle.lines.specs.Words.{before}
 use Rattle.lines.specs.Decimal.{allNumerals, valueFrom}
-use Rattle.lines.specs.Hexadecimal.{allDigits, bytesOf}
-use Rattle.requests.specs.declared.commands.Call.the-variants.{Load, Operate, Carry}
-use Rattle.requests.specs.declared.commands.Operation.the-variants.{Product}
+use Rattle.lines.specs.Hexadecimal.{allDigits, spelledBytes}
+use Rattle.requests.specs.declared.commands.Command.the-variants.{Load, Product, Carry}
 use Rattle.requests.specs.Words.{wordsOf, same}
-use Rattle.requests.specs.Commands.{callOf, operationOf}
-use Rattle.requests.specs.Items.{itemOf, itemsOf}
-use Rattle.requests.specs.Requests.{bad, numbersOf, requestOf}
+use Rattle.requests.specs.Commands.{entryForm, formOf}
+use Rattle.requests.specs.Items.{spelledItem, spelledItems}
+use Rattle.requests.specs.Requests.{bad, letterNumbers, requestOf}
 
-product : requestOf (ascii "product 0 1 2") ≡ record { call = Operate Product; values = 0 ∷ 1 ∷ 2 ∷ 0 ∷ []; bytes = []; items = [] }
-unfolding requestOf callOf operationOf same wordsOf numbersOf allNumerals valueFrom
+product : requestOf (ascii "product 0 1 2") ≡ record { command = Product; values = 0 ∷ 1 ∷ 2 ∷ 0 ∷ []; bytes = []; items = [] }
+unfolding requestOf formOf entryForm same wordsOf letterNumbers allNumerals valueFrom
 product = refl
 
-load : requestOf (ascii "load 3 02ca") ≡ record { call = Load; values = 3 ∷ 0 ∷ 0 ∷ 0 ∷ []; bytes = 2 ∷ 202 ∷ []; items = [] }
-unfolding requestOf callOf operationOf same wordsOf numbersOf allNumerals valueFrom allDigits bytesOf
+load : requestOf (ascii "load 3 02ca") ≡ record { command = Load; values = 3 ∷ 0 ∷ 0 ∷ 0 ∷ []; bytes = 2 ∷ 202 ∷ []; items = [] }
+unfolding requestOf formOf entryForm same wordsOf letterNumbers allNumerals valueFrom allDigits spelledBytes
 load = refl
 
-carry : requestOf (ascii "carry 0 3 -1,2147483648,-31") ≡ record { call = Carry; values = 0 ∷ 3 ∷ 0 ∷ 0 ∷ []; bytes = []; items = negsuc 0 ∷ pos 2147483648 ∷ negsuc 30 ∷ [] }
-unfolding requestOf callOf operationOf same wordsOf numbersOf allNumerals valueFrom itemOf itemsOf before
+carry : requestOf (ascii "carry 0 3 -1,2147483648,-31")
+    ≡ record { command = Carry; values = 0 ∷ 3 ∷ 0 ∷ 0 ∷ []; bytes = []; items = negsuc 0 ∷ pos 2147483648 ∷ negsuc 30 ∷ [] }
+unfolding requestOf formOf entryForm same wordsOf letterNumbers allNumerals valueFrom spelledItem spelledItems before
 carry = refl
 
 -- a word lacks
 minor : requestOf (ascii "minor 0 1") ≡ bad
-unfolding requestOf callOf operationOf same wordsOf numbersOf allNumerals valueFrom
+unfolding requestOf formOf entryForm same wordsOf letterNumbers allNumerals valueFrom
 minor = refl

@@ -1,5 +1,6 @@
 -- Laws that belong to no one function.
 pub mod Words
+pub mod Forms
 pub mod Listed
 pub mod Numbers
 pub mod Tails

@@ -13,10 +13,10 @@ use mir.Val.{toZ, ofZ}
 use mir.Facts.{toZ-ofZ}
 use Rattle.lines.specs.Words.{before, wordAt, nextWord}
 use Rattle.lines.proofs.Words.{take-before}
-use Rattle.requests.specs.declared.items.Number.{Number}
-use Rattle.requests.specs.declared.items.Item.the-variants as item
+use Rattle.requests.specs.declared.items.ReadNumber.{ReadNumber}
+use Rattle.requests.specs.declared.items.ReadItem.the-variants as item
 use Rattle.requests.specs.Words.{wordsAt}
-use Rattle.requests.specs.Items.{numberOf, itemBy, itemOf, joined, itemsOf}
+use Rattle.requests.specs.Items.{spelledNumber, spelledBy, spelledItem, itemThen, spelledItems}
 use Rattle.requests.proofs.Words.{words-at, words-past}
 
 -- a number of 64 bits, as it is held
@@ -38,10 +38,10 @@ part-before s n e =
     let z : n - 0 ≡ length (before 44 s) = omega arith in
     rw z (take-before 44 s)
 
-module _ (w rest last : List ℕ) (a b : ℕ) (x y z : Number) where
+module _ (w rest last : List ℕ) (a b : ℕ) (x y z : ReadNumber) where
   pub item-is : a ≡ length (before 44 w) → rest ≡ drop (a + 1) w → b ≡ length (before 44 rest) → last ≡ drop (b + 1) rest →
-      x ≡ numberOf (take (a - 0) w) → y ≡ numberOf (take (b - 0) rest) → z ≡ numberOf last → itemBy x y z ≡ itemOf w
-  unfolding itemOf
+      x ≡ spelledNumber (take (a - 0) w) → y ≡ spelledNumber (take (b - 0) rest) → z ≡ spelledNumber last → spelledBy x y z ≡ spelledItem w
+  unfolding spelledItem
   item-is ea er eb el ex ey ez =
       let er2 : rest ≡ drop (length (before 44 w) + 1) w = rw ea at er in
       let eb2 : last ≡ drop (length (before 44 rest) + 1) rest = rw eb at el in
@@ -56,7 +56,7 @@ front-nil : (o : Option (List ℤ)) → o ≡ front [] o
 front-nil none = refl
 front-nil (some m) = refl
 
-front-more : (l : List ℤ) (a b c : ℤ) (o : Option (List ℤ)) → front l (joined (item.Value a b c) o) ≡ front (l ++ (a ∷ b ∷ c ∷ [])) o
+front-more : (l : List ℤ) (a b c : ℤ) (o : Option (List ℤ)) → front l (itemThen (item.Value a b c) o) ≡ front (l ++ (a ∷ b ∷ c ∷ [])) o
 front-more l a b c none = refl
 front-more l a b c (some m) = ap some (sym (append-assoc l (a ∷ b ∷ c ∷ []) m))
 
@@ -74,33 +74,33 @@ pub record Passed (line : List ℕ) (at : ℕ) (list₀ list : List ℤ) (next c
   pub room : 48 ≤ length list₀
   pub kept : length list ≡ length list₀
   pub few : count ≤ 16
-  pub same : itemsOf 16 (wordsAt line at) ≡ front (take (count * 3) list) (itemsOf (16 - count) (wordsAt line next))
+  pub same : spelledItems 16 (wordsAt line at) ≡ front (take (count * 3) list) (spelledItems (16 - count) (wordsAt line next))
 
 pub passed-none : (line : List ℕ) (at : ℕ) (list : List ℤ) → 48 ≤ length list → Passed line at list list at 0
 passed-none line at list h = record { room = h; kept = refl; few = omega arith; same = front-nil _ }
 
 module _ {line : List ℕ} {at : ℕ} {list₀ list : List ℤ} {next count : ℕ} (p : Passed line at list₀ list next count) where
-  pub passed-end : length line < next → some (take (count * 3) list) ≡ itemsOf 16 (wordsAt line at)
-  unfolding itemsOf
+  pub passed-end : length line < next → some (take (count * 3) list) ≡ spelledItems 16 (wordsAt line at)
+  unfolding spelledItems
   passed-end h = sym (p .same ∙ rw (words-past line next h) (ap some (append-nil (take (count * 3) list))))
 
   module _ (h : next ≤ length line) where
-    pub passed-many : 16 ≤ count → none ≡ itemsOf 16 (wordsAt line at)
-    unfolding itemsOf
+    pub passed-many : 16 ≤ count → none ≡ spelledItems 16 (wordsAt line at)
+    unfolding spelledItems
     passed-many m =
         let z : 16 - count ≡ 0 = omega arith in
         sym (p .same ∙ rw (words-at line next h, z))
 
     module _ (m : count < 16) where
-      pub passed-other : itemOf (wordAt line next) ≡ item.Malformed → none ≡ itemsOf 16 (wordsAt line at)
-      unfolding itemsOf
+      pub passed-other : spelledItem (wordAt line next) ≡ item.Malformed → none ≡ spelledItems 16 (wordsAt line at)
+      unfolding spelledItems
       passed-other e =
           let z : 16 - count ≡ suc (16 - (count + 1)) = omega arith in
           sym (p .same ∙ rw (words-at line next h, z, e))
 
-      pub passed-more : (a b c : ℤ) → itemOf (wordAt line next) ≡ item.Value a b c →
+      pub passed-more : (a b c : ℤ) → spelledItem (wordAt line next) ≡ item.Value a b c →
           Passed line at list₀ (set (set (set list (count * 3) a) (count * 3 + 1) b) (count * 3 + 2) c) (nextWord line next) (count + 1)
-      unfolding itemsOf
+      unfolding spelledItems
       passed-more a b c e =
           let z : 16 - count ≡ suc (16 - (count + 1)) = omega arith in
           let t : (count + 1) * 3 ≡ count * 3 + 3 = omega arith in
@@ -108,5 +108,7 @@ module _ {line : List ℕ} {at : ℕ} {list₀ list : List ℤ} {next count : �
             room = p .room;
             kept = simp length-set (p .kept);
             few = omega arith;
-            same = p .same ∙ rw (words-at line next h, z, e, t, three list (count * 3) a b c (omega (arith, p))) (front-more (take (count * 3) list) a b c (itemsOf (16 - (count + 1)) (wordsAt line (nextWord line next))));
+            same =
+                p .same ∙ rw (words-at line next h, z, e, t, three list (count * 3) a b c (omega (arith, p)))
+                (front-more (take (count * 3) list) a b c (spelledItems (16 - (count + 1)) (wordsAt line (nextWord line next))));
           }

@@ -9,10 +9,10 @@ use mathlib.Core.Option.{Option, none, some}
 use lib.Dec.{eqb}
 use lib.ListN.{length, take, drop, set, getD, length-set, drop-of-length-le}
 use lib.Seq.{drop-cons, take-suc-set, take-all}
-use Rattle.lines.specs.declared.reading.Whole.the-variants as whole
+use Rattle.lines.specs.declared.reading.ReadWhole.the-variants as whole
 use Rattle.lines.specs.Words.{nextWord}
 use Rattle.requests.specs.Words.{wordsAt, wordsBehind}
-use Rattle.requests.specs.Requests.{Values, numberBy, indexBehind, wordsLeft, oneMore, numbersOf}
+use Rattle.requests.specs.Requests.{Values, numberBy, indexBehind, wordsLeft, oneMore, letterNumbers}
 use Rattle.requests.proofs.Words.{first-word, words-behind}
 
 -- numbers in front of others
@@ -40,26 +40,27 @@ pub record Numbered (line letters : List ℕ) (at : ℕ) (values : List ℕ) (ne
   pub four : length letters ≡ 4
   pub room : length values ≡ 4
   pub few : k ≤ 4
-  pub same : numbersOf letters (wordsAt line at) ≡ ahead (take k values) (numbersOf (drop k letters) (wordsAt line next))
+  pub same : letterNumbers letters (wordsAt line at) ≡ ahead (take k values) (letterNumbers (drop k letters) (wordsAt line next))
 
 pub numbered-none : (line letters : List ℕ) (at : ℕ) (values : List ℕ) → length letters ≡ 4 → length values ≡ 4 → Numbered line letters at values at 0
 numbered-none line letters at values e f = record { four = e; room = f; few = omega arith; same = ahead-nil _ }
 
 module _ {line letters : List ℕ} {at : ℕ} {values : List ℕ} {next k : ℕ} (p : Numbered line letters at values next k) where
-  pub numbered-end : 4 ≤ k → some (record { values = values; left = wordsAt line next }) ≡ numbersOf letters (wordsAt line at)
-  unfolding numbersOf
+  pub numbered-end : 4 ≤ k → some (record { values = values; left = wordsAt line next }) ≡ letterNumbers letters (wordsAt line at)
+  unfolding letterNumbers
   numbered-end h =
       let d : drop k letters ≡ [] = drop-of-length-le letters {i = k} (omega (arith, p)) in
       let t : take k values ≡ values = take-all k values (omega (arith, p)) in
       sym (p .same ∙ rw (d, t, append-nil values))
 
   module _ (h : k < 4) where
-    numbered-step : numbersOf letters (wordsAt line at)
-        ≡ ahead (take k values) (oneMore (numberBy (getD letters k 0) line next) (numbersOf (drop (suc k) letters) (wordsAt line (indexBehind (getD letters k 0) line next))))
-    unfolding numbersOf
+    numbered-step : letterNumbers letters (wordsAt line at)
+        ≡ ahead (take k values)
+        (oneMore (numberBy (getD letters k 0) line next) (letterNumbers (drop (suc k) letters) (wordsAt line (indexBehind (getD letters k 0) line next))))
+    unfolding letterNumbers
     numbered-step = p .same ∙ rw (drop-cons letters k 0 (omega (arith, p)), first-word line next, words-left (getD letters k 0) line next)
 
-    pub numbered-other : numberBy (getD letters k 0) line next ≡ whole.Malformed → none ≡ numbersOf letters (wordsAt line at)
+    pub numbered-other : numberBy (getD letters k 0) line next ≡ whole.Malformed → none ≡ letterNumbers letters (wordsAt line at)
     numbered-other e = sym (numbered-step ∙ rw e)
 
     pub numbered-more : (n : ℕ) → numberBy (getD letters k 0) line next ≡ whole.Value n →
@@ -70,5 +71,7 @@ module _ {line letters : List ℕ} {at : ℕ} {values : List ℕ} {next k : ℕ}
           four = p .four;
           room = simp length-set (p .room);
           few = omega arith;
-          same = numbered-step ∙ rw (e, add-one k, take-suc-set values k n l) (ahead-more (take k values) n (numbersOf (drop (suc k) letters) (wordsAt line (indexBehind (getD letters k 0) line next))));
+          same =
+              numbered-step ∙ rw (e, add-one k, take-suc-set values k n l)
+              (ahead-more (take k values) n (letterNumbers (drop (suc k) letters) (wordsAt line (indexBehind (getD letters k 0) line next))));
         }

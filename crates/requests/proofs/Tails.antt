@@ -10,47 +10,48 @@ use lib.ListN.{length, take, drop}
 use lib.Seq.{sets, sets-eq, take-at}
 use borrow.Author.Tests.{ltb-true, ltb-false, not-true}
 use Rattle.number.proofs.Tests.{both}
-use Rattle.lines.specs.declared.reading.Bytes.the-variants as bytes
+use Rattle.lines.specs.declared.reading.ReadBytes.the-variants as bytes
 use Rattle.lines.specs.Words.{wordAt, nextWord}
-use Rattle.lines.specs.Hexadecimal.{hexadecimal, bytesOf, bytesRead, bytesAfter}
-use Rattle.requests.specs.declared.commands.Call.{Call}
-use Rattle.requests.specs.declared.commands.Tail.{Tail}
+use Rattle.lines.specs.Hexadecimal.{hexadecimal, spelledBytes, bytesRead, bytesInto}
+use Rattle.requests.specs.declared.commands.Command.{Command}
+use Rattle.requests.specs.declared.commands.Form.{Form}
 use Rattle.requests.specs.Words.{wordsOf, wordsAt, firstWord, wordsBehind}
-use Rattle.requests.specs.Commands.{callOf, lettersOf, tailOf}
-use Rattle.requests.specs.Requests.{Asked, Values, bad, withNothing, withBytes, withTail, numbersOf, requestOf}
+use Rattle.requests.specs.Commands.{formOf}
+use Rattle.requests.specs.Requests.{Asked, Values, bad, withNothing, withBytes, withTail, letterNumbers, requestOf}
 use Rattle.requests.proofs.Words.{words-at, words-past, word-past, words-all, first-word, words-behind}
 
-module _ (call : Call) (values line : List ℕ) (at : ℕ) where
-  pub nothing-more : at ≤ length line → bad ≡ withNothing call values (wordsAt line at)
+module _ (command : Command) (values line : List ℕ) (at : ℕ) where
+  pub nothing-more : at ≤ length line → bad ≡ withNothing command values (wordsAt line at)
   nothing-more h = rw (words-at line at h)
 
-  pub nothing-left : length line < at → record { call = call; values = values; bytes = []; items = [] } ≡ withNothing call values (wordsAt line at)
+  pub nothing-left : length line < at → record { command = command; values = values; bytes = []; items = [] } ≡ withNothing command values (wordsAt line at)
   nothing-left h = rw (words-past line at h)
 
-  more-by : (t : Bool) → ltb (length line) at ≡ t → nextWord line at ≤ length line → bad ≡ withBytes call values (wordsAt line at)
+  more-by : (t : Bool) → ltb (length line) at ≡ t → nextWord line at ≤ length line → bad ≡ withBytes command values (wordsAt line at)
   more-by true e h =
       let l = ltb-true (length line) at e in
       let m : at ≤ length line = rw e at h in
       absurd (omega arith)
   more-by false e h = rw (words-at line at (ltb-false _ _ e), words-at line (nextWord line at) h)
 
-  pub bytes-more : nextWord line at ≤ length line → bad ≡ withBytes call values (wordsAt line at)
+  pub bytes-more : nextWord line at ≤ length line → bad ≡ withBytes command values (wordsAt line at)
   bytes-more = more-by (ltb (length line) at) refl
 
 -- a word as bytes
-abbrev ofWord : Call → List ℕ → List ℕ → Asked
-ofWord call values w = cond (hexadecimal w && not (ltb 2048 (length w / 2))) (record { call = call; values = values; bytes = bytesOf w; items = [] }) bad
+abbrev ofWord : Command → List ℕ → List ℕ → Asked
+ofWord command values w =
+    cond (hexadecimal w && not (ltb 2048 (length w / 2))) (record { command = command; values = values; bytes = spelledBytes w; items = [] }) bad
 
-module _ (call : Call) (values line : List ℕ) (at : ℕ) (h : length line < nextWord line at) where
-  one-by : (t : Bool) → ltb (length line) at ≡ t → ofWord call values (wordAt line at) ≡ withBytes call values (wordsAt line at)
+module _ (command : Command) (values line : List ℕ) (at : ℕ) (h : length line < nextWord line at) where
+  one-by : (t : Bool) → ltb (length line) at ≡ t → ofWord command values (wordAt line at) ≡ withBytes command values (wordsAt line at)
   one-by true e = rw (e, word-past line at (ltb-true _ _ e))
   one-by false e = rw (words-at line at (ltb-false _ _ e), words-past line (nextWord line at) h)
 
-  one-word : ofWord call values (wordAt line at) ≡ withBytes call values (wordsAt line at)
+  one-word : ofWord command values (wordAt line at) ≡ withBytes command values (wordsAt line at)
   one-word = one-by (ltb (length line) at) refl
 
-length-bytes : (s : List ℕ) → length (bytesOf s) ≡ length s / 2
-unfolding bytesOf
+length-bytes : (s : List ℕ) → length (spelledBytes s) ≡ length s / 2
+unfolding spelledBytes
 length-bytes [] = refl
 length-bytes (a ∷ []) = refl
 length-bytes (a ∷ b ∷ s) =
@@ -68,9 +69,10 @@ never e =
 never-count : {A : Type 0} {n : ℕ} → bytes.Count n ≡ bytes.Malformed → A
 never-count e = never (sym e)
 
-module _ (call : Call) (values v b : List ℕ) (m n : ℕ) where
+module _ (command : Command) (values v b : List ℕ) (m n : ℕ) where
   read-by : (t : Bool) → cond t (bytes.Count m) bytes.Malformed ≡ bytes.Count n → (t ≡ true → take m (sets b 0 v) ≡ v) →
-      record { call = call; values = values; bytes = take n (cond t (sets b 0 v) b); items = [] } ≡ cond t (record { call = call; values = values; bytes = v; items = [] }) bad
+      record { command = command; values = values; bytes = take n (cond t (sets b 0 v) b); items = [] }
+      ≡ cond t (record { command = command; values = values; bytes = v; items = [] }) bad
   read-by true e f =
       let same : m ≡ n = cc in
       rw (← same, f refl)
@@ -83,27 +85,30 @@ other-by a m false e = refl
 small : (n : ℕ) (x : Bool) → x && not (ltb 2048 n) ≡ true → n ≤ 2048
 small n x e = ltb-false _ _ (not-true (ltb 2048 n) (both x (not (ltb 2048 n)) e .1))
 
-module _ (call : Call) (values line : List ℕ) (at : ℕ) (h : length line < nextWord line at) (b : List ℕ) (long : length b ≡ 2048) where
+module _ (command : Command) (values line : List ℕ) (at : ℕ) (h : length line < nextWord line at) (b : List ℕ) (long : length b ≡ 2048) where
   pub bytes-read : (n : ℕ) → bytesRead (wordAt line at) b ≡ bytes.Count n →
-      record { call = call; values = values; bytes = take n (bytesAfter (wordAt line at) b); items = [] } ≡ withBytes call values (wordsAt line at)
+      record { command = command; values = values; bytes = take n (bytesInto (wordAt line at) b); items = [] } ≡ withBytes command values (wordsAt line at)
   bytes-read n e =
       let w : List ℕ = wordAt line at in
-      let f : hexadecimal w && not (ltb 2048 (length w / 2)) ≡ true → take (length w / 2) (sets b 0 (bytesOf w)) ≡ bytesOf w =
+      let f : hexadecimal w && not (ltb 2048 (length w / 2)) ≡ true → take (length w / 2) (sets b 0 (spelledBytes w)) ≡ spelledBytes w =
       λ t.
-      let l : length (bytesOf w) ≤ length b = omega (arith, small (length w / 2) (hexadecimal w) t, length-bytes w) in
-      rw (← length-bytes w) (take-set (bytesOf w) b l)
+      let l : length (spelledBytes w) ≤ length b = omega (arith, small (length w / 2) (hexadecimal w) t, length-bytes w) in
+      rw (← length-bytes w) (take-set (spelledBytes w) b l)
       in
-      rw long (read-by call values (bytesOf w) b (length w / 2) n (hexadecimal w && not (ltb 2048 (length w / 2))) (rw long at e) f) ∙ one-word call values line at h
+      rw long (read-by command values (spelledBytes w) b (length w / 2) n (hexadecimal w && not (ltb 2048 (length w / 2))) (rw long at e) f)
+      ∙ one-word command values line at h
 
-  pub bytes-other : bytesRead (wordAt line at) b ≡ bytes.Malformed → bad ≡ withBytes call values (wordsAt line at)
+  pub bytes-other : bytesRead (wordAt line at) b ≡ bytes.Malformed → bad ≡ withBytes command values (wordsAt line at)
   bytes-other e =
       let w : List ℕ = wordAt line at in
-      other-by (record { call = call; values = values; bytes = bytesOf w; items = [] }) (length w / 2) (hexadecimal w && not (ltb 2048 (length w / 2))) (rw long at e) ∙ one-word call values line at h
+      other-by (record { command = command; values = values; bytes = spelledBytes w; items = [] }) (length w / 2)
+      (hexadecimal w && not (ltb 2048 (length w / 2))) (rw long at e) ∙ one-word command values line at h
 
-module _ (line : List ℕ) (call : Call) (letters : List ℕ) (next : ℕ) (t : Tail) (o : Option Values) where
-  pub request-is : call ≡ callOf (wordAt line 0) → letters ≡ lettersOf call → next ≡ nextWord line 0 → o ≡ numbersOf letters (wordsAt line next) → t ≡ tailOf call → withTail call t o ≡ requestOf line
+module _ (line : List ℕ) (form : Form) (next : ℕ) (o : Option Values) where
+  pub request-is : form ≡ formOf (wordAt line 0) → next ≡ nextWord line 0 → o ≡ letterNumbers (form .letters) (wordsAt line next)
+      → withTail (form .command) (form .tail) o ≡ requestOf line
   unfolding requestOf
-  request-is ec el en eo et =
+  request-is ef en eo =
       let first : firstWord (wordsOf line) ≡ wordAt line 0 = ap firstWord (sym (words-all line)) ∙ first-word line 0 in
       let behind : wordsBehind (wordsOf line) ≡ wordsAt line (nextWord line 0) = ap wordsBehind (sym (words-all line)) ∙ words-behind line 0 in
-      rw (eo, et, el, en, ec, first, behind)
+      rw (eo, en, ef, first, behind)

@@ -1,67 +1,59 @@
--- The console's words (`callOf`), and what follows each: four letters for its numbers (`lettersOf`), and what stands behind them (`tailOf`).
+-- The console's words (`firstForms`, `secondForms`): the form of each, and the form that a word names (`formOf`).
 use Prim.Native.Nat.{ℕ}
+use Prim.Native.String.{String}
 use mathlib.Core.Bool.{cond}
-use mathlib.Core.List.{List}
+use mathlib.Core.List.{List, [], _∷_}
 use Rattle.lines.specs.Ascii.{ascii}
-use Rattle.requests.specs.declared.commands.Call.{Call}
-use Rattle.requests.specs.declared.commands.Call.the-variants.{Load, Write, Drop, Operate, Minor, Carry, Reversals, Rest, Show, Bad}
-use Rattle.requests.specs.declared.commands.Operation.{Operation}
-use Rattle.requests.specs.declared.commands.Operation.the-variants.{Product, Inverse, Converse, Transpose, Submatrix}
+use Rattle.requests.specs.declared.commands.Command.{Command}
+use Rattle.requests.specs.declared.commands.Command.the-variants.{Load, Write, Drop, Product, Inverse, Converse, Transpose, Submatrix}
+use Rattle.requests.specs.declared.commands.Command.the-variants.{Minor, Carry, Reversals, Rest, Show, Bad}
+use Rattle.requests.specs.declared.commands.Form.{Form}
 use Rattle.requests.specs.declared.commands.Tail.{Tail}
-use Rattle.requests.specs.declared.commands.Tail.the-variants.{Nothing, Bytes, Items}
+use Rattle.requests.specs.declared.commands.Tail.the-variants.{None, Bytes, Items}
 use Rattle.requests.specs.Words.{same}
 
-unfoldable pub operationOf : List ℕ → Call
-operationOf w =
-    cond (same w (ascii "product")) (Operate Product)
-    (cond (same w (ascii "inverse")) (Operate Inverse)
-    (cond (same w (ascii "converse")) (Operate Converse)
-    (cond (same w (ascii "transpose")) (Operate Transpose)
-    (cond (same w (ascii "submatrix")) (Operate Submatrix)
-    Bad))))
+-- a word, and its form: a command, the letters of its numbers (P a place, M a mask, C a length to lend, - no number), and what stands behind them
+pub record Entry : Type 0 where
+  pub word : List ℕ
+  pub form : Form
 
--- the call that a word names
-unfoldable pub callOf : List ℕ → Call
-callOf w =
-    cond (same w (ascii "load")) Load
-    (cond (same w (ascii "write")) Write
-    (cond (same w (ascii "drop")) Drop
-    (cond (same w (ascii "minor")) Minor
-    (cond (same w (ascii "carry")) Carry
-    (cond (same w (ascii "reversals")) Reversals
-    (cond (same w (ascii "rest")) Rest
-    (cond (same w (ascii "show")) Show
-    (operationOf w))))))))
+abbrev pub entry : String → Command → String → Tail → Entry
+entry word command letters tail = record { word = ascii word; form = record { command = command; letters = ascii letters; tail = tail } }
 
-abbrev pub operationLetters : Operation → List ℕ
-operationLetters Product = ascii "PPP-"
-operationLetters Inverse = ascii "PP--"
-operationLetters Converse = ascii "PP--"
-operationLetters Transpose = ascii "PP--"
-operationLetters Submatrix = ascii "PMMP"
+abbrev pub firstForms : List Entry
+firstForms =
+    entry "load" Load "P---" Bytes
+    ∷ entry "write" Write "PC--" None
+    ∷ entry "drop" Drop "P---" None
+    ∷ entry "product" Product "PPP-" None
+    ∷ entry "inverse" Inverse "PP--" None
+    ∷ entry "converse" Converse "PP--" None
+    ∷ entry "transpose" Transpose "PP--" None
+    ∷ entry "submatrix" Submatrix "PMMP" None
+    ∷ []
 
--- its numbers: P a place, M a mask, C a length to lend, - no number
-abbrev pub lettersOf : Call → List ℕ
-lettersOf Load = ascii "P---"
-lettersOf Write = ascii "PC--"
-lettersOf Drop = ascii "P---"
-lettersOf (Operate o) = operationLetters o
-lettersOf Minor = ascii "PMM-"
-lettersOf Carry = ascii "PC--"
-lettersOf Reversals = ascii "----"
-lettersOf Rest = ascii "----"
-lettersOf Show = ascii "P---"
-lettersOf Bad = ascii "----"
+abbrev pub secondForms : List Entry
+secondForms =
+    entry "minor" Minor "PMM-" None
+    ∷ entry "carry" Carry "PC--" Items
+    ∷ entry "reversals" Reversals "----" Items
+    ∷ entry "rest" Rest "----" Bytes
+    ∷ entry "show" Show "P---" None
+    ∷ []
 
--- behind them bytes, items or nothing
-abbrev pub tailOf : Call → Tail
-tailOf Load = Bytes
-tailOf Write = Nothing
-tailOf Drop = Nothing
-tailOf (Operate o) = Nothing
-tailOf Minor = Nothing
-tailOf Carry = Items
-tailOf Reversals = Items
-tailOf Rest = Bytes
-tailOf Show = Nothing
-tailOf Bad = Nothing
+-- a word that is none of the console's
+abbrev pub noForm : Form
+noForm = record { command = Bad; letters = ascii "----"; tail = None }
+
+-- one entry: its form where it has the word, else what the entries before it gave
+unfoldable pub entryForm : List ℕ → Form → List ℕ → Form → Form
+entryForm w before word form = cond (same w word) form before
+
+-- the form that some entries give a word, and `before` where none has it
+abbrev pub formFrom : List ℕ → List Entry → Form → Form
+formFrom w [] before = before
+formFrom w (e ∷ es) before = formFrom w es (entryForm w before (e .word) (e .form))
+
+-- the form that a word names
+unfoldable pub formOf : List ℕ → Form
+formOf w = formFrom w secondForms (formFrom w firstForms noForm)

@@ -1,21 +1,16 @@
-// The words of the console, and what follows each.
+// The words of the console, and what follows each: a table of forms.
 ghost use mathlib.Core.Path.{_≡_};
-ghost use Rattle.requests.specs.Words.{same};
-ghost use Rattle.requests.specs.Commands.{callOf, operationOf, lettersOf, operationLetters, tailOf};
+ghost use Rattle.requests.specs.Commands.{firstForms, secondForms, noForm, entryForm, formFrom, formOf};
 
-pub enum Operation {
+pub enum Command {
+    Load,
+    Write,
+    Drop,
     Product,
     Inverse,
     Converse,
     Transpose,
     Submatrix,
-}
-
-pub enum Call {
-    Load,
-    Write,
-    Drop,
-    Operate(Operation),
     Minor,
     Carry,
     Reversals,
@@ -27,112 +22,77 @@ pub enum Call {
 
 // What stands behind the numbers of a request.
 pub enum Tail {
-    Nothing,
+    None,
     Bytes,
     Items,
 }
 
-fn is(word: &[u8], name: &[u8]) -> bool
-    ensures { λ r. ⌜ r ≡ same (now (word .entry)) (now (name .entry)) ⌝ }
-{
-    check::same(word, name)
+// A command, the letters of its numbers (P a place, M a mask, C a length to lend, - no number), and what stands behind them.
+pub struct Form {
+    pub command: Command,
+    pub letters: [u8; 4],
+    pub tail: Tail,
 }
 
-fn operation_of(word: &[u8]) -> Call
-    ensures { λ r. ⌜ r ≡ operationOf (now (word .entry)) ⌝ }
+// One entry of the table: its form where the word is its name, else what the entries before it gave.
+fn named(
+    word: &[u8],
+    before: Form,
+    name: &[u8],
+    command: Command,
+    letters: &[u8; 4],
+    tail: Tail,
+) -> Form
+    ensures { λ r. ⌜ r ≡ entryForm (now (word .entry)) before (now (name .entry))
+        (record { command = command; letters = now (letters .entry); tail = tail }) ⌝ }
 {
-    if is(word, b"product") {
-        return Call::Operate(Operation::Product);
+    if check::same(word, name) {
+        let spelled = *letters;
+        return Form {
+            command,
+            letters: spelled,
+            tail,
+        };
     }
-    if is(word, b"inverse") {
-        return Call::Operate(Operation::Inverse);
-    }
-    if is(word, b"converse") {
-        return Call::Operate(Operation::Converse);
-    }
-    if is(word, b"transpose") {
-        return Call::Operate(Operation::Transpose);
-    }
-    if is(word, b"submatrix") {
-        return Call::Operate(Operation::Submatrix);
-    }
-    Call::Bad
+    before
 }
 
-// The call that a word names.
-pub fn call_of(word: &[u8]) -> Call
-    ensures { λ r. ⌜ r ≡ callOf (now (word .entry)) ⌝ }
+fn first_forms(w: &[u8], before: Form) -> Form
+    ensures { λ r. ⌜ r ≡ formFrom (now (w .entry)) firstForms before ⌝ }
 {
-    if is(word, b"load") {
-        return Call::Load;
-    }
-    if is(word, b"write") {
-        return Call::Write;
-    }
-    if is(word, b"drop") {
-        return Call::Drop;
-    }
-    if is(word, b"minor") {
-        return Call::Minor;
-    }
-    if is(word, b"carry") {
-        return Call::Carry;
-    }
-    if is(word, b"reversals") {
-        return Call::Reversals;
-    }
-    if is(word, b"rest") {
-        return Call::Rest;
-    }
-    if is(word, b"show") {
-        return Call::Show;
-    }
-    operation_of(word)
+    let f = named(w, before, b"load", Command::Load, b"P---", Tail::Bytes);
+    let f = named(w, f, b"write", Command::Write, b"PC--", Tail::None);
+    let f = named(w, f, b"drop", Command::Drop, b"P---", Tail::None);
+    let f = named(w, f, b"product", Command::Product, b"PPP-", Tail::None);
+    let f = named(w, f, b"inverse", Command::Inverse, b"PP--", Tail::None);
+    let f = named(w, f, b"converse", Command::Converse, b"PP--", Tail::None);
+    let f = named(w, f, b"transpose", Command::Transpose, b"PP--", Tail::None);
+    named(w, f, b"submatrix", Command::Submatrix, b"PMMP", Tail::None)
 }
 
-fn operation_letters(operation: Operation) -> [u8; 4]
-    ensures { λ r. ⌜ r ≡ operationLetters operation ⌝ }
+fn second_forms(w: &[u8], before: Form) -> Form
+    ensures { λ r. ⌜ r ≡ formFrom (now (w .entry)) secondForms before ⌝ }
 {
-    match operation {
-        Operation::Product => [b'P', b'P', b'P', b'-'],
-        Operation::Inverse => [b'P', b'P', b'-', b'-'],
-        Operation::Converse => [b'P', b'P', b'-', b'-'],
-        Operation::Transpose => [b'P', b'P', b'-', b'-'],
-        Operation::Submatrix => [b'P', b'M', b'M', b'P'],
+    let f = named(w, before, b"minor", Command::Minor, b"PMM-", Tail::None);
+    let f = named(w, f, b"carry", Command::Carry, b"PC--", Tail::Items);
+    let f = named(w, f, b"reversals", Command::Reversals, b"----", Tail::Items);
+    let f = named(w, f, b"rest", Command::Rest, b"----", Tail::Bytes);
+    named(w, f, b"show", Command::Show, b"P---", Tail::None)
+}
+
+fn no_form() -> Form
+    ensures { λ r. ⌜ r ≡ noForm ⌝ }
+{
+    Form {
+        command: Command::Bad,
+        letters: [b'-'; 4],
+        tail: Tail::None,
     }
 }
 
-// The numbers that follow a word: P a place, M a mask, C a length to lend.
-pub fn letters_of(call: Call) -> [u8; 4]
-    ensures { λ r. ⌜ r ≡ lettersOf call ⌝ }
+// The form that a word names.
+pub fn form_of(word: &[u8]) -> Form
+    ensures { λ r. ⌜ r ≡ formOf (now (word .entry)) ⌝ }
 {
-    match call {
-        Call::Load => [b'P', b'-', b'-', b'-'],
-        Call::Write => [b'P', b'C', b'-', b'-'],
-        Call::Drop => [b'P', b'-', b'-', b'-'],
-        Call::Operate(operation) => operation_letters(operation),
-        Call::Minor => [b'P', b'M', b'M', b'-'],
-        Call::Carry => [b'P', b'C', b'-', b'-'],
-        Call::Reversals => [b'-', b'-', b'-', b'-'],
-        Call::Rest => [b'-', b'-', b'-', b'-'],
-        Call::Show => [b'P', b'-', b'-', b'-'],
-        Call::Bad => [b'-', b'-', b'-', b'-'],
-    }
-}
-
-pub fn tail_of(call: Call) -> Tail
-    ensures { λ r. ⌜ r ≡ tailOf call ⌝ }
-{
-    match call {
-        Call::Load => Tail::Bytes,
-        Call::Write => Tail::Nothing,
-        Call::Drop => Tail::Nothing,
-        Call::Operate(_) => Tail::Nothing,
-        Call::Minor => Tail::Nothing,
-        Call::Carry => Tail::Items,
-        Call::Reversals => Tail::Items,
-        Call::Rest => Tail::Bytes,
-        Call::Show => Tail::Nothing,
-        Call::Bad => Tail::Nothing,
-    }
+    second_forms(word, first_forms(word, no_form()))
 }

@@ -4,18 +4,18 @@ ghost use Prim.Native.Nat.{_+_, _-_, _≤_, _^_};
 ghost use lib.IntN.{pos, negℤ};
 ghost use lib.ListN.{length, drop};
 ghost use Rattle.requests.specs.Words.{wordsAt};
-ghost use Rattle.requests.specs.Items.{numberOf, itemBy, itemOf, itemsOf, itemsRead};
-use lines::Signed;
-use lists::whole;
+ghost use Rattle.requests.specs.Items.{spelledNumber, spelledBy, spelledItem, spelledItems, itemsRead};
+use lines::ReadSigned;
+use number::integer;
 
 const MOST: usize = 16;
 
-pub enum Number {
+pub enum ReadNumber {
     Value(i64),
     Malformed,
 }
 
-pub enum Item {
+pub enum ReadItem {
     Value {
         sign: i64,
         mantissa: i64,
@@ -24,7 +24,7 @@ pub enum Item {
     Malformed,
 }
 
-pub enum Items {
+pub enum ReadItems {
     Count(usize),
     Malformed,
 }
@@ -33,7 +33,7 @@ fn positive(size: u64) -> i64
     requires { ⌜ size ≤ 2 ^ 63 - 1 ⌝ }
     ensures { λ r. ⌜ r ≡ pos size ⌝ }
 {
-    whole::plus(size)
+    integer::plus(size)
 }
 
 // The least number of 64 bits is alone in having no counterpart.
@@ -44,37 +44,37 @@ fn negative(size: u64) -> i64
     if size == 0x8000_0000_0000_0000 {
         return -0x8000_0000_0000_0000;
     }
-    whole::minus(size)
+    integer::minus(size)
 }
 
 // The number of 64 bits with a sign that a part of an item spells.
-fn number_of(s: &[u8]) -> Number
-    ensures { λ r. ⌜ r ≡ numberOf (now (s .entry)) ⌝ }
+fn spelled_number(s: &[u8]) -> ReadNumber
+    ensures { λ r. ⌜ r ≡ spelledNumber (now (s .entry)) ⌝ }
 {
     let read = lines::read_signed(s);
     match read {
-        Signed::Plus(n) => Number::Value(positive(n)),
-        Signed::Minus(n) => Number::Value(negative(n)),
-        Signed::Malformed => Number::Malformed,
+        ReadSigned::Plus(n) => ReadNumber::Value(positive(n)),
+        ReadSigned::Minus(n) => ReadNumber::Value(negative(n)),
+        ReadSigned::Malformed => ReadNumber::Malformed,
     }
 }
 
-fn joined(first: Number, second: Number, third: Number) -> Item
-    ensures { λ r. ⌜ r ≡ itemBy first second third ⌝ }
+fn spelled_by(first: ReadNumber, second: ReadNumber, third: ReadNumber) -> ReadItem
+    ensures { λ r. ⌜ r ≡ spelledBy first second third ⌝ }
 {
     match first {
-        Number::Value(sign) => match second {
-            Number::Value(mantissa) => match third {
-                Number::Value(exponent) => Item::Value {
+        ReadNumber::Value(sign) => match second {
+            ReadNumber::Value(mantissa) => match third {
+                ReadNumber::Value(exponent) => ReadItem::Value {
                     sign,
                     mantissa,
                     exponent,
                 },
-                Number::Malformed => Item::Malformed,
+                ReadNumber::Malformed => ReadItem::Malformed,
             },
-            Number::Malformed => Item::Malformed,
+            ReadNumber::Malformed => ReadItem::Malformed,
         },
-        Number::Malformed => Item::Malformed,
+        ReadNumber::Malformed => ReadItem::Malformed,
     }
 }
 
@@ -89,32 +89,32 @@ fn behind(s: &[u8], n: usize) -> &[u8]
 }
 
 // The call judges an item: a negative mantissa is passed on too. Where a comma lacks, a part is empty and no number.
-fn item_of(word: &[u8]) -> Item
-    ensures { λ r. ⌜ r ≡ itemOf (now (word .entry)) ⌝ }
+fn spelled_item(word: &[u8]) -> ReadItem
+    ensures { λ r. ⌜ r ≡ spelledItem (now (word .entry)) ⌝ }
 {
     let a = lines::before(word, b',');
     let rest = behind(word, a);
     let b = lines::before(rest, b',');
-    let first = number_of(&word[0..a]);
-    let second = number_of(&rest[0..b]);
-    let third = number_of(behind(rest, b));
-    joined(first, second, third)
+    let first = spelled_number(&word[0..a]);
+    let second = spelled_number(&rest[0..b]);
+    let third = spelled_number(behind(rest, b));
+    spelled_by(first, second, third)
 }
 
 // Reads each word from an index on as an item, and puts its numbers behind those before it.
-pub fn read(line: &[u8], at: usize, list: &mut [i64]) -> Items
+pub fn read(line: &[u8], at: usize, list: &mut [i64]) -> ReadItems
     requires { ⌜ 48 ≤ length (now list) ⌝ }
-    ensures { λ r. ⌜ itemsRead (now (list .exit)) r ≡ itemsOf 16 (wordsAt (now (line .entry)) at) ⌝ }
+    ensures { λ r. ⌜ itemsRead (now (list .exit)) r ≡ spelledItems 16 (wordsAt (now (line .entry)) at) ⌝ }
 {
     let mut next = at;
     let mut count: usize = 0;
     while next <= line.len() {
         if MOST <= count {
-            return Items::Malformed;
+            return ReadItems::Malformed;
         }
-        let item = item_of(lines::word(line, next));
+        let item = spelled_item(lines::word(line, next));
         match item {
-            Item::Value {
+            ReadItem::Value {
                 sign,
                 mantissa,
                 exponent,
@@ -123,12 +123,12 @@ pub fn read(line: &[u8], at: usize, list: &mut [i64]) -> Items
                 list[count * 3 + 1] = mantissa;
                 list[count * 3 + 2] = exponent;
             }
-            Item::Malformed => {
-                return Items::Malformed;
+            ReadItem::Malformed => {
+                return ReadItems::Malformed;
             }
         }
         next = lines::next_word(line, next);
         count += 1;
     }
-    Items::Count(count)
+    ReadItems::Count(count)
 }

@@ -3,25 +3,27 @@ ghost use mathlib.Core.Path.{_≡_};
 ghost use lib.ListN.{length};
 ghost use Prim.Native.Nat.{_≤_};
 ghost use Rattle.requests.specs.Words.{wordsAt};
-ghost use Rattle.requests.specs.Requests.{most, numberBy, indexBehind, numbersOf, numbersRead, asked, Asks, AsksBytes, AsksItems, bad, withNothing, withBytes, withItems, requestOf};
+ghost use Rattle.requests.specs.Requests.{most, numberBy, indexBehind, letterNumbers, numbersRead, asked, Asks, AsksBytes, AsksItems};
+ghost use Rattle.requests.specs.Requests.{bad, withNothing, withBytes, withItems, withTail, requestOf};
 use crate::commands;
-use crate::commands::Call;
+use crate::commands::Command;
+use crate::commands::Form;
 use crate::commands::Tail;
 use crate::items;
-use lines::Bytes;
-use lines::Whole;
+use lines::ReadBytes;
+use lines::ReadWhole;
 
 // The numbers of a line, if all were read, and where the next word starts.
 pub struct Numbers {
     pub well: bool,
-    pub values: [u64; 4],
+    pub values: [usize; 4],
     pub next: usize,
 }
 
-// A call, its numbers, and how many bytes and items follow.
+// A command, its numbers, and how many bytes and items follow.
 pub struct Request {
-    pub call: Call,
-    pub values: [u64; 4],
+    pub command: Command,
+    pub values: [usize; 4],
     pub bytes: usize,
     pub items: usize,
 }
@@ -40,11 +42,11 @@ fn most(letter: u8) -> u64
 }
 
 // The number of a letter, in the word at an index; 0 where the letter asks for none.
-fn number_at(line: &[u8], at: usize, letter: u8) -> Whole
+fn number_at(line: &[u8], at: usize, letter: u8) -> ReadWhole
     ensures { λ r. ⌜ r ≡ numberBy letter (now (line .entry)) at ⌝ }
 {
     if letter == b'-' {
-        return Whole::Value(0);
+        return ReadWhole::Value(0);
     }
     lines::read_whole(lines::word(line, at), most(letter))
 }
@@ -60,18 +62,18 @@ fn behind(line: &[u8], at: usize, letter: u8) -> usize
 
 // The numbers that the letters ask for, from an index on.
 fn read_numbers(line: &[u8], letters: [u8; 4], at: usize) -> Numbers
-    ensures { λ r. ⌜ numbersRead (now (line .entry)) r ≡ numbersOf letters (wordsAt (now (line .entry)) at) ⌝ }
+    ensures { λ r. ⌜ numbersRead (now (line .entry)) r ≡ letterNumbers letters (wordsAt (now (line .entry)) at) ⌝ }
 {
-    let mut values = [0u64; 4];
+    let mut values = [0usize; 4];
     let mut next = at;
     for k in 0..4usize {
         let letter = letters[k];
         let number = number_at(line, next, letter);
         match number {
-            Whole::Value(n) => {
-                values[k] = n;
+            ReadWhole::Value(n) => {
+                values[k] = n as usize;
             }
-            Whole::Malformed => {
+            ReadWhole::Malformed => {
                 return Numbers {
                     well: false,
                     values,
@@ -92,22 +94,22 @@ fn bad() -> Request
     ensures { λ r. ⌜ Asks r bad ⌝ }
 {
     Request {
-        call: Call::Bad,
-        values: [0u64; 4],
+        command: Command::Bad,
+        values: [0usize; 4],
         bytes: 0,
         items: 0,
     }
 }
 
 // No word is left.
-fn with_nothing(line: &[u8], call: Call, values: [u64; 4], at: usize) -> Request
-    ensures { λ r. ⌜ Asks r (withNothing call values (wordsAt (now (line .entry)) at)) ⌝ }
+fn with_nothing(line: &[u8], command: Command, values: [usize; 4], at: usize) -> Request
+    ensures { λ r. ⌜ Asks r (withNothing command values (wordsAt (now (line .entry)) at)) ⌝ }
 {
     if at <= line.len() {
         return bad();
     }
     Request {
-        call,
+        command,
         values,
         bytes: 0,
         items: 0,
@@ -115,39 +117,75 @@ fn with_nothing(line: &[u8], call: Call, values: [u64; 4], at: usize) -> Request
 }
 
 // The last word as bytes.
-fn with_bytes(line: &[u8], call: Call, values: [u64; 4], at: usize, bytes: &mut [u8]) -> Request
+fn with_bytes(
+    line: &[u8],
+    command: Command,
+    values: [usize; 4],
+    at: usize,
+    bytes: &mut [u8],
+) -> Request
     requires { ⌜ length (now bytes) ≡ 2048 ⌝ }
-    ensures { λ r. ⌜ AsksBytes r (now (bytes .exit)) (withBytes call values (wordsAt (now (line .entry)) at)) ⌝ }
+    ensures { λ r. ⌜ AsksBytes r (now (bytes .exit)) (withBytes command values (wordsAt (now (line .entry)) at)) ⌝ }
 {
     if lines::next_word(line, at) <= line.len() {
         return bad();
     }
     let read = lines::read_bytes(lines::word(line, at), bytes);
     match read {
-        Bytes::Count(n) => Request {
-            call,
+        ReadBytes::Count(n) => Request {
+            command,
             values,
             bytes: n,
             items: 0,
         },
-        Bytes::Malformed => bad(),
+        ReadBytes::Malformed => bad(),
     }
 }
 
 // The words that are left as items.
-fn with_items(line: &[u8], call: Call, values: [u64; 4], at: usize, list: &mut [i64]) -> Request
+fn with_items(
+    line: &[u8],
+    command: Command,
+    values: [usize; 4],
+    at: usize,
+    list: &mut [i64],
+) -> Request
     requires { ⌜ 48 ≤ length (now list) ⌝ }
-    ensures { λ r. ⌜ AsksItems r (now (list .exit)) (withItems call values (wordsAt (now (line .entry)) at)) ⌝ }
+    ensures { λ r. ⌜ AsksItems r (now (list .exit)) (withItems command values (wordsAt (now (line .entry)) at)) ⌝ }
 {
     let read = items::read(line, at, list);
     match read {
-        items::Items::Count(n) => Request {
-            call,
+        items::ReadItems::Count(n) => Request {
+            command,
             values,
             bytes: 0,
             items: n,
         },
-        items::Items::Malformed => bad(),
+        items::ReadItems::Malformed => bad(),
+    }
+}
+
+// The request of a form whose numbers were read, with what stands behind them.
+fn with_tail(
+    line: &[u8],
+    form: Form,
+    read: Numbers,
+    bytes: &mut [u8; 2048],
+    list: &mut [i64; 48],
+) -> Request
+    ensures { λ r. ⌜ asked r (now (bytes .exit)) (now (list .exit)) ≡ withTail (form .command) (form .tail) (numbersRead (now (line .entry)) read) ⌝ }
+{
+    if !read.well {
+        return bad();
+    }
+    let command = form.command;
+    let tail = form.tail;
+    let values = read.values;
+    let next = read.next;
+    match tail {
+        Tail::Bytes => with_bytes(line, command, values, next, bytes),
+        Tail::Items => with_items(line, command, values, next, list),
+        Tail::None => with_nothing(line, command, values, next),
     }
 }
 
@@ -155,17 +193,8 @@ fn with_items(line: &[u8], call: Call, values: [u64; 4], at: usize, list: &mut [
 pub fn of_line(line: &[u8], bytes: &mut [u8; 2048], list: &mut [i64; 48]) -> Request
     ensures { λ r. ⌜ asked r (now (bytes .exit)) (now (list .exit)) ≡ requestOf (now (line .entry)) ⌝ }
 {
-    let call = commands::call_of(lines::word(line, 0));
-    let read = read_numbers(line, commands::letters_of(call), lines::next_word(line, 0));
-    if !read.well {
-        return bad();
-    }
-    let values = read.values;
-    let next = read.next;
-    let tail = commands::tail_of(call);
-    match tail {
-        Tail::Bytes => with_bytes(line, call, values, next, bytes),
-        Tail::Items => with_items(line, call, values, next, list),
-        Tail::Nothing => with_nothing(line, call, values, next),
-    }
+    let form = commands::form_of(lines::word(line, 0));
+    let letters = form.letters;
+    let read = read_numbers(line, letters, lines::next_word(line, 0));
+    with_tail(line, form, read, bytes, list)
 }

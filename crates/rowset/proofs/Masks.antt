@@ -91,12 +91,14 @@ unfolding put maskOf
 maskOf-put i x [] h l = absurd (omega arith)
 maskOf-put i x (y ∷ S) h l = elim (ℕ-discrete i (suc (length S))) [
   | yes e ↦ rw (eq-eqb i (suc (length S)) e, e) (put-top x y (length S) (maskOf S) (maskOf-below S))
-  | no e ↦ rw (ne-eqb i (suc (length S)) e, length-put i x S, maskOf-put i x S h (omega arith)) (put-under x y (length S) (maskOf S) i (maskOf-below S) h (omega arith))
+  | no e ↦ rw (ne-eqb i (suc (length S)) e, length-put i x S, maskOf-put i x S h (omega arith))
+      (put-under x y (length S) (maskOf S) i (maskOf-below S) h (omega arith))
 ]
 
 module _ (n s : ℕ) (b : s < 2 ^ n) where
   put-is : (i : ℕ) (x : Bool) → 1 ≤ i → i ≤ n → maskPut i x s ≡ maskOf (put i x (ofMask n s))
-  put-is i x h l = let e : i ≤ length (ofMask n s) = rw (ofMask-length n s) l in ap (maskPut i x) (sym (mask-back n s b)) ∙ sym (maskOf-put i x (ofMask n s) h e)
+  put-is i x h l =
+      let e : i ≤ length (ofMask n s) = rw (ofMask-length n s) l in ap (maskPut i x) (sym (mask-back n s b)) ∙ sym (maskOf-put i x (ofMask n s) h e)
 
   pub mask-put : (i : ℕ) (x : Bool) → 1 ≤ i → i ≤ n → ofMask n (maskPut i x s) ≡ put i x (ofMask n s)
   mask-put i x h l =

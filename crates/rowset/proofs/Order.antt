@@ -116,7 +116,12 @@ set-at k p l h =
     let g : p < length (those k 0 256) = rw (those-count k 256) h in
     let e : getD (table 0 9) (before 0 k + p) 0 ≡ getD (those k 0 256) p 0 = rw z at (table-at 0 9 k p (omega arith) (rw z g)) in
     let s = those-at k 0 256 p g in
-    rw e (record { below = omega (arith, s .below); rows = s .rows; position = position-counts k (getD (those k 0 256) p 0) (s .rows) ∙ omega (arith, s .before, none-below k) })
+    rw e (record {
+      below = omega (arith, s .below);
+      rows = s .rows;
+      position = position-counts k (getD (those k 0 256) p 0) (s .rows)
+          ∙ omega (arith, s .before, none-below k);
+    })
 
 fits : ℕ → Bool
 fits k = leb (before 0 k + length (those k 0 256)) 256

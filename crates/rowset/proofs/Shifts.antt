@@ -120,7 +120,8 @@ module _ {p s i r k : ℕ} (g : Gathered p s i r k) where
       let x : Bool = maskHas (suc k) s in
       let d : bitAnd (s / 2 ^ k) 1 ≡ digit x = and-mask (s / 2 ^ k) 1 ∙ sym (digit-suc k s) in
       let e : bitOr r (bitAnd (s / 2 ^ k) 1 * 2 ^ i % 2 ^ 64) ≡ digit x * 2 ^ i + r =
-      ap (λ y. bitOr r (y * 2 ^ i % 2 ^ 64)) d ∙ ap (bitOr r) (shl-exact 1 i 64 (digit-lt x) (omega arith)) ∙ or-shifted-r (digit x) i r (rw (g .set) (amongTo-below i p s)) in
+      ap (λ y. bitOr r (y * 2 ^ i % 2 ^ 64)) d ∙ ap (bitOr r) (shl-exact 1 i 64 (digit-lt x) (omega arith))
+      ∙ or-shifted-r (digit x) i r (rw (g .set) (amongTo-below i p s)) in
       rw (add-one i) (record {
         set = e ∙ rw (bit-in p i t, ← g .rows, ← g .set) refl;
         rows = rw (bit-in p i t) (omega (arith, g .rows));

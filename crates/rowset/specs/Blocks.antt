@@ -1,4 +1,5 @@
 -- A table on the way (Filled): its sets and positions stand, and of its blocks, taken by the lower of their two rows, the first entries.
+-- Only the step that fills two blocks promises it, and a contract cites specs alone: it stands here for that, and no caller reads it.
 use mathlib.Core.Path.{_≡_}
 use mathlib.Core.List.{List}
 use Prim.Native.Nat.{ℕ, _+_, _-_, _*_, _^_, _<_, min}

@@ -8,6 +8,7 @@ use lib.Dec.{eqb, leb}
 use lib.ListN.{length}
 use Rattle.words.specs.RowSet.{RowSet}
 
+-- a digit of a mask
 abbrev pub digit : Bool → ℕ
 digit true = 1
 digit false = 0
@@ -37,6 +38,7 @@ unfoldable pub countTo : ℕ → ℕ → ℕ
 countTo zero s = 0
 countTo (suc n) s = digit (maskHas (suc n) s) + countTo n s
 
+-- how many rows s has, of eight
 unfoldable pub maskCount : ℕ → ℕ
 maskCount s = countTo 8 s
 
@@ -58,6 +60,7 @@ unfoldable pub amongTo : ℕ → ℕ → ℕ → ℕ
 amongTo zero p s = 0
 amongTo (suc n) p s = digit (maskHas (suc n) p && maskHas (suc (countTo n p)) s) * 2 ^ n + amongTo n p s
 
+-- s as a set of all eight rows
 unfoldable pub maskAmong : ℕ → ℕ → ℕ
 maskAmong p s = amongTo 8 p s
 

@@ -67,6 +67,7 @@ blockOf a o = cond (ltb a o) (a - 1) (a + 5)
 pub record Paired (n : ℕ) (t : List ℕ) : Type 0 where
   pub entry : (a o m : ℕ) → Neighbours n a o → m < 2 ^ (n - 2) → getD t (512 + (blockOf a o * 64 + m)) 0 ≡ positionOf (changedOf a o m)
 
+-- all three: the sets, their positions, and the blocks for n rows
 pub record Tables (n : ℕ) (t : List ℕ) : Type 0 where
   pub listed : Listed t
   pub placed : Placed t

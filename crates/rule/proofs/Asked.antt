@@ -1,5 +1,5 @@
 -- The minors that the formulas ask for: at masks that the walk takes (asked-ready), as the definition has them and fit to be multiplied and divided by
--- (asked-answer, chosen-usable); of consecutive rows (run-ready, run-answer). The new factors over them (refactored-is).
+-- (asked-answer, chosen-usable); of consecutive rows (run-ready, run-answer).
 use mathlib.Core.Path.{_≡_, refl, sym, ap, ap₂, _∙_, subst}
 use mathlib.Core.List.{List, []}
 use Prim.Native.Nat.{ℕ, suc, _+_, _-_, _*_, _^_, _≤_, _<_}
@@ -16,18 +16,16 @@ use Rattle.rowset.proofs.Masks.{ofMask-length}
 use Rattle.rowset.proofs.Counts.{mask-count, mask-among, among-below, among-count, mask-run, run-count, run-below}
 use Rattle.words.specs.RowSet.{RowSet, count, among, rows, ofMask}
 use Rattle.words.specs.Walk.{minor}
-use Rattle.words.specs.Formula.{newFactor}
-use Rattle.words.specs.Operation.{joinedWord, refactored}
+use Rattle.words.specs.Operation.{joinedWord}
 use Rattle.words.proofs.Chosen.{length-among}
 use Rattle.words.specs.Sources.{StoredSteps}
-use Rattle.words.proofs.Exponents.{walk-ranged}
+use Rattle.words.proofs.Exponents.{steps-walkable, walk-ranged}
 use Rattle.walk.specs.Lent.{AllSpelled, numbered, stepAt, stepsOf}
-use Rattle.walk.specs.Table.{tableOf}
 use Rattle.walk.proofs.Minors.{rows-few}
 use Rattle.rule.specs.declared.Chosen.{Chosen}
-use Rattle.rule.specs.Chosen.{sizeOf, chosenRows, chosenColumns, chosenMinor, chosenFactors, Proper, Lent, Usable}
+use Rattle.rule.specs.Chosen.{sizeOf, chosenRows, chosenColumns, chosenMinor, Workable, Lent, Usable}
 
-module _ (c : Chosen) {f : List ℕ} (P : Proper c f) where
+module _ (c : Chosen) {f : List ℕ} (P : Workable c f) where
   few-masks : 2 ^ c .word .n ≤ 2 ^ 8
   few-masks = pow-mono (P .few)
 
@@ -65,7 +63,8 @@ module _ (c : Chosen) {f : List ℕ} (P : Proper c f) where
       let s : length (stepsOf (c .word) f) * (c .word .n * c .word .n) ≤ 6 * (8 * 8) = mul-le-mul steps-few (mul-le-mul (P .few) (P .few)) in
       record {
         ranged = ranged-more (omega arith)
-            (walk-ranged (c .word .n) (stepsOf (c .word) f) (P .stored) (P .some) [] (joinedWord (c .word .n) (stepsOf (c .word) f)) refl (omega arith)
+            (walk-ranged (c .word .n) (stepsOf (c .word) f) (steps-walkable (c .word .n) (stepsOf (c .word) f) (P .stored)) (P .some) []
+            (joinedWord (c .word .n) (stepsOf (c .word) f)) refl (omega arith)
             (among (chosenColumns c) J) (among (chosenRows c) I)
             (length-among (chosenRows c) I (li ∙ sym chosen-count) ∙ ofMask-length (c .word .n) (c .rows)));
         nonzero = P .regular .nonzero I J li lj e;
@@ -100,7 +99,7 @@ module _ (c : Chosen) {f : List ℕ} (P : Proper c f) where
 
   -- CONSECUTIVE ROWS a .. b and columns 1 .. m, s and t their masks
   module _ (a b m s t : ℕ) (ha : 1 ≤ a) (lb : b ≤ sizeOf c) (e : b + 1 ≡ a + m) (es : s ≡ maskRun a b) (et : t ≡ maskRun 1 m) where
-    pub run-ready : Proper c f × (s < 2 ^ sizeOf c) × (t < 2 ^ sizeOf c) × (maskCount s ≡ maskCount t)
+    pub run-ready : Workable c f × (s < 2 ^ sizeOf c) × (t < 2 ^ sizeOf c) × (maskCount s ≡ maskCount t)
     run-ready =
         let k = size-few in
         let p : suc b - a ≡ m = omega arith in
@@ -118,10 +117,3 @@ module _ (c : Chosen) {f : List ℕ} (P : Proper c f) where
         let k = size-few in
         q ∙ ap₂ M (ap (ofMask (sizeOf c)) es ∙ mask-run (sizeOf c) a b k (omega arith) (omega arith))
         (ap (ofMask (sizeOf c)) et ∙ mask-run (sizeOf c) 1 m k (omega arith) (omega arith))
-
-  -- THE NEW FACTORS over the chosen minors
-  pub refactored-is : (k : ℕ) → k ≡ sizeOf c → tableOf k (newFactor rounded k (chosenMinor c f)) ≡ tableOf (sizeOf c) (chosenFactors c f)
-  unfolding refactored chosenMinor
-  refactored-is k e =
-      ap (λ (m : ℕ). tableOf m (newFactor rounded m (chosenMinor c f))) e
-      ∙ ap (λ (m : ℕ). tableOf (sizeOf c) (newFactor rounded m (chosenMinor c f))) (sym chosen-count)

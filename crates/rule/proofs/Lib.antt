@@ -1,4 +1,3 @@
 pub mod Asked
 pub mod Quotients
-pub mod Tables
-pub mod Operations
+pub mod StepBounds

@@ -8,7 +8,7 @@ use Rattle.number.specs.declared.Number.{Number}
 use Rattle.number.proofs.Reach.{ranged-more}
 use Rattle.number.proofs.Zero.{product-positive}
 use Rattle.words.specs.RowSet.{RowSet, rows}
-use Rattle.words.specs.Formula.{runBefore, belowDiagonal}
+use Rattle.words.specs.Formula.{justBefore, belowDiagonal}
 use Rattle.words.proofs.Formulas.{corner-is, corner-before, before-is}
 use Rattle.words.specs.Sources.{runReach}
 use Rattle.words.proofs.Exponents.{product-ranged}
@@ -28,9 +28,10 @@ module _ (k i j : ℕ) (M : RowSet → RowSet → Number) (low : 1 ≤ j) (order
   pub below-answer : {corner before run above p q r : Number} → corner ≡ M (rows k (i - j + 1) i) (rows k 1 j)
       → before ≡ M (rows k (i - j) (i - 2)) (rows k 1 (j - 1))
       → run ≡ M (rows k (i - j + 1) (i - 1)) (rows k 1 (j - 1)) → above ≡ M (rows k (i - j) (i - 1)) (rows k 1 j)
-      → p ≡ productOf corner before → q ≡ productOf run above → r ≡ quotientOf p q → r ≡ belowDiagonal rounded k (runBefore k) M i j
+      → p ≡ productOf corner before → q ≡ productOf run above → r ≡ quotientOf p q → r ≡ belowDiagonal rounded k (justBefore k) M i j
   unfolding belowDiagonal
   below-answer ec eb er ea ep eq e =
       e ∙ ap₂ quotientOf
-      (ep ∙ ap₂ productOf (ec ∙ ap (λ (S : RowSet). M S (rows k 1 j)) (sym (corner-is k i j low order high))) (eb ∙ ap (λ (S : RowSet). M S (rows k 1 (j - 1))) (sym (before-is k i j low order high))))
+      (ep ∙ ap₂ productOf (ec ∙ ap (λ (S : RowSet). M S (rows k 1 j)) (sym (corner-is k i j low order high)))
+      (eb ∙ ap (λ (S : RowSet). M S (rows k 1 (j - 1))) (sym (before-is k i j low order high))))
       (eq ∙ ap₂ productOf er (ea ∙ ap (λ (S : RowSet). M S (rows k 1 j)) (sym (corner-before k i j low order high))))

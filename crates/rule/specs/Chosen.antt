@@ -1,9 +1,9 @@
 -- A joined word with chosen rows and columns as the code holds it: the minors that the formulas ask for (chosenMinor), and the new factors (chosenFactors).
--- When the rule can be run (Proper): none of these minors is zero (Regular). What a run of it is lent (Lent).
+-- When the rule can be run (Workable): none of these minors is zero (Regular). What a run of it is lent (Lent).
 use mathlib.Core.Path.{_≡_}
 use mathlib.Core.Bool.{Bool, true, false}
 use mathlib.Core.List.{List}
-use Prim.Native.Nat.{ℕ, _+_, _/_, _%_, _^_, _≤_, _<_}
+use Prim.Native.Nat.{ℕ, _^_, _≤_, _<_}
 use lib.ListN.{length}
 use Rattle.number.specs.Number.{rounded, Ranged}
 use Rattle.number.specs.declared.Number.{Number}
@@ -11,12 +11,16 @@ use Rattle.rowset.specs.Mask.{maskCount}
 use Rattle.words.specs.RowSet.{RowSet, count, among, ofMask}
 use Rattle.words.specs.Word.{Factors}
 use Rattle.words.specs.Walk.{minor}
-use Rattle.words.specs.Operation.{joinedWord, refactored}
+use Rattle.words.specs.Formula.{justBefore, newFactor}
+use Rattle.words.specs.Operation.{joinedWord}
 use Rattle.words.specs.Sources.{StoredSteps, runReach}
 use Rattle.rowset.specs.Sets.{Tables}
+use Rattle.walk.specs.declared.Joined.{Joined}
 use Rattle.walk.specs.Lent.{stepsOf, AllSpelled}
-use Rattle.walk.specs.Table.{padded}
 use Rattle.rule.specs.declared.Chosen.{Chosen}
+
+abbrev pub chosenOf : Joined → ℕ → ℕ → Chosen
+chosenOf w p q = record { word = w; rows = p; columns = q }
 
 -- how many rows are chosen
 abbrev pub sizeOf : Chosen → ℕ
@@ -34,22 +38,18 @@ chosenMinor c f I J = minor rounded (joinedWord (c .word .n) (stepsOf (c .word) 
 
 -- the new factors
 abbrev pub chosenFactors : Chosen → List ℕ → Factors Number
-chosenFactors c f = refactored rounded (c .word .n) (stepsOf (c .word) f) (chosenRows c) (chosenColumns c)
+chosenFactors c f = newFactor rounded (sizeOf c) (justBefore (sizeOf c)) (chosenMinor c f)
 
 -- with row sets and column sets exchanged
 abbrev pub turnedBy : {A : Type 0} → Bool → (RowSet → RowSet → A) → RowSet → RowSet → A
 turnedBy true M I J = M J I
 turnedBy false M I J = M I J
 
--- the number at t of the factors of k rows in rows of eight
-abbrev pub cellAt : ℕ → Factors Number → ℕ → Number
-cellAt k b t = padded k b (t / 8 + 1) (t % 8 + 1)
-
 -- no minor of k rows at sets with equally many members is zero
 pub record Regular (k : ℕ) (M : RowSet → RowSet → Number) : Type 0 where
   pub nonzero : (I J : RowSet) → length I ≡ k → length J ≡ k → count I ≡ count J → 0 < M I J .m
 
-pub record Proper (c : Chosen) (f : List ℕ) : Type 0 where
+pub record Workable (c : Chosen) (f : List ℕ) : Type 0 where
   pub some : 1 ≤ c .word .n
   pub few : c .word .n ≤ 8
   pub six : c .word .count ≤ 6

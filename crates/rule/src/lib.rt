@@ -1,22 +1,16 @@
-// New factors (document 01, "The rounded rule"): each from minors of a joined word, worked afresh, by the formulas; and the operations, each with its bound.
+// New factors (document 01, "The rounded rule"): each from minors of a joined word, worked afresh, by the formulas; and `work`, which every operation calls.
 ghost use mathlib.Core.Path.{_≡_};
-ghost use mathlib.Core.List.{[], _∷_};
 ghost use Prim.Native.Nat.{_+_, _^_, _≤_, _<_};
 ghost use Rattle.number.specs.Number.{rounded};
 ghost use Rattle.rowset.specs.Mask.{maskCount};
 ghost use Rattle.words.specs.RowSet.{ofMask, rows};
-ghost use Rattle.words.specs.Formula.{runBefore, onDiagonal, belowDiagonal, newFactor};
-ghost use Rattle.words.specs.Operation.{step, product, submatrix};
-ghost use Rattle.walk.specs.Steps.{wayOf};
+ghost use Rattle.words.specs.Formula.{justBefore, onDiagonal, belowDiagonal};
 ghost use Rattle.walk.specs.Lent.{AllSpelled};
-ghost use Rattle.walk.specs.Table.{factorsOf, tableOf};
-ghost use Rattle.rule.specs.Chosen.{sizeOf, chosenMinor, chosenFactors, turnedBy, cellAt, Proper, Lent, Usable};
-ghost use Rattle.rule.specs.Result.{Workable, OperationWorkable, refactoredOf, resultOf, wholeOf};
+ghost use Rattle.table.specs.Table.{cellAt, tableOf};
+ghost use Rattle.rule.specs.Chosen.{chosenOf, sizeOf, chosenMinor, chosenFactors, turnedBy, Workable, Lent, Usable};
+ghost use Rattle.rule.specs.Result.{workOf};
 use number::Number;
 use walk::Joined;
-use walk::Step;
-use walk::Way;
-use walk::source;
 
 mod bounds; // bounds.rt: the bounds by size
 
@@ -34,12 +28,6 @@ pub struct Refactored {
     pub bound: u32,
 }
 
-// The operations on one source that keep all its rows and columns.
-pub enum Whole {
-    Inverse,
-    Converse,
-}
-
 impl Chosen {
     // The minor with row set i and column set j, sets that count among the chosen ones; turned, the row set is j and the column set i.
     fn minor(
@@ -51,7 +39,7 @@ impl Chosen {
         j: usize,
         turned: bool,
     ) -> Number
-        requires { ⌜ Proper self (now sources) × (i < 2 ^ sizeOf self) × (j < 2 ^ sizeOf self) × (maskCount i ≡ maskCount j) ⌝ }
+        requires { ⌜ Workable self (now sources) × (i < 2 ^ sizeOf self) × (j < 2 ^ sizeOf self) × (maskCount i ≡ maskCount j) ⌝ }
         requires { ⌜ Lent self (now tables) (now letters) ⌝ }
         ensures { λ r. ⌜ r ≡ turnedBy turned (chosenMinor self (now (sources .entry))) (ofMask (sizeOf self) i) (ofMask (sizeOf self) j) ⌝ }
         ensures { λ r. ⌜ Usable r ⌝ }
@@ -87,7 +75,7 @@ impl Chosen {
         m: usize,
         turned: bool,
     ) -> Number
-        requires { ⌜ Proper self (now sources) × (1 ≤ a) × (b ≤ sizeOf self) × (b + 1 ≡ a + m) ⌝ }
+        requires { ⌜ Workable self (now sources) × (1 ≤ a) × (b ≤ sizeOf self) × (b + 1 ≡ a + m) ⌝ }
         requires { ⌜ Lent self (now tables) (now letters) ⌝ }
         ensures { λ r. ⌜ r ≡ turnedBy turned (chosenMinor self (now (sources .entry))) (rows (sizeOf self) a b) (rows (sizeOf self) 1 m) ⌝ }
         ensures { λ r. ⌜ Usable r ⌝ }
@@ -109,7 +97,7 @@ impl Chosen {
         sources: &[u64; 768],
         i: usize,
     ) -> Number
-        requires { ⌜ Proper self (now sources) × (1 ≤ i) × (i ≤ sizeOf self) ⌝ }
+        requires { ⌜ Workable self (now sources) × (1 ≤ i) × (i ≤ sizeOf self) ⌝ }
         requires { ⌜ Lent self (now tables) (now letters) ⌝ }
         ensures { λ r. ⌜ r ≡ onDiagonal rounded (sizeOf self) (chosenMinor self (now (sources .entry))) i ⌝ }
     {
@@ -128,9 +116,9 @@ impl Chosen {
         j: usize,
         turned: bool,
     ) -> Number
-        requires { ⌜ Proper self (now sources) × (1 ≤ j) × (j < i) × (i ≤ sizeOf self) ⌝ }
+        requires { ⌜ Workable self (now sources) × (1 ≤ j) × (j < i) × (i ≤ sizeOf self) ⌝ }
         requires { ⌜ Lent self (now tables) (now letters) ⌝ }
-        ensures { λ r. ⌜ r ≡ belowDiagonal rounded (sizeOf self) (runBefore (sizeOf self)) (turnedBy turned (chosenMinor self (now (sources .entry)))) i j ⌝ }
+        ensures { λ r. ⌜ r ≡ belowDiagonal rounded (sizeOf self) (justBefore (sizeOf self)) (turnedBy turned (chosenMinor self (now (sources .entry)))) i j ⌝ }
     {
         let corner = self.run_minor(tables, letters, sources, i - j + 1, i, j, turned);
         let before = self.run_minor(tables, letters, sources, i - j, i - 2, j - 1, turned);
@@ -147,9 +135,9 @@ impl Chosen {
         i: usize,
         j: usize,
     ) -> Number
-        requires { ⌜ Proper self (now sources) × (1 ≤ i) × (i ≤ sizeOf self) × (1 ≤ j) × (j ≤ sizeOf self) ⌝ }
+        requires { ⌜ Workable self (now sources) × (1 ≤ i) × (i ≤ sizeOf self) × (1 ≤ j) × (j ≤ sizeOf self) ⌝ }
         requires { ⌜ Lent self (now tables) (now letters) ⌝ }
-        ensures { λ r. ⌜ r ≡ newFactor rounded (sizeOf self) (chosenMinor self (now (sources .entry))) i j ⌝ }
+        ensures { λ r. ⌜ r ≡ chosenFactors self (now (sources .entry)) i j ⌝ }
     {
         if i == j {
             return self.on_diagonal(tables, letters, sources, i);
@@ -169,9 +157,9 @@ impl Chosen {
         k: usize,
         t: usize,
     ) -> Number
-        requires { ⌜ Proper self (now sources) × (k ≡ sizeOf self) × (t < 64) ⌝ }
+        requires { ⌜ Workable self (now sources) × (k ≡ sizeOf self) × (t < 64) ⌝ }
         requires { ⌜ Lent self (now tables) (now letters) ⌝ }
-        ensures { λ r. ⌜ r ≡ cellAt k (newFactor rounded k (chosenMinor self (now (sources .entry)))) t ⌝ }
+        ensures { λ r. ⌜ r ≡ cellAt k (chosenFactors self (now (sources .entry))) t ⌝ }
     {
         let i = t / 8 + 1;
         let j = t % 8 + 1;
@@ -185,13 +173,13 @@ impl Chosen {
     }
 
     // The new factors, zero past their rows and columns, put over the 64 numbers of a table.
-    pub fn factors(
+    fn factors(
         self,
         letters: &[u16; 342],
         sources: &[u64; 768],
         table: [Number; 64],
     ) -> [Number; 64]
-        requires { ⌜ Proper self (now sources) × AllSpelled (self .word) (now letters) ⌝ }
+        requires { ⌜ Workable self (now sources) × AllSpelled (self .word) (now letters) ⌝ }
         ensures { λ r. ⌜ r ≡ tableOf (sizeOf self) (chosenFactors self (now (sources .entry))) ⌝ }
     {
         let word = self.word;
@@ -206,80 +194,26 @@ impl Chosen {
     }
 }
 
-// The new factors of the rows p and the columns q of one source.
-fn of_one(way: Way, b: [Number; 64], n: usize, p: usize, q: usize) -> Refactored
-    requires { ⌜ (p < 2 ^ n) × (q < 2 ^ n) ⌝ }
-    requires { ⌜ Workable n (step (wayOf way) (factorsOf b) ∷ []) (ofMask n p) (ofMask n q) ⌝ }
-    ensures { λ r. ⌜ r ≡ refactoredOf n (step (wayOf way) (factorsOf b) ∷ []) (ofMask n p) (ofMask n q) ⌝ }
+// The new factors of the chosen rows and columns of a joined word, put over the 64 numbers of a table.
+pub fn work(
+    word: Joined,
+    letters: &[u16; 342],
+    sources: &[u64; 768],
+    table: [Number; 64],
+    rows: usize,
+    columns: usize,
+) -> Refactored
+    requires { ⌜ Workable (chosenOf word rows columns) (now sources) × AllSpelled word (now letters) ⌝ }
+    ensures { λ r. ⌜ r ≡ workOf (chosenOf word rows columns) (now (sources .entry)) ⌝ }
 {
-    let s = Step { way };
-    let word = Joined {
-        steps: [s; 6],
-        count: 1,
-        n,
-    };
-    let mut letters = [0u16; 342];
-    source::spell(&mut letters, n, way, 0);
-    let mut lent = [0u64; 768];
-    source::put_factors(&mut lent, 0, b);
     let c = Chosen {
         word,
-        rows: p,
-        columns: q,
+        rows,
+        columns,
     };
     Refactored {
-        factors: c.factors(&letters, &lent, b),
-        rows: rowset::count(p),
-        bound: bounds::one_source(n),
+        factors: c.factors(letters, sources, table),
+        rows: rowset::count(rows),
+        bound: bounds::of_steps(word.count, word.n),
     }
-}
-
-pub fn product(b: [Number; 64], c: [Number; 64], n: usize) -> Refactored
-    requires { ⌜ OperationWorkable n (product (factorsOf b) (factorsOf c)) ⌝ }
-    ensures { λ r. ⌜ r ≡ resultOf n (product (factorsOf b) (factorsOf c)) ⌝ }
-{
-    let all = rowset::run(1, n);
-    let s = Step { way: Way::Plain };
-    let word = Joined {
-        steps: [s; 6],
-        count: 2,
-        n,
-    };
-    let mut letters = [0u16; 342];
-    source::spell(&mut letters, n, Way::Plain, 0);
-    source::spell(&mut letters, n, Way::Plain, 1);
-    let mut sources = [0u64; 768];
-    source::put_factors(&mut sources, 0, b);
-    source::put_factors(&mut sources, 1, c);
-    let x = Chosen {
-        word,
-        rows: all,
-        columns: all,
-    };
-    Refactored {
-        factors: x.factors(&letters, &sources, b),
-        rows: n,
-        bound: bounds::product(n),
-    }
-}
-
-// The operation on a whole source.
-pub fn of_whole(which: Whole, b: [Number; 64], n: usize) -> Refactored
-    requires { ⌜ OperationWorkable n (wholeOf which (factorsOf b)) ⌝ }
-    ensures { λ r. ⌜ r ≡ resultOf n (wholeOf which (factorsOf b)) ⌝ }
-{
-    let all = rowset::run(1, n);
-    match which {
-        Whole::Inverse => of_one(Way::Inverted, b, n, all, all),
-        Whole::Converse => of_one(Way::Conversed, b, n, all, all),
-    }
-}
-
-// The rows p and the columns q, both masks.
-pub fn submatrix(b: [Number; 64], n: usize, p: usize, q: usize) -> Refactored
-    requires { ⌜ (p < 2 ^ n) × (q < 2 ^ n) ⌝ }
-    requires { ⌜ OperationWorkable n (submatrix (factorsOf b) (ofMask n p) (ofMask n q)) ⌝ }
-    ensures { λ r. ⌜ r ≡ resultOf n (submatrix (factorsOf b) (ofMask n p) (ofMask n q)) ⌝ }
-{
-    of_one(Way::Plain, b, n, p, q)
 }

@@ -4,21 +4,21 @@ use native.Mathlib.Decide.{decLt}
 use native.Mathlib.Omega.{arith}
 use mathlib.Core.Path.{_≡_, sym, ap, _∙_}
 use mathlib.Core.Bool.{Bool, true, cond, _&&_}
-use mathlib.Core.List.{List}
+use mathlib.Core.List.{List, [], _∷_}
 use lib.Dec.{leb}
-use lib.IntN.{ℤ}
+use lib.IntN.{ℤ, pos}
 use lib.ListN.{length, getD, List·getD-eq-default}
 use borrow.Author.Tests.{le-leb}
 use Rattle.number.specs.declared.Number.{Number}
 use Rattle.number.specs.Number.{zeroNumber, exponentOf}
 use Rattle.words.specs.RowSet.{In}
-use Rattle.walk.specs.Table.{absent, factorsOf}
+use Rattle.table.specs.Table.{absent, cellOf, factorsOf}
 use Rattle.places.specs.declared.Shelf.{Shelf}
 use Rattle.places.specs.Shelf.{rowsAt, tableAt, factorsAt, Good}
-use Rattle.places.proofs.Filled.{read-any}
-use Rattle.places.proofs.Table.{table-length}
-use Rattle.shelf.specs.declared.Factor.{Factor}
-use Rattle.shelf.specs.Calls.{factorCall}
+use Rattle.table.proofs.Table.{read-default, table-length}
+use Rattle.verdict.specs.Report.{accepted}
+use Rattle.shelf.specs.Reports.{factorReport}
+use Rattle.shelf.specs.Calls.{factorOrZero, factorCall}
 
 module _ (s : Shelf) (good : Good s) (p : ℕ) where
   -- a place above 7 holds no rows
@@ -43,15 +43,16 @@ module _ (s : Shelf) (good : Good s) (p : ℕ) where
       unfolding factorsOf
       factor-is =
           let l : length t ≡ 64 = ap length (is ∙ good .held p small .rest) ∙ table-length (rowsAt s p) (factorsAt s p) in
-          read-any t ((i - 1) * 8 + (j - 1)) absent zeroNumber (omega (arith, factor-below)) ∙ ap (λ (u : List Number). getD u ((i - 1) * 8 + (j - 1)) zeroNumber) is
+          read-default t (cellOf i j) (omega (arith, factor-below)) ∙ ap (λ (u : List Number). factorsOf u i j) is
 
       pub factor-exponent : getD t ((i - 1) * 8 + (j - 1)) absent .x < 2 ^ 32
       factor-exponent = rw factor-is (omega (arith, good .held p small .stored i j row column .stop))
 
-    pub factor-done : (a : Number) (e : ℤ) → a ≡ factorsAt s p i j → e ≡ exponentOf a → _≡_ {A = Factor} (record { mantissa = a .m; exponent = e }) (factorCall s p i j)
+    pub factor-done : (a : Number) (e : ℤ) → a ≡ factorsAt s p i j → e ≡ exponentOf a
+        → factorReport (record { mantissa = a .m; exponent = e }) ≡ factorCall s p i j
     unfolding factorCall
     factor-done a e f g =
-        let t : (leb 1 i && leb 1 j) && (leb i (rowsAt s p) && leb j (rowsAt s p)) ≡ true = rw (le-leb 1 i (row .0), le-leb 1 j (column .0), le-leb i (rowsAt s p) (row .1), le-leb j (rowsAt s p) (column .1)) in
-        let h : a ≡ cond ((leb 1 i && leb 1 j) && (leb i (rowsAt s p) && leb j (rowsAt s p))) (factorsAt s p i j) zeroNumber = f ∙ sym (ap (λ (b : Bool). cond b (factorsAt s p i j) zeroNumber) t) in
-        ap (λ (z : ℤ). let r : Factor = record { mantissa = a .m; exponent = z } in r) g
-        ∙ ap (λ (x : Number). let r : Factor = record { mantissa = x .m; exponent = exponentOf x } in r) h
+        let t : (leb 1 i && leb 1 j) && (leb i (rowsAt s p) && leb j (rowsAt s p)) ≡ true =
+        rw (le-leb 1 i (row .0), le-leb 1 j (column .0), le-leb i (rowsAt s p) (row .1), le-leb j (rowsAt s p) (column .1)) in
+        let h : a ≡ factorOrZero s p i j = f ∙ sym (ap (λ (b : Bool). cond b (factorsAt s p i j) zeroNumber) t) in
+        ap (λ (z : ℤ). accepted (pos (a .m) ∷ z ∷ [])) g ∙ ap (λ (x : Number). accepted (pos (x .m) ∷ exponentOf x ∷ [])) h

@@ -2,7 +2,8 @@
 pub mod Loading
 pub mod Dropping
 pub mod Writing
-pub mod Lists
+pub mod Carrying
 pub mod FactorReads
 pub mod Sequences
 pub mod RoundTrip
+pub mod Examples

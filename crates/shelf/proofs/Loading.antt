@@ -1,8 +1,9 @@
--- A load: its result by what was found (`load-turned`, `load-read`), the shelf stays good (`load-good`); what was read fits a place (`read-fits`); stored factors as a list (`stored-rows`).
+-- A load: its result by what was found (`load-turned`, `load-read`), the shelf stays good (`load-good`); what was read fits a place (`read-fits`); stored
+-- factors as a list (`stored-rows`).
 use Prim.Native.Nat.{ℕ, zero, suc, _+_, _-_, _*_, _/_, _%_, _<_, _≤_}
 use native.Mathlib.Nat.{mod-lt}
 use native.Mathlib.Omega.{arith}
-use mathlib.Core.Path.{_≡_, refl, sym, ap, _∙_}
+use mathlib.Core.Path.{_≡_, refl, sym, ap, subst, _∙_}
 use mathlib.Core.Bool.{Bool, cond}
 use mathlib.Core.List.{List, [], _∷_, _++_}
 use lib.ListN.{length, getD, take, drop, take-append-drop}
@@ -15,25 +16,28 @@ use Rattle.words.specs.Word.{Factors}
 use Rattle.words.specs.Operation.{rowByRow}
 use Rattle.words.specs.Sources.{Each}
 use Rattle.words.proofs.RowByRow.{rowByRow-length}
-use Rattle.reader.specs.declared.Outcome.the-variants as outcome
+use Rattle.reader.specs.declared.ReadOutcome.the-variants as outcome
 use Rattle.reader.specs.declared.Parsed.{Parsed}
 use Rattle.writer.specs.Encoding.{encoding, AllStored, Storable}
 use Rattle.reader.specs.Matrix.{Reading, matrix, fault, matrixOf, parsed}
 use Rattle.reader.proofs.RoundTrip.{matrix-written, matrix-read, accepted}
 use Rattle.places.specs.declared.Shelf.{Shelf}
-use Rattle.places.specs.declared.Refusal.{Refusal}
-use Rattle.places.specs.declared.Verdict.{Verdict}
-use Rattle.places.specs.declared.Verdict.the-variants.{Accepted, Refused}
+use Rattle.verdict.specs.declared.Refusal.{Refusal}
+use Rattle.verdict.specs.declared.Verdict.{Verdict}
+use Rattle.verdict.specs.declared.Verdict.the-variants.{Accepted, Refused}
 use Rattle.shelf.specs.declared.Changed.{Changed}
-use Rattle.walk.specs.Table.{tableOf}
-use Rattle.places.specs.Table.{squareOf}
+use Rattle.table.specs.Table.{tableOf, squareOf}
 use Rattle.places.specs.Shelf.{holding, Fits, Good}
-use Rattle.places.specs.Refusal.{firstOf, orElse, refused, targetTests}
-use Rattle.shelf.specs.Calls.{changed, ofReading, loadTests, readTo, loadCall}
-use Rattle.places.proofs.RowByRow.{row-by-row-get, row-below}
-use Rattle.places.proofs.Table.{square-below, table-same}
+use Rattle.verdict.specs.Verdict.{firstOf, orElse, refusedAt}
+use Rattle.places.specs.Outcome.{Outcome}
+use Rattle.places.specs.Tests.{targetTests}
+use Rattle.shelf.specs.Reports.{changedOutcome}
+use Rattle.shelf.specs.Calls.{changing, ofReading, loadTests, readTo, loadCall}
+use Rattle.table.proofs.RowByRow.{row-by-row-get, row-below, square-below}
+use Rattle.table.proofs.Table.{table-same}
 use Rattle.places.proofs.Holding.{fits-table, good-put}
-use Rattle.places.proofs.Verdicts.{first-last, first-passed, target-accepted, after-good}
+use Rattle.verdict.proofs.Verdicts.{first-last, first-passed}
+use Rattle.places.proofs.Verdicts.{target-accepted, after-good}
 
 -- STORED: of a list, of factors
 all-stored-at : (L : List Number) → AllStored L → (k : ℕ) → k < length L → Stored (getD L k zeroNumber)
@@ -59,7 +63,7 @@ stored-rows n b some few h =
       stored = all-stored-list (rowByRow n b)
           (λ k l.
           let m : k < n * n = omega (arith, rowByRow-length n b) in
-          rw (row-by-row-get zeroNumber n some k m b) (h (suc (k / n)) (suc (k % n)) (omega arith, row-below zeroNumber n some k m) (omega arith, mod-lt k some)));
+          rw (row-by-row-get zeroNumber n k m b) (h (suc (k / n)) (suc (k % n)) (omega arith, row-below n k m) (omega arith, mod-lt k some)));
     }
 
 -- WHAT THE READER ANSWERS: a fault; a matrix, whose factors stand at the start of 64 numbers
@@ -74,7 +78,8 @@ parsed-fault (fault j i) k o r e f =
     let ei : i ≡ o = cc in
     rw (ej, ei)
 
-pub parsed-matrix : (s : List ℕ) → Bytes s → (n q : ℕ) (r : Parsed) → r ≡ parsed (matrixOf s) → r .outcome ≡ outcome.Matrix n q → matrixOf s ≡ matrix n (take (n * n) (r .numbers)) q
+pub parsed-matrix : (s : List ℕ) → Bytes s → (n q : ℕ) (r : Parsed) → r ≡ parsed (matrixOf s) → r .outcome ≡ outcome.Matrix n q
+    → matrixOf s ≡ matrix n (take (n * n) (r .numbers)) q
 parsed-matrix s bs n q r e f =
     let m = accepted s bs n q r e f in
     let split : s ≡ encoding n (take (n * n) (r .numbers)) ++ drop q s = sym (take-append-drop q s) ∙ ap (λ (l : List ℕ). l ++ drop q s) (m .taken) in
@@ -97,30 +102,31 @@ module _ (s : Shelf) (p : ℕ) (bytes : List ℕ) where
   load-verdict : firstOf (loadTests s p bytes) ≡ orElse (firstOf (targetTests s p)) (ofReading bytes (matrixOf bytes))
   load-verdict = first-last (targetTests s p) (ofReading bytes (matrixOf bytes))
 
-  pub load-turned : (w : Refusal) → firstOf (targetTests s p) ≡ Refused w → changed (Refused w) s s ≡ loadCall s p bytes
+  pub load-turned : (w : Refusal) → firstOf (targetTests s p) ≡ Refused w → changing (Refused w) s s ≡ loadCall s p bytes
   unfolding loadCall
   load-turned w e =
       let v : firstOf (loadTests s p bytes) ≡ Refused w = load-verdict ∙ ap (λ (u : Verdict). orElse u (ofReading bytes (matrixOf bytes))) e in
-      ap (λ (u : Verdict). changed u s (readTo s p (matrixOf bytes))) (sym v)
+      ap (λ (u : Verdict). changing u s (readTo s p (matrixOf bytes))) (sym v)
 
-  pub load-read : (w : Reading) → firstOf (targetTests s p) ≡ Accepted → matrixOf bytes ≡ w → changed (ofReading bytes w) s (readTo s p w) ≡ loadCall s p bytes
+  pub load-read : (w : Reading) → firstOf (targetTests s p) ≡ Accepted → matrixOf bytes ≡ w → changing (ofReading bytes w) s (readTo s p w) ≡ loadCall s p bytes
   unfolding loadCall
   load-read w e f =
-      let v : firstOf (loadTests s p bytes) ≡ ofReading bytes (matrixOf bytes) = load-verdict ∙ ap (λ (u : Verdict). orElse u (ofReading bytes (matrixOf bytes))) e in
-      ap (λ (x : Reading). changed (ofReading bytes x) s (readTo s p x)) (sym f) ∙ ap (λ (u : Verdict). changed u s (readTo s p (matrixOf bytes))) (sym v)
+      let v : firstOf (loadTests s p bytes) ≡ ofReading bytes (matrixOf bytes) =
+      load-verdict ∙ ap (λ (u : Verdict). orElse u (ofReading bytes (matrixOf bytes))) e in
+      ap (λ (x : Reading). changing (ofReading bytes x) s (readTo s p x)) (sym f) ∙ ap (λ (u : Verdict). changing u s (readTo s p (matrixOf bytes))) (sym v)
 
   module _ (e : firstOf (targetTests s p) ≡ Accepted) where
-    pub load-fault : (k o : ℕ) → matrixOf bytes ≡ fault k o → changed (refused k o) s s ≡ loadCall s p bytes
+    pub load-fault : (k o : ℕ) → matrixOf bytes ≡ fault k o → changing (refusedAt k o) s s ≡ loadCall s p bytes
     load-fault k o f = load-read (fault k o) e f
 
     module _ (n : ℕ) (L : List Number) (q : ℕ) (f : matrixOf bytes ≡ matrix n L q) where
-      abbrev by : Bool → Changed
-      by t = changed (cond t (refused 7 q) Accepted) s (holding s p n (squareOf n L))
+      abbrev by : Bool → Outcome
+      by t = changing (cond t (refusedAt 7 q) Accepted) s (holding s p n (squareOf n L))
 
-      pub load-behind : q < length bytes → changed (refused 7 q) s s ≡ loadCall s p bytes
+      pub load-behind : q < length bytes → changing (refusedAt 7 q) s s ≡ loadCall s p bytes
       load-behind h = ap by (sym (lt-ltb q (length bytes) h)) ∙ load-read (matrix n L q) e f
 
-      pub load-done : length bytes ≤ q → changed Accepted s (holding s p n (squareOf n L)) ≡ loadCall s p bytes
+      pub load-done : length bytes ≤ q → changing Accepted s (holding s p n (squareOf n L)) ≡ loadCall s p bytes
       load-done h = ap by (sym (le-ltb q (length bytes) h)) ∙ load-read (matrix n L q) e f
 
   -- THE SHELF STAYS GOOD
@@ -137,5 +143,5 @@ module _ (s : Shelf) (p : ℕ) (bytes : List ℕ) where
         let t = target-accepted s p (first-passed (targetTests s p) (ofReading bytes (matrixOf bytes)) e .0) in
         read-good (t .small) (matrixOf bytes) refl)
 
-    pub load-answered : (x : Changed) → x ≡ loadCall s p bytes → (x ≡ loadCall s p bytes) × Good (x .shelf)
-    load-answered x e = (e, rw e load-good)
+    pub load-answered : (x : Changed) → changedOutcome x ≡ loadCall s p bytes → (changedOutcome x ≡ loadCall s p bytes) × Good (x .shelf)
+    load-answered x e = (e, subst Good (sym (ap (λ (o : Outcome). o .shelf) e)) load-good)

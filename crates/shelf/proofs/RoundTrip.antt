@@ -1,6 +1,7 @@
--- DEMAND 2 of the shelf: bytes written for a matrix read back as that matrix (`write-load`), at most 449 of them (`write-short`), and accepted bytes are the ones that the writer makes (`load-write`).
+-- DEMAND 2 of the shelf: bytes written for a matrix read back as that matrix (`write-load`), at most 449 of them (`write-short`), and accepted bytes are the
+-- ones that the writer makes (`load-write`).
 -- A matrix that is loaded and dropped leaves the shelf as it was (`load-drop`).
-use Prim.Native.Nat.{ℕ, _-_, _≤_, _<_}
+use Prim.Native.Nat.{ℕ, _≤_, _<_}
 use native.Mathlib.Omega.{arith}
 use mathlib.Core.Path.{_≡_, refl, sym, ap, _∙_}
 use mathlib.Core.Bool.{Bool, true, false, cond}
@@ -12,32 +13,28 @@ use borrow.Author.Tests.{ltb-false}
 use Rattle.number.specs.declared.Number.{Number}
 use Rattle.number.specs.Number.{zeroNumber}
 use Rattle.group.specs.Group.{Bytes}
-use Rattle.words.specs.RowSet.{In}
 use Rattle.words.specs.Word.{Factors}
 use Rattle.words.specs.Operation.{rowByRow}
-use Rattle.walk.specs.Table.{tableOf}
+use Rattle.table.specs.Table.{tableOf, squareOf}
 use Rattle.writer.specs.Encoding.{encoding, Storable}
 use Rattle.writer.proofs.Length.{encoding-short}
 use Rattle.reader.specs.Matrix.{Reading, matrix, fault, matrixOf}
 use Rattle.reader.proofs.RoundTrip.{matrix-written, matrix-read}
-use Rattle.words.proofs.RowByRow.{rowByRow-length}
 use Rattle.places.specs.declared.Shelf.{Shelf}
-use Rattle.places.specs.declared.Verdict.the-variants.{Accepted}
-use Rattle.places.specs.Table.{squareOf}
+use Rattle.verdict.specs.declared.Verdict.the-variants.{Accepted}
+use Rattle.table.specs.Table.{squareOf}
 use Rattle.places.specs.Shelf.{rowsAt, factorsAt, withTable, holding, without, Good}
-use Rattle.places.specs.Refusal.{firstOf, refused, targetTests}
-use Rattle.places.proofs.RowByRow.{row-by-row-at, row-by-row-list}
-use Rattle.places.proofs.Table.{table-length, table-same, square-list, square-factors}
+use Rattle.verdict.specs.Verdict.{firstOf, refusedAt}
+use Rattle.places.specs.Tests.{targetTests}
+use Rattle.table.proofs.RowByRow.{row-by-row-same}
+use Rattle.table.proofs.Table.{table-length, table-same}
+use Rattle.table.proofs.Square.{square-list, square-factors}
 use Rattle.places.proofs.Holding.{rows-held, factors-held, put-put, put-held}
-use Rattle.places.proofs.Verdicts.{Source, first-passed, target-accepted}
-use Rattle.shelf.specs.Calls.{changed, ofReading, loadCall, bytesAt}
+use Rattle.verdict.specs.Report.{accepted}
+use Rattle.verdict.proofs.Verdicts.{first-passed, report-accepted}
+use Rattle.places.proofs.Verdicts.{Source, target-accepted}
+use Rattle.shelf.specs.Calls.{changing, ofReading, loadTests, loadCall, bytesAt}
 use Rattle.shelf.proofs.Loading.{stored-rows, read-fits, load-done}
-
--- the same factors row by row
-rows-same : (n : ℕ) (b c : Factors Number) → ((i j : ℕ) → In n i → In n j → b i j ≡ c i j) → rowByRow n b ≡ rowByRow n c
-rows-same n b c h =
-    row-by-row-list zeroNumber n c (rowByRow n b) (rowByRow-length n b)
-    (λ i j x y. row-by-row-at zeroNumber n b i j x y ∙ h _ _ (omega arith, omega arith) (omega arith, omega arith))
 
 -- WRITTEN BYTES READ BACK
 module _ (s : Shelf) (good : Good s) (q : ℕ) (held : Source s q) where
@@ -52,19 +49,21 @@ module _ (s : Shelf) (good : Good s) (q : ℕ) (held : Source s q) where
   unfolding bytesAt
   write-short = encoding-short (rowsAt s q) (rowByRow (rowsAt s q) (factorsAt s q)) storable
 
-  pub write-load : (t : Shelf) (p : ℕ) → firstOf (targetTests t p) ≡ Accepted → changed Accepted t (holding t p (rowsAt s q) (factorsAt s q)) ≡ loadCall t p (bytesAt s q)
+  pub write-load : (t : Shelf) (p : ℕ) → firstOf (targetTests t p) ≡ Accepted
+      → changing Accepted t (holding t p (rowsAt s q) (factorsAt s q)) ≡ loadCall t p (bytesAt s q)
   write-load t p e =
       let n = rowsAt s q in
-      ap (λ (u : List Number). changed Accepted t (withTable t p n u)) (sym (table-same n (squareOf n (rowByRow n (factorsAt s q))) (factorsAt s q) (square-factors n (factorsAt s q))))
+      ap (λ (u : List Number). changing Accepted t (withTable t p n u))
+      (sym (table-same n (squareOf n (rowByRow n (factorsAt s q))) (factorsAt s q) (square-factors n (factorsAt s q))))
       ∙ load-done t p (bytesAt s q) e n (rowByRow n (factorsAt s q)) (length (bytesAt s q)) read-back (omega arith)
 
 -- ACCEPTED BYTES ARE THE ONES THAT THE WRITER MAKES
-module _ (s : Shelf) (good : Good s) (p : ℕ) (bytes : List ℕ) (bs : Bytes bytes) (done : loadCall s p bytes .verdict ≡ Accepted) where
+module _ (s : Shelf) (good : Good s) (p : ℕ) (bytes : List ℕ) (bs : Bytes bytes) (done : loadCall s p bytes .report ≡ accepted []) where
   passed : (firstOf (targetTests s p) ≡ Accepted) × (ofReading bytes (matrixOf bytes) ≡ Accepted)
   unfolding loadCall
-  passed = first-passed (targetTests s p) (ofReading bytes (matrixOf bytes)) done
+  passed = first-passed (targetTests s p) (ofReading bytes (matrixOf bytes)) (report-accepted (firstOf (loadTests s p bytes)) [] done)
 
-  whole : (t : Bool) (q k : ℕ) → ltb q k ≡ t → cond t (refused 7 q) Accepted ≡ Accepted → k ≤ q
+  whole : (t : Bool) (q k : ℕ) → ltb q k ≡ t → cond t (refusedAt 7 q) Accepted ≡ Accepted → k ≤ q
   whole true q k e f = absurd (let z : _≡_ {A = ℕ} 0 1 = cc in omega arith)
   whole false q k e f = ltb-false q k e
 
@@ -75,10 +74,11 @@ module _ (s : Shelf) (good : Good s) (p : ℕ) (bytes : List ℕ) (bs : Bytes by
       let l : length bytes ≤ q = whole (ltb q (length bytes)) q (length bytes) refl f in
       let small : p < 8 = target-accepted s p (passed .0) .small in
       let fits = read-fits bytes bs n L q e in
-      let new : loadCall s p bytes ≡ changed Accepted s (holding s p n (squareOf n L)) = sym (load-done s p bytes (passed .0) n L q e l) in
+      let new : loadCall s p bytes ≡ changing Accepted s (holding s p n (squareOf n L)) = sym (load-done s p bytes (passed .0) n L q e l) in
       let r : rowsAt (holding s p n (squareOf n L)) p ≡ n = rows-held s good p n (tableOf n (squareOf n L)) small fits in
       rw (new, r)
-      (ap (encoding n) (rows-same n _ (squareOf n L) (factors-held s good p n (squareOf n L) small fits) ∙ square-list n L (m .storable .square))
+      (ap (encoding n)
+      (row-by-row-same zeroNumber n _ (squareOf n L) (factors-held s good p n (squareOf n L) small fits) ∙ square-list n L (m .storable .square))
       ∙ sym (m .taken) ∙ take-all q bytes l)
   written-by (fault k o) e f = absurd (let z : _≡_ {A = ℕ} 0 1 = cc in omega arith)
 

@@ -1,35 +1,44 @@
--- WHATEVER IS CALLED, in whatever order, the shelf stays good (`call-good`, `calls-good`).
+-- WHATEVER IS CALLED, in whatever order, the shelf stays good (`run-good`, `calls-good`): by cases on the call.
 use mathlib.Core.List.{List, [], _∷_}
-use Rattle.rule.specs.declared.Whole.the-variants.{Inverse, Converse}
+use Rattle.words.specs.Operation.{inverted, conversed}
 use Rattle.places.specs.declared.Shelf.{Shelf}
 use Rattle.places.specs.Shelf.{rowsAt, emptyShelf, Good}
-use Rattle.places.specs.Refusal.{oneSource, twoSources}
+use Rattle.places.specs.Tests.{oneSource, twoSources}
+use Rattle.places.specs.Outcome.{Outcome}
 use Rattle.places.proofs.Holding.{good-empty}
-use Rattle.operations.specs.Operations.{productOf, inverseOf, converseOf, submatrixOf, submatrixTests}
+use Rattle.operations.specs.Operations.{productAt, inverseAt, converseAt, submatrixAt, submatrixTests}
 use Rattle.operations.proofs.Proposals.{transpose-good}
 use Rattle.operations.proofs.Results.{product-ready, whole-ready, submatrix-ready, operation-good}
-use Rattle.shelf.specs.Sequence.{Call, load, drop, product, inverse, converse, transpose, submatrix, write, minor, carry, Given, AllGiven, afterCall, afterEach, afterCalls}
+use Rattle.shelf.specs.Calls.{writeCall, carryCall}
+use Rattle.shelf.specs.Run.{Call, load, write, drop, product, inverse, converse, submatrix, transpose, minor, carry, reversals, rest, rows, factor}
+use Rattle.shelf.specs.Run.{Given, AllGiven, run, afterEach, afterCalls}
 use Rattle.shelf.proofs.Loading.{load-good}
 use Rattle.shelf.proofs.Dropping.{drop-good}
 
-pub call-good : (s : Shelf) → Good s → (c : Call) → Given c → Good (afterCall s c)
-unfolding afterCall
-call-good s g (load p bytes) h = load-good s p bytes g h
-call-good s g (drop p) h = drop-good s p g
-call-good s g (product l r t) h = operation-good (twoSources s l r t) t (rowsAt s l) (productOf s l r) (product-ready s g l r t) s g
-call-good s g (inverse p t) h = operation-good (oneSource s p t) t (rowsAt s p) (inverseOf s p) (whole-ready s g Inverse p t) s g
-call-good s g (converse p t) h = operation-good (oneSource s p t) t (rowsAt s p) (converseOf s p) (whole-ready s g Converse p t) s g
-call-good s g (transpose p t) h = transpose-good s p t g
-call-good s g (submatrix p I J t) h = operation-good (submatrixTests s p I J t) t (rowsAt s p) (submatrixOf s p I J) (submatrix-ready s g p I J t) s g
-call-good s g (write p out) h = g
-call-good s g (minor p I J) h = g
-call-good s g (carry p items out) h = g
+pub run-good : (s : Shelf) → Good s → (c : Call) → Given c → Good (run s c .shelf)
+unfolding run writeCall carryCall
+run-good s g (load p bytes) h = load-good s p bytes g h
+run-good s g (write p out) h = g
+run-good s g (drop p) h = drop-good s p g
+run-good s g (product l r t) h = operation-good (twoSources s l r t) t (rowsAt s l) (productAt s l r) (product-ready s g l r t) s g
+run-good s g (inverse p t) h = operation-good (oneSource s p t) t (rowsAt s p) (inverseAt s p) (whole-ready s g inverted p t) s g
+run-good s g (converse p t) h = operation-good (oneSource s p t) t (rowsAt s p) (converseAt s p) (whole-ready s g conversed p t) s g
+run-good s g (submatrix p I J t) h = operation-good (submatrixTests s p I J t) t (rowsAt s p) (submatrixAt s p I J) (submatrix-ready s g p I J t) s g
+run-good s g (transpose p t) h = transpose-good s p t g
+run-good s g (minor p I J) h = g
+run-good s g (carry p items out) h = g
+run-good s g (reversals items) h = g
+run-good s g (rest bytes) h = g
+run-good s g (rows p) h = g
+run-good s g (factor p i j) h = g
 
-after-good : (L : List Call) → AllGiven L → (s : Shelf) → Good s → Good (afterCalls s L)
+-- a list of calls, where each keeps a shelf good
+pub each-good : (f : Shelf → Call → Outcome) → ((s : Shelf) → Good s → (c : Call) → Given c → Good (f s c .shelf))
+    → (L : List Call) → AllGiven L → (s : Shelf) → Good s → Good (afterEach f s L)
 unfolding afterEach
-after-good [] h s g = g
-after-good (c ∷ L) h s g = after-good L (h .1) (afterCall s c) (call-good s g c (h .0))
+each-good f k [] h s g = g
+each-good f k (c ∷ L) h s g = each-good f k L (h .1) (f s c .shelf) (k s g c (h .0))
 
 -- from the empty shelf on
 pub calls-good : (L : List Call) → AllGiven L → Good (afterCalls emptyShelf L)
-calls-good L h = after-good L h emptyShelf good-empty
+calls-good L h = each-good run run-good L h emptyShelf good-empty

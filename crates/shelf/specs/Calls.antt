@@ -1,8 +1,10 @@
--- Load, drop and write (document 01, "Shelf calls"): what each answers, and the shelf and the lent bytes after it, refused calls included. A factor of a place (`factorCall`).
+-- Load, drop, write and carry (document 01, "Shelf calls"): what each leaves and returns, refused calls included. Reading a place: its rows (`rowsCall`) and
+-- factors (`factorCall`).
 use Prim.Native.Nat.{ℕ}
 use mathlib.Core.Bool.{cond, _&&_}
 use mathlib.Core.List.{List, [], _∷_, _++_}
 use lib.Dec.{ltb, leb}
+use lib.IntN.{ℤ, pos}
 use lib.ListN.{length}
 use lib.Seq.{sets}
 use Rattle.number.specs.declared.Number.{Number}
@@ -10,25 +12,27 @@ use Rattle.number.specs.Number.{zeroNumber, exponentOf}
 use Rattle.words.specs.Operation.{rowByRow}
 use Rattle.writer.specs.Encoding.{encoding}
 use Rattle.reader.specs.Matrix.{Reading, matrix, fault, matrixOf}
+use Rattle.lists.specs.Items.{listNumbers}
+use Rattle.lists.specs.Lists.{carryTests, carriedList, itemsOf}
+use Rattle.verdict.specs.declared.Verdict.{Verdict}
+use Rattle.verdict.specs.declared.Verdict.the-variants.{Accepted}
+use Rattle.verdict.specs.Verdict.{firstOf, after, when, refusedAt}
+use Rattle.verdict.specs.Report.{Report, accepted, reportOf, verdictReport}
 use Rattle.places.specs.declared.Shelf.{Shelf}
-use Rattle.places.specs.declared.Verdict.{Verdict}
-use Rattle.places.specs.declared.Verdict.the-variants.{Accepted, Refused}
-use Rattle.shelf.specs.declared.Changed.{Changed}
-use Rattle.shelf.specs.declared.Factor.{Factor}
-use Rattle.shelf.specs.declared.Written.{Written}
-use Rattle.shelf.specs.declared.Written.the-variants as write
-use Rattle.places.specs.Table.{squareOf}
+use Rattle.table.specs.Table.{squareOf}
 use Rattle.places.specs.Shelf.{rowsAt, factorsAt, holding, without}
-use Rattle.places.specs.Refusal.{firstOf, after, when, refused, sourceTests, targetTests}
+use Rattle.places.specs.Outcome.{Outcome, outcome}
+use Rattle.places.specs.Tests.{sourceTests, targetTests}
 
-abbrev pub changed : Verdict → Shelf → Shelf → Changed
-changed v old new = record { shelf = after v old new; verdict = v }
+-- a call that only changes the shelf
+abbrev pub changing : Verdict → Shelf → Shelf → Outcome
+changing v old new = outcome (after v old new) (verdictReport v)
 
 -- LOAD
 -- 2 to 6: a fault in the matrix, at its offset; 7: bytes behind it
 abbrev pub ofReading : List ℕ → Reading → Verdict
-ofReading bytes (matrix n L q) = cond (ltb q (length bytes)) (refused 7 q) Accepted
-ofReading bytes (fault k o) = refused k o
+ofReading bytes (matrix n L q) = cond (ltb q (length bytes)) (refusedAt 7 q) Accepted
+ofReading bytes (fault k o) = refusedAt k o
 
 abbrev pub loadTests : Shelf → ℕ → List ℕ → List Verdict
 loadTests s p bytes = targetTests s p ++ (ofReading bytes (matrixOf bytes) ∷ [])
@@ -37,33 +41,46 @@ abbrev pub readTo : Shelf → ℕ → Reading → Shelf
 readTo s p (matrix n L q) = holding s p n (squareOf n L)
 readTo s p (fault k o) = s
 
-unfoldable pub loadCall : Shelf → ℕ → List ℕ → Changed
-loadCall s p bytes = changed (firstOf (loadTests s p bytes)) s (readTo s p (matrixOf bytes))
+unfoldable pub loadCall : Shelf → ℕ → List ℕ → Outcome
+loadCall s p bytes = changing (firstOf (loadTests s p bytes)) s (readTo s p (matrixOf bytes))
 
 -- DROP
-unfoldable pub dropCall : Shelf → ℕ → Changed
-dropCall s p = changed (firstOf (sourceTests s p)) s (without s p)
+unfoldable pub dropCall : Shelf → ℕ → Outcome
+dropCall s p = changing (firstOf (sourceTests s p)) s (without s p)
 
--- WRITE: 10, the lent bytes are too few
+-- WRITE: 10, the lent bytes are too few. It returns the length
 unfoldable pub bytesAt : Shelf → ℕ → List ℕ
 bytesAt s p = encoding (rowsAt s p) (rowByRow (rowsAt s p) (factorsAt s p))
 
 abbrev pub writeTests : Shelf → ℕ → List ℕ → List Verdict
 writeTests s p out = sourceTests s p ++ (when (ltb (length out) (length (bytesAt s p))) 10 ∷ [])
 
-abbrev pub written : ℕ → Verdict → Written
-written k Accepted = write.Length k
-written k (Refused w) = write.Refused w
+abbrev pub writing : Shelf → ℕ → List ℕ → Verdict → Outcome
+writing s p out v = record { shelf = s; report = reportOf v (pos (length (bytesAt s p)) ∷ []); bytes = after v out (sets out 0 (bytesAt s p)); items = [] }
 
-unfoldable pub writeCall : Shelf → ℕ → List ℕ → Written
-writeCall s p out = written (length (bytesAt s p)) (firstOf (writeTests s p out))
+unfoldable pub writeCall : Shelf → ℕ → List ℕ → Outcome
+writeCall s p out = writing s p out (firstOf (writeTests s p out))
 
-unfoldable pub bytesAfter : Shelf → ℕ → List ℕ → List ℕ
-bytesAfter s p out = after (firstOf (writeTests s p out)) out (sets out 0 (bytesAt s p))
+-- CARRY a list through a place's word: the tests of the place, then 9, 14 and 10
+abbrev pub carriedAt : Shelf → ℕ → List ℤ → List ℤ
+carriedAt s p items = listNumbers (carriedList (rowsAt s p) (factorsAt s p) (itemsOf items))
 
--- A FACTOR of a place; zero, with mantissa and exponent 0, where the place holds none
+abbrev pub placeCarryTests : Shelf → ℕ → (items out : List ℤ) → List Verdict
+placeCarryTests s p items out = sourceTests s p ++ carryTests (rowsAt s p) (factorsAt s p) items out
+
+abbrev pub carrying : Shelf → ℕ → (items out : List ℤ) → Verdict → Outcome
+carrying s p items out v = record { shelf = s; report = verdictReport v; bytes = []; items = after v out (sets out 0 (carriedAt s p items)) }
+
+unfoldable pub carryCall : Shelf → ℕ → (items out : List ℤ) → Outcome
+carryCall s p items out = carrying s p items out (firstOf (placeCarryTests s p items out))
+
+-- THE ROWS of a place, 0 where it is empty or above 7
+abbrev pub rowsCall : Shelf → ℕ → Report
+rowsCall s p = accepted (pos (rowsAt s p) ∷ [])
+
+-- A FACTOR of a place, mantissa and exponent; zero, with mantissa and exponent 0, where the place holds none
 abbrev pub factorOrZero : Shelf → ℕ → ℕ → ℕ → Number
 factorOrZero s p i j = cond ((leb 1 i && leb 1 j) && (leb i (rowsAt s p) && leb j (rowsAt s p))) (factorsAt s p i j) zeroNumber
 
-unfoldable pub factorCall : Shelf → ℕ → ℕ → ℕ → Factor
-factorCall s p i j = record { mantissa = factorOrZero s p i j .m; exponent = exponentOf (factorOrZero s p i j) }
+unfoldable pub factorCall : Shelf → ℕ → ℕ → ℕ → Report
+factorCall s p i j = accepted (pos (factorOrZero s p i j .m) ∷ exponentOf (factorOrZero s p i j) ∷ [])

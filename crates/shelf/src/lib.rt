@@ -1,8 +1,12 @@
 // The shelf of eight matrices, and its calls. A shelf goes in by value and comes back; a refused call hands it back as it was.
 ghost use mathlib.Core.Path.{_≡_};
 ghost use Rattle.places.specs.Shelf.{Good};
-ghost use Rattle.shelf.specs.Calls.{changed, loadCall, dropCall, writeCall, bytesAfter, factorCall};
-ghost use Rattle.shelf.specs.ListCalls.{carryCall, itemsAfter, reversalsCall};
+ghost use Rattle.verdict.specs.Report.{verdictReport};
+ghost use Rattle.writer.specs.Encoding.{writtenReport};
+ghost use Rattle.shelf.specs.Calls.{changing, loadCall, dropCall, writeCall, carryCall, factorCall};
+ghost use Rattle.shelf.specs.Reports.{changedOutcome, factorReport};
+pub use lists::Reversals;
+pub use lists::count_reversals;
 pub use operations::Bounded;
 pub use operations::Operated;
 pub use operations::Valued;
@@ -12,30 +16,19 @@ pub use operations::minor;
 pub use operations::product;
 pub use operations::submatrix;
 pub use operations::transpose;
-pub use places::Refusal;
 pub use places::Shelf;
-pub use places::Verdict;
 use places::judge;
 pub use places::new;
 pub use places::rows_at;
-use places::tables;
 pub use reader::behind;
+pub use verdict::Refusal;
+pub use verdict::Verdict;
+pub use writer::Written;
 
 // The shelf after a call that only changes it.
 pub struct Changed {
     pub shelf: Shelf,
     pub verdict: Verdict,
-}
-
-pub enum Written {
-    // So many bytes were written.
-    Length(usize),
-    Refused(Refusal),
-}
-
-pub enum Reversals {
-    Count(u64),
-    Refused(Refusal),
 }
 
 // A mantissa times 2 to the power of an exponent.
@@ -46,7 +39,7 @@ pub struct Factor {
 
 // A call that was turned down hands the shelf back as it was.
 fn unchanged(shelf: Shelf, why: Refusal) -> Changed
-    ensures { λ r. ⌜ r ≡ changed (Verdict.Refused why) shelf shelf ⌝ }
+    ensures { λ r. ⌜ changedOutcome r ≡ changing (Verdict.Refused why) shelf shelf ⌝ }
 {
     Changed {
         shelf: shelf,
@@ -57,7 +50,7 @@ fn unchanged(shelf: Shelf, why: Refusal) -> Changed
 // Loads a place from bytes.
 pub fn load(shelf: Shelf, place: usize, bytes: &[u8]) -> Changed
     requires { ⌜ Good shelf ⌝ }
-    ensures { λ r. ⌜ r ≡ loadCall shelf place (now (bytes .entry)) ⌝ }
+    ensures { λ r. ⌜ changedOutcome r ≡ loadCall shelf place (now (bytes .entry)) ⌝ }
     ensures { λ r. ⌜ Good (r .shelf) ⌝ }
 {
     let first = judge::target(shelf, place);
@@ -67,7 +60,7 @@ pub fn load(shelf: Shelf, place: usize, bytes: &[u8]) -> Changed
     let read = reader::read_matrix(bytes);
     let outcome = read.outcome;
     match outcome {
-        reader::Outcome::Matrix { rows, next } => {
+        reader::ReadOutcome::Matrix { rows, next } => {
             if next < bytes.len() {
                 return unchanged(
                     shelf,
@@ -79,18 +72,21 @@ pub fn load(shelf: Shelf, place: usize, bytes: &[u8]) -> Changed
             }
             let numbers = read.numbers;
             Changed {
-                shelf: places::with_table(shelf, place, rows, tables::spread(numbers, rows)),
+                shelf: places::with_table(shelf, place, rows, table::spread(numbers, rows)),
                 verdict: Verdict::Accepted,
             }
         }
-        reader::Outcome::Fault { number, offset } => unchanged(shelf, Refusal { number, offset }),
+        reader::ReadOutcome::Fault { number, offset } => unchanged(
+            shelf,
+            Refusal { number, offset },
+        ),
     }
 }
 
 // Empties a place, which can then be filled again.
 pub fn drop_place(shelf: Shelf, place: usize) -> Changed
     requires { ⌜ Good shelf ⌝ }
-    ensures { λ r. ⌜ r ≡ dropCall shelf place ⌝ }
+    ensures { λ r. ⌜ changedOutcome r ≡ dropCall shelf place ⌝ }
     ensures { λ r. ⌜ Good (r .shelf) ⌝ }
 {
     let first = judge::source(shelf, place);
@@ -98,7 +94,7 @@ pub fn drop_place(shelf: Shelf, place: usize) -> Changed
         return unchanged(shelf, why);
     }
     Changed {
-        shelf: places::with_table(shelf, place, 0, tables::blank()),
+        shelf: places::with_table(shelf, place, 0, table::blank()),
         verdict: Verdict::Accepted,
     }
 }
@@ -106,61 +102,37 @@ pub fn drop_place(shelf: Shelf, place: usize) -> Changed
 // Writes a place to lent bytes. No byte past the matrix's length is changed, and none where the call is turned down.
 pub fn write(shelf: Shelf, place: usize, out: &mut [u8]) -> Written
     requires { ⌜ Good shelf ⌝ }
-    ensures { λ r. ⌜ r ≡ writeCall shelf place (now (out .entry)) ⌝ }
-    ensures { λ _. ⌜ now (out .exit) ≡ bytesAfter shelf place (now (out .entry)) ⌝ }
+    ensures { λ r. ⌜ writtenReport r ≡ writeCall shelf place (now (out .entry)) .report ⌝ }
+    ensures { λ _. ⌜ now (out .exit) ≡ writeCall shelf place (now (out .entry)) .bytes ⌝ }
 {
     let first = judge::source(shelf, place);
     if let Verdict::Refused(why) = first {
         return Written::Refused(why);
     }
     let n = places::rows_at(shelf, place);
-    let factors = tables::packed(places::table_at(shelf, place), n);
-    let written = writer::write_matrix(factors, n, out);
-    match written {
-        writer::Written::Bytes(length) => Written::Length(length),
-        writer::Written::TooShort => Written::Refused(Refusal {
-            number: 10,
-            offset: 0,
-        }),
-    }
+    let factors = table::packed(places::table_at(shelf, place), n);
+    writer::write_matrix(factors, n, out)
 }
 
-// Carries a list of items through the word of a place, to a second list, past whose first n items nothing is changed. An item is lent as three numbers: sign, mantissa, exponent.
+// Carries a list of items through the word of a place, to a second list, past whose first n items nothing is changed.
+// An item is lent as three numbers: sign, mantissa, exponent.
 pub fn carry(shelf: Shelf, place: usize, items: &[i64], out: &mut [i64]) -> Verdict
     requires { ⌜ Good shelf ⌝ }
-    ensures { λ r. ⌜ r ≡ carryCall shelf place (now (items .entry)) (now (out .entry)) ⌝ }
-    ensures { λ _. ⌜ now (out .exit) ≡ itemsAfter shelf place (now (items .entry)) (now (out .entry)) ⌝ }
+    ensures { λ r. ⌜ verdictReport r ≡ carryCall shelf place (now (items .entry)) (now (out .entry)) .report ⌝ }
+    ensures { λ _. ⌜ now (out .exit) ≡ carryCall shelf place (now (items .entry)) (now (out .entry)) .items ⌝ }
 {
     let first = judge::source(shelf, place);
     if let Verdict::Refused(why) = first {
         return Verdict::Refused(why);
     }
     let n = places::rows_at(shelf, place);
-    let answer = lists::carry(places::table_at(shelf, place), n, items, out);
-    match answer {
-        lists::Answer::Done => Verdict::Accepted,
-        lists::Answer::Refused(number) => judge::refused(number as u8),
-    }
-}
-
-// Counts the reversals in a list of 1 to 8 items.
-pub fn count_reversals(items: &[i64]) -> Reversals
-    ensures { λ r. ⌜ r ≡ reversalsCall (now (items .entry)) ⌝ }
-{
-    let answer = lists::reversals(items);
-    match answer {
-        lists::Counted::Reversals(count) => Reversals::Count(count),
-        lists::Counted::Refused(number) => Reversals::Refused(Refusal {
-            number: number as u8,
-            offset: 0,
-        }),
-    }
+    lists::carry(places::table_at(shelf, place), n, items, out)
 }
 
 // The factor of row i and column j of a place, zero where the place holds none.
 pub fn factor_at(shelf: Shelf, place: usize, i: usize, j: usize) -> Factor
     requires { ⌜ Good shelf ⌝ }
-    ensures { λ r. ⌜ r ≡ factorCall shelf place i j ⌝ }
+    ensures { λ r. ⌜ factorReport r ≡ factorCall shelf place i j ⌝ }
 {
     let zero = Factor {
         mantissa: 0,

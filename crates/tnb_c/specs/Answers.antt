@@ -1,108 +1,81 @@
--- What the calls for C and Rust answer: the shelf's own answers (`ofChanged`, ..), with 0 for accepted, where the shelf is a good one;
--- 255 and the shelf as it was where it is not (`foreign`).
+-- What the calls for C and Rust answer. Nothing vouches for the shelf that such a caller hands over, so it is tested first (`checked`): on a good shelf the
+-- call is run (`run`, the one list of calls), any other is turned away with 255 (`foreign`). What a call does as a struct that C can hold: `answerOf`,
+-- `lengthOf`, `valueOf`, `statusOf`. Demand 3 of an answer: `Answered`. Any sequence of calls: `afterAnswers`.
 use Prim.Native.Nat.{ℕ}
+use mathlib.Core.Path.{_≡_}
 use mathlib.Core.Bool.{cond}
-use mathlib.Core.List.{List}
-use lib.IntN.{ℤ, pos}
+use mathlib.Core.List.{List, []}
+use lib.IntN.{ℤ, pos, natAbs}
+use lib.ListN.{getD}
+use Rattle.number.specs.declared.Number.{Number}
+use Rattle.words.specs.Operation.{Operation}
+use Rattle.verdict.specs.Report.{Report, accepted, refused}
 use Rattle.places.specs.declared.Shelf.{Shelf}
-use Rattle.places.specs.declared.Verdict.{Verdict}
-use Rattle.places.specs.declared.Verdict.the-variants.{Accepted, Refused}
 use Rattle.places.specs.Check.{isGood}
-use Rattle.shelf.specs.declared.Changed.{Changed}
-use Rattle.operations.specs.declared.Operated.{Operated}
-use Rattle.operations.specs.declared.Bounded.{Bounded}
-use Rattle.operations.specs.declared.Bounded.the-variants as answer
-use Rattle.shelf.specs.declared.Written.{Written}
-use Rattle.shelf.specs.declared.Written.the-variants as write
-use Rattle.operations.specs.declared.Valued.{Valued}
-use Rattle.operations.specs.declared.Valued.the-variants as value
-use Rattle.shelf.specs.Calls.{loadCall, dropCall, writeCall, bytesAfter}
-use Rattle.operations.specs.Operations.{productCall, inverseCall, converseCall, submatrixCall, transposeCall, minorCall}
-use Rattle.shelf.specs.declared.Reversals.{Reversals}
-use Rattle.shelf.specs.declared.Reversals.the-variants as reversals
-use Rattle.shelf.specs.ListCalls.{carryCall, itemsAfter}
+use Rattle.places.specs.Outcome.{Outcome}
+use Rattle.operations.specs.Promise.{Met}
+use Rattle.shelf.specs.Run.{Call, load, write, drop, product, inverse, converse, submatrix, transpose, minor, carry, reversals, rest, rows, factor}
+use Rattle.shelf.specs.Run.{run, afterEach}
 use Rattle.tnb_c.specs.declared.Answer.{Answer}
 use Rattle.tnb_c.specs.declared.Length.{Length}
-use Rattle.tnb_c.specs.declared.Minor.{Minor}
 use Rattle.tnb_c.specs.declared.Status.{Status}
+use Rattle.tnb_c.specs.declared.Value.{Value}
 
--- THE SHELF'S ANSWERS as structs
-abbrev pub ofVerdict : Shelf → Verdict → Answer
-ofVerdict s Accepted = record { number = 0; bound = 0; offset = 0; shelf = s }
-ofVerdict s (Refused w) = record { number = w .number; bound = 0; offset = w .offset; shelf = s }
+-- A SHELF THAT IS NOT GOOD is handed back with 255, and with what the call was lent
+abbrev pub turnedAway : Shelf → List ℕ → List ℤ → Outcome
+turnedAway s bytes items = record { shelf = s; report = refused 255 0; bytes = bytes; items = items }
 
-abbrev pub ofChanged : Changed → Answer
-ofChanged x = ofVerdict (x .shelf) (x .verdict)
+abbrev pub foreign : Shelf → Call → Outcome
+foreign s (load p bytes) = turnedAway s [] []
+foreign s (write p out) = turnedAway s out []
+foreign s (drop p) = turnedAway s [] []
+foreign s (product l r t) = turnedAway s [] []
+foreign s (inverse p t) = turnedAway s [] []
+foreign s (converse p t) = turnedAway s [] []
+foreign s (submatrix p I J t) = turnedAway s [] []
+foreign s (transpose p t) = turnedAway s [] []
+foreign s (minor p I J) = turnedAway s [] []
+foreign s (carry p items out) = turnedAway s [] out
+foreign s (reversals items) = turnedAway s [] []
+foreign s (rest bytes) = turnedAway s [] []
+foreign s (rows p) = turnedAway s [] []
+foreign s (factor p i j) = turnedAway s [] []
 
-abbrev pub ofBounded : Shelf → Bounded → Answer
-ofBounded s (answer.Bound e) = record { number = 0; bound = e; offset = 0; shelf = s }
-ofBounded s (answer.Refused w) = record { number = w .number; bound = 0; offset = w .offset; shelf = s }
+-- A CALL on a shelf that nothing vouches for
+unfoldable pub checked : Shelf → Call → Outcome
+checked s c = cond (isGood s) (run s c) (foreign s c)
 
-abbrev pub ofOperated : Operated → Answer
-ofOperated x = ofBounded (x .shelf) (x .answer)
+-- the shelf after a list of such calls
+abbrev pub afterAnswers : Shelf → List Call → Shelf
+afterAnswers = afterEach checked
 
-abbrev pub ofWritten : Written → Length
-ofWritten (write.Length k) = record { number = 0; offset = 0; length = k }
-ofWritten (write.Refused w) = record { number = w .number; offset = w .offset; length = 0 }
+-- A REPORT in numbers: 0 for accepted, else the refusal's number; its offset; the value at k, 0 where there is none
+abbrev pub numberOf : Report → ℕ
+numberOf (accepted values) = 0
+numberOf (refused number offset) = number
 
-abbrev pub ofValued : Valued → Minor
-ofValued (value.Value m e) = record { number = 0; offset = 0; mantissa = m; exponent = e }
-ofValued (value.Refused w) = record { number = w .number; offset = w .offset; mantissa = 0; exponent = pos 0 }
+abbrev pub offsetOf : Report → ℕ
+offsetOf (accepted values) = 0
+offsetOf (refused number offset) = offset
 
-abbrev pub ofCounted : Reversals → Length
-ofCounted (reversals.Count k) = record { number = 0; offset = 0; length = k }
-ofCounted (reversals.Refused w) = record { number = w .number; offset = w .offset; length = 0 }
+abbrev pub valueAt : ℕ → Report → ℤ
+valueAt k (accepted values) = getD values k (pos 0)
+valueAt k (refused number offset) = pos 0
 
-abbrev pub ofCarried : Verdict → Status
-ofCarried Accepted = record { number = 0; offset = 0 }
-ofCarried (Refused w) = record { number = w .number; offset = w .offset }
+-- THE STRUCTS
+abbrev pub answerOf : Outcome → Answer
+answerOf x = record { number = numberOf (x .report); bound = natAbs (valueAt 0 (x .report)); offset = offsetOf (x .report); shelf = x .shelf }
 
--- A SHELF THAT IS NOT GOOD
-abbrev pub foreign : Shelf → Answer
-foreign s = record { number = 255; bound = 0; offset = 0; shelf = s }
+abbrev pub lengthOf : Report → Length
+lengthOf r = record { number = numberOf r; offset = offsetOf r; length = natAbs (valueAt 0 r) }
 
-abbrev pub foreignLength : Length
-foreignLength = record { number = 255; offset = 0; length = 0 }
+abbrev pub valueOf : Report → Value
+valueOf r = record { number = numberOf r; offset = offsetOf r; mantissa = natAbs (valueAt 0 r); exponent = valueAt 1 r }
 
-abbrev pub foreignMinor : Minor
-foreignMinor = record { number = 255; offset = 0; mantissa = 0; exponent = pos 0 }
+abbrev pub statusOf : Report → Status
+statusOf r = record { number = numberOf r; offset = offsetOf r }
 
-abbrev pub foreignStatus : Status
-foreignStatus = record { number = 255; offset = 0 }
-
--- THE CALLS
-abbrev pub loadAnswer : Shelf → ℕ → List ℕ → Answer
-loadAnswer s p bytes = cond (isGood s) (ofChanged (loadCall s p bytes)) (foreign s)
-
-abbrev pub dropAnswer : Shelf → ℕ → Answer
-dropAnswer s p = cond (isGood s) (ofChanged (dropCall s p)) (foreign s)
-
-abbrev pub writeAnswer : Shelf → ℕ → List ℕ → Length
-writeAnswer s p out = cond (isGood s) (ofWritten (writeCall s p out)) foreignLength
-
-abbrev pub writtenAfter : Shelf → ℕ → List ℕ → List ℕ
-writtenAfter s p out = cond (isGood s) (bytesAfter s p out) out
-
-abbrev pub productAnswer : Shelf → ℕ → ℕ → ℕ → Answer
-productAnswer s l r t = cond (isGood s) (ofOperated (productCall s l r t)) (foreign s)
-
-abbrev pub inverseAnswer : Shelf → ℕ → ℕ → Answer
-inverseAnswer s p t = cond (isGood s) (ofOperated (inverseCall s p t)) (foreign s)
-
-abbrev pub converseAnswer : Shelf → ℕ → ℕ → Answer
-converseAnswer s p t = cond (isGood s) (ofOperated (converseCall s p t)) (foreign s)
-
-abbrev pub submatrixAnswer : Shelf → ℕ → ℕ → ℕ → ℕ → Answer
-submatrixAnswer s p I J t = cond (isGood s) (ofOperated (submatrixCall s p I J t)) (foreign s)
-
-abbrev pub transposeAnswer : Shelf → ℕ → ℕ → Answer
-transposeAnswer s p t = cond (isGood s) (ofOperated (transposeCall s p t)) (foreign s)
-
-abbrev pub minorAnswer : Shelf → ℕ → ℕ → ℕ → Minor
-minorAnswer s p I J = cond (isGood s) (ofValued (minorCall s p I J)) foreignMinor
-
-abbrev pub carryAnswer : Shelf → ℕ → (items out : List ℤ) → Status
-carryAnswer s p items out = cond (isGood s) (ofCarried (carryCall s p items out)) foreignStatus
-
-abbrev pub carriedAfter : Shelf → ℕ → (items out : List ℤ) → List ℤ
-carriedAfter s p items out = cond (isGood s) (itemsAfter s p items out) out
+-- DEMAND 3 of the answer to an operation o on sources of n rows: where its number is 0, place t of the shelf that is handed back holds the result, within the
+-- bound that is answered
+abbrev pub Answered : Answer → (t n : ℕ) → Operation Number → Type 0
+Answered a t n o = a .number ≡ 0 → Met (a .shelf) t n o (a .bound)

@@ -1,22 +1,30 @@
 // The shelf's answers as structs that C can hold. A number of 0 says accepted.
 ghost use mathlib.Core.Path.{_≡_};
-ghost use Rattle.tnb_c.specs.Answers.{foreign, ofChanged, ofOperated, ofWritten, ofValued, ofCounted, ofCarried};
+ghost use mathlib.Core.List.{[], _∷_};
+ghost use lib.IntN.{pos};
+ghost use Rattle.verdict.specs.Report.{accepted, refused, verdictReport};
+ghost use Rattle.writer.specs.Encoding.{writtenReport};
+ghost use Rattle.lists.specs.Lists.{reversalsReport};
+ghost use Rattle.operations.specs.Reports.{operatedOutcome, valuedReport};
+ghost use Rattle.shelf.specs.Reports.{changedOutcome, factorReport};
+ghost use Rattle.tnb_c.specs.Answers.{turnedAway, answerOf, lengthOf, valueOf, statusOf};
 use crate::Answer;
 use crate::Length;
-use crate::Minor;
 use crate::Status;
+use crate::Value;
+use lists::Reversals;
 use operations::Bounded;
 use operations::Operated;
 use operations::Valued;
 use places::Shelf;
-use places::Verdict;
 use shelf::Changed;
-use shelf::Reversals;
-use shelf::Written;
+use shelf::Factor;
+use verdict::Verdict;
+use writer::Written;
 
 // A shelf that is not a good one is handed back.
 pub fn foreign(shelf: Shelf) -> Answer
-    ensures { λ r. ⌜ r ≡ foreign shelf ⌝ }
+    ensures { λ r. ⌜ r ≡ answerOf (turnedAway shelf [] []) ⌝ }
 {
     Answer {
         number: 255,
@@ -26,8 +34,42 @@ pub fn foreign(shelf: Shelf) -> Answer
     }
 }
 
+// A refusal where a length was asked for.
+pub fn no_length(number: u8, offset: usize) -> Length
+    ensures { λ r. ⌜ r ≡ lengthOf (refused number offset) ⌝ }
+{
+    Length {
+        number,
+        offset,
+        length: 0,
+    }
+}
+
+// A length, accepted.
+pub fn length(length: usize) -> Length
+    ensures { λ r. ⌜ r ≡ lengthOf (accepted (pos length ∷ [])) ⌝ }
+{
+    Length {
+        number: 0,
+        offset: 0,
+        length,
+    }
+}
+
+// A refusal where a number was asked for.
+pub fn no_value(number: u8, offset: usize) -> Value
+    ensures { λ r. ⌜ r ≡ valueOf (refused number offset) ⌝ }
+{
+    Value {
+        number,
+        offset,
+        mantissa: 0,
+        exponent: 0,
+    }
+}
+
 pub fn changed(x: Changed) -> Answer
-    ensures { λ r. ⌜ r ≡ ofChanged x ⌝ }
+    ensures { λ r. ⌜ r ≡ answerOf (changedOutcome x) ⌝ }
 {
     let shelf = x.shelf;
     let verdict = x.verdict;
@@ -48,7 +90,7 @@ pub fn changed(x: Changed) -> Answer
 }
 
 pub fn operated(x: Operated) -> Answer
-    ensures { λ r. ⌜ r ≡ ofOperated x ⌝ }
+    ensures { λ r. ⌜ r ≡ answerOf (operatedOutcome x) ⌝ }
 {
     let shelf = x.shelf;
     let answer = x.answer;
@@ -69,60 +111,50 @@ pub fn operated(x: Operated) -> Answer
 }
 
 pub fn written(x: Written) -> Length
-    ensures { λ r. ⌜ r ≡ ofWritten x ⌝ }
+    ensures { λ r. ⌜ r ≡ lengthOf (writtenReport x) ⌝ }
 {
     match x {
-        Written::Length(length) => Length {
-            number: 0,
-            offset: 0,
-            length,
-        },
-        Written::Refused(why) => Length {
-            number: why.number,
-            offset: why.offset,
-            length: 0,
-        },
+        Written::Length(k) => length(k),
+        Written::Refused(why) => no_length(why.number, why.offset),
     }
 }
 
-pub fn valued(x: Valued) -> Minor
-    ensures { λ r. ⌜ r ≡ ofValued x ⌝ }
+pub fn valued(x: Valued) -> Value
+    ensures { λ r. ⌜ r ≡ valueOf (valuedReport x) ⌝ }
 {
     match x {
-        Valued::Value { mantissa, exponent } => Minor {
+        Valued::Value { mantissa, exponent } => Value {
             number: 0,
             offset: 0,
             mantissa,
             exponent,
         },
-        Valued::Refused(why) => Minor {
-            number: why.number,
-            offset: why.offset,
-            mantissa: 0,
-            exponent: 0,
-        },
+        Valued::Refused(why) => no_value(why.number, why.offset),
+    }
+}
+
+pub fn factor(x: Factor) -> Value
+    ensures { λ r. ⌜ r ≡ valueOf (factorReport x) ⌝ }
+{
+    Value {
+        number: 0,
+        offset: 0,
+        mantissa: x.mantissa,
+        exponent: x.exponent,
     }
 }
 
 pub fn counted(x: Reversals) -> Length
-    ensures { λ r. ⌜ r ≡ ofCounted x ⌝ }
+    ensures { λ r. ⌜ r ≡ lengthOf (reversalsReport x) ⌝ }
 {
     match x {
-        Reversals::Count(k) => Length {
-            number: 0,
-            offset: 0,
-            length: k as usize,
-        },
-        Reversals::Refused(why) => Length {
-            number: why.number,
-            offset: why.offset,
-            length: 0,
-        },
+        Reversals::Count(k) => length(k as usize),
+        Reversals::Refused(why) => no_length(why.number, why.offset),
     }
 }
 
 pub fn carried(x: Verdict) -> Status
-    ensures { λ r. ⌜ r ≡ ofCarried x ⌝ }
+    ensures { λ r. ⌜ r ≡ statusOf (verdictReport x) ⌝ }
 {
     match x {
         Verdict::Accepted => Status {

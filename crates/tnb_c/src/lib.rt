@@ -2,11 +2,12 @@
 // one that these calls cannot have made is answered with 255 and handed back.
 ghost use mathlib.Core.Path.{_≡_};
 ghost use lib.ListN.{length};
-ghost use Rattle.places.specs.Shelf.{emptyShelf};
 ghost use Rattle.reader.specs.Matrix.{behindOf};
-ghost use Rattle.tnb_c.specs.Answers.{loadAnswer, dropAnswer, writeAnswer, writtenAfter, carryAnswer, carriedAfter, ofCounted};
-ghost use Rattle.tnb_c.specs.Answers.{productAnswer, inverseAnswer, converseAnswer, submatrixAnswer, transposeAnswer, minorAnswer};
-ghost use Rattle.shelf.specs.ListCalls.{reversalsCall};
+ghost use Rattle.places.specs.Shelf.{emptyShelf, rowsAt};
+ghost use Rattle.lists.specs.Lists.{reversalsCall};
+ghost use Rattle.operations.specs.Operations.{productAt, inverseAt, converseAt, submatrixAt};
+ghost use Rattle.shelf.specs.Run.{load, drop, write, product, inverse, converse, submatrix, transpose, minor, carry, rows, factor};
+ghost use Rattle.tnb_c.specs.Answers.{checked, answerOf, lengthOf, valueOf, statusOf, Answered};
 use places::Shelf;
 use places::check;
 
@@ -28,7 +29,7 @@ pub struct Status {
     pub offset: usize,
 }
 
-// How many bytes were written, or reversals counted.
+// How many bytes were written, reversals counted, or rows a place has.
 #[repr(C)]
 pub struct Length {
     pub number: u8,
@@ -36,9 +37,9 @@ pub struct Length {
     pub length: usize,
 }
 
-// The mantissa and the exponent of a minor.
+// The mantissa and the exponent of a minor or a factor.
 #[repr(C)]
-pub struct Minor {
+pub struct Value {
     pub number: u8,
     pub offset: usize,
     pub mantissa: u64,
@@ -56,7 +57,7 @@ pub extern "C" fn tnb_new() -> Shelf
 // Loads a place from bytes.
 #[no_mangle]
 pub extern "C" fn tnb_load(shelf: Shelf, place: usize, bytes: &[u8]) -> Answer
-    ensures { λ r. ⌜ r ≡ loadAnswer shelf place (now (bytes .entry)) ⌝ }
+    ensures { λ r. ⌜ r ≡ answerOf (checked shelf (load place (now (bytes .entry)))) ⌝ }
 {
     if check::is_good(shelf) {
         return answers::changed(shelf::load(shelf, place, bytes));
@@ -67,7 +68,7 @@ pub extern "C" fn tnb_load(shelf: Shelf, place: usize, bytes: &[u8]) -> Answer
 // Empties a place.
 #[no_mangle]
 pub extern "C" fn tnb_drop(shelf: Shelf, place: usize) -> Answer
-    ensures { λ r. ⌜ r ≡ dropAnswer shelf place ⌝ }
+    ensures { λ r. ⌜ r ≡ answerOf (checked shelf (drop place)) ⌝ }
 {
     if check::is_good(shelf) {
         return answers::changed(shelf::drop_place(shelf, place));
@@ -78,23 +79,20 @@ pub extern "C" fn tnb_drop(shelf: Shelf, place: usize) -> Answer
 // Writes a place to lent bytes.
 #[no_mangle]
 pub extern "C" fn tnb_write(shelf: Shelf, place: usize, out: &mut [u8]) -> Length
-    ensures { λ r. ⌜ r ≡ writeAnswer shelf place (now (out .entry)) ⌝ }
-    ensures { λ _. ⌜ now (out .exit) ≡ writtenAfter shelf place (now (out .entry)) ⌝ }
+    ensures { λ r. ⌜ r ≡ lengthOf (checked shelf (write place (now (out .entry))) .report) ⌝ }
+    ensures { λ _. ⌜ now (out .exit) ≡ checked shelf (write place (now (out .entry))) .bytes ⌝ }
 {
     if check::is_good(shelf) {
         return answers::written(shelf::write(shelf, place, out));
     }
-    Length {
-        number: 255,
-        offset: 0,
-        length: 0,
-    }
+    answers::no_length(255, 0)
 }
 
 // The product of two places, left times right, to an empty place.
 #[no_mangle]
 pub extern "C" fn tnb_product(shelf: Shelf, left: usize, right: usize, target: usize) -> Answer
-    ensures { λ r. ⌜ r ≡ productAnswer shelf left right target ⌝ }
+    ensures { λ r. ⌜ r ≡ answerOf (checked shelf (product left right target)) ⌝ }
+    ensures { λ r. ⌜ Answered r target (rowsAt shelf left) (productAt shelf left right) ⌝ }
 {
     if check::is_good(shelf) {
         return answers::operated(operations::product(shelf, left, right, target));
@@ -105,7 +103,8 @@ pub extern "C" fn tnb_product(shelf: Shelf, left: usize, right: usize, target: u
 // The re-signed inverse of a place, to an empty place.
 #[no_mangle]
 pub extern "C" fn tnb_inverse(shelf: Shelf, source: usize, target: usize) -> Answer
-    ensures { λ r. ⌜ r ≡ inverseAnswer shelf source target ⌝ }
+    ensures { λ r. ⌜ r ≡ answerOf (checked shelf (inverse source target)) ⌝ }
+    ensures { λ r. ⌜ Answered r target (rowsAt shelf source) (inverseAt shelf source) ⌝ }
 {
     if check::is_good(shelf) {
         return answers::operated(operations::inverse(shelf, source, target));
@@ -116,7 +115,8 @@ pub extern "C" fn tnb_inverse(shelf: Shelf, source: usize, target: usize) -> Ans
 // The converse of a place, to an empty place.
 #[no_mangle]
 pub extern "C" fn tnb_converse(shelf: Shelf, source: usize, target: usize) -> Answer
-    ensures { λ r. ⌜ r ≡ converseAnswer shelf source target ⌝ }
+    ensures { λ r. ⌜ r ≡ answerOf (checked shelf (converse source target)) ⌝ }
+    ensures { λ r. ⌜ Answered r target (rowsAt shelf source) (converseAt shelf source) ⌝ }
 {
     if check::is_good(shelf) {
         return answers::operated(operations::converse(shelf, source, target));
@@ -133,7 +133,8 @@ pub extern "C" fn tnb_submatrix(
     columns: u8,
     target: usize,
 ) -> Answer
-    ensures { λ r. ⌜ r ≡ submatrixAnswer shelf source rows columns target ⌝ }
+    ensures { λ r. ⌜ r ≡ answerOf (checked shelf (submatrix source rows columns target)) ⌝ }
+    ensures { λ r. ⌜ Answered r target (rowsAt shelf source) (submatrixAt shelf source rows columns) ⌝ }
 {
     if check::is_good(shelf) {
         return answers::operated(operations::submatrix(shelf, source, rows, columns, target));
@@ -144,7 +145,7 @@ pub extern "C" fn tnb_submatrix(
 // The transpose of a place, to an empty place.
 #[no_mangle]
 pub extern "C" fn tnb_transpose(shelf: Shelf, source: usize, target: usize) -> Answer
-    ensures { λ r. ⌜ r ≡ transposeAnswer shelf source target ⌝ }
+    ensures { λ r. ⌜ r ≡ answerOf (checked shelf (transpose source target)) ⌝ }
 {
     if check::is_good(shelf) {
         return answers::operated(operations::transpose(shelf, source, target));
@@ -154,18 +155,35 @@ pub extern "C" fn tnb_transpose(shelf: Shelf, source: usize, target: usize) -> A
 
 // A minor of a place, of the rows and columns of two masks.
 #[no_mangle]
-pub extern "C" fn tnb_minor(shelf: Shelf, place: usize, rows: u8, columns: u8) -> Minor
-    ensures { λ r. ⌜ r ≡ minorAnswer shelf place rows columns ⌝ }
+pub extern "C" fn tnb_minor(shelf: Shelf, place: usize, rows: u8, columns: u8) -> Value
+    ensures { λ r. ⌜ r ≡ valueOf (checked shelf (minor place rows columns) .report) ⌝ }
 {
     if check::is_good(shelf) {
         return answers::valued(operations::minor(shelf, place, rows, columns));
     }
-    Minor {
-        number: 255,
-        offset: 0,
-        mantissa: 0,
-        exponent: 0,
+    answers::no_value(255, 0)
+}
+
+// The rows of the matrix at a place, 0 where the place is empty or above 7.
+#[no_mangle]
+pub extern "C" fn tnb_rows(shelf: Shelf, place: usize) -> Length
+    ensures { λ r. ⌜ r ≡ lengthOf (checked shelf (rows place) .report) ⌝ }
+{
+    if check::is_good(shelf) {
+        return answers::length(places::rows_at(shelf, place));
     }
+    answers::no_length(255, 0)
+}
+
+// The factor of row i and column j of a place, zero where the place has none.
+#[no_mangle]
+pub extern "C" fn tnb_factor(shelf: Shelf, place: usize, i: usize, j: usize) -> Value
+    ensures { λ r. ⌜ r ≡ valueOf (checked shelf (factor place i j) .report) ⌝ }
+{
+    if check::is_good(shelf) {
+        return answers::factor(shelf::factor_at(shelf, place, i, j));
+    }
+    answers::no_value(255, 0)
 }
 
 // How many bytes lie behind the first matrix; all, where a load would refuse that matrix for a fault in its own bytes.
@@ -180,8 +198,8 @@ pub extern "C" fn tnb_rest(bytes: &[u8]) -> usize
 // Carries as many items as the matrix of a place has rows into a second list. An item is three numbers: sign, mantissa, exponent.
 #[no_mangle]
 pub extern "C" fn tnb_carry(shelf: Shelf, place: usize, items: &[i64], out: &mut [i64]) -> Status
-    ensures { λ r. ⌜ r ≡ carryAnswer shelf place (now (items .entry)) (now (out .entry)) ⌝ }
-    ensures { λ _. ⌜ now (out .exit) ≡ carriedAfter shelf place (now (items .entry)) (now (out .entry)) ⌝ }
+    ensures { λ r. ⌜ r ≡ statusOf (checked shelf (carry place (now (items .entry)) (now (out .entry))) .report) ⌝ }
+    ensures { λ _. ⌜ now (out .exit) ≡ checked shelf (carry place (now (items .entry)) (now (out .entry))) .items ⌝ }
 {
     if check::is_good(shelf) {
         return answers::carried(shelf::carry(shelf, place, items, out));
@@ -195,7 +213,7 @@ pub extern "C" fn tnb_carry(shelf: Shelf, place: usize, items: &[i64], out: &mut
 // Counts the reversals of a list of 1 to 8 items.
 #[no_mangle]
 pub extern "C" fn tnb_reversals(items: &[i64]) -> Length
-    ensures { λ r. ⌜ r ≡ ofCounted (reversalsCall (now (items .entry))) ⌝ }
+    ensures { λ r. ⌜ r ≡ lengthOf (reversalsCall (now (items .entry))) ⌝ }
 {
-    answers::counted(shelf::count_reversals(items))
+    answers::counted(lists::count_reversals(items))
 }

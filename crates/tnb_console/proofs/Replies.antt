@@ -1,11 +1,29 @@
--- A reply is given where its text was put and the shelf is handed back (`replied`).
+-- A reply is given where its text was put and its shelf is handed back (`replied`), and one for an outcome is one for an equal outcome (`told-as`).
 use Prim.Native.Nat.{ℕ}
-use mathlib.Core.Path.{_≡_}
+use mathlib.Core.Path.{_≡_, refl, sym, _∙_}
 use mathlib.Core.List.{List}
+use lib.IntN.{ℤ}
 use Rattle.lines.specs.Text.{Puts}
 use Rattle.places.specs.declared.Shelf.{Shelf}
-use Rattle.tnb_console.specs.declared.answer.Answered.{Answered}
-use Rattle.tnb_console.specs.Replies.{Replied, reply}
+use Rattle.places.specs.Outcome.{Outcome}
+use Rattle.shelf.specs.Calls.{writeCall, carryCall}
+use Rattle.shelf.specs.Run.{run, write, carry}
+use Rattle.tnb_console.specs.declared.calls.Answered.{Answered}
+use Rattle.tnb_console.specs.Replies.{Reply, Replied, told}
 
-pub replied : {s : Shelf} {text out : List ℕ} {at : ℕ} {after : List ℕ} {to : ℕ} {r : Answered} → (r .shelf ≡ s) × (r .at ≡ to) → Puts out at text after to → Replied (reply s text) out at after r
-replied e p = record { shelf = e .0; text = rw (e .1) p }
+module _ {out after : List ℕ} {at : ℕ} {r : Answered} where
+  pub replied : {reply : Reply} {s : Shelf} {to : ℕ} →
+      reply .shelf ≡ s → (r .shelf ≡ s) × (r .at ≡ to) → Puts out at (reply .text) after to → Replied reply out at after r
+  replied kept e p = record { shelf = e .0 ∙ sym kept; text = rw (e .1) p }
+
+  pub told-as : (word : List ℕ) (o : Outcome) {o′ : Outcome} → o ≡ o′ → Replied (told word o) out at after r → Replied (told word o′) out at after r
+  told-as word o e p = rw e at p
+
+-- calls that are lent something leave the shelf as it is
+pub write-keeps : (s : Shelf) (p : ℕ) (bytes : List ℕ) → run s (write p bytes) .shelf ≡ s
+unfolding run writeCall
+write-keeps s p bytes = refl
+
+pub carry-keeps : (s : Shelf) (p : ℕ) (list items : List ℤ) → run s (carry p list items) .shelf ≡ s
+unfolding run carryCall
+carry-keeps s p list items = refl

@@ -1,4 +1,5 @@
--- What the console does with a request (`replyTo`): the shelf after it, and the text of its answer.
+-- What the console does with a request (`replyTo`): the shelf after it, and the text of its answer. A word of the console is one row (`replyBy`): the call that
+-- it asks for, the word of the answer, and whether the bytes or items that the call left follow that.
 use Prim.Native.Nat.{ℕ, _%_}
 use mathlib.Core.Path.{_≡_}
 use mathlib.Core.List.{List}
@@ -6,21 +7,17 @@ use lib.IntN.{ℤ}
 use lib.ListN.{getD}
 use Rattle.lines.specs.Ascii.{ascii}
 use Rattle.lines.specs.Text.{Puts}
-use Rattle.reader.specs.Matrix.{behindOf}
 use Rattle.places.specs.declared.Shelf.{Shelf}
-use Rattle.operations.specs.declared.Operated.{Operated}
-use Rattle.operations.specs.Operations.{transposeCall, productCall, inverseCall, converseCall, submatrixCall, minorCall}
-use Rattle.shelf.specs.declared.Changed.{Changed}
-use Rattle.shelf.specs.Calls.{loadCall, dropCall}
-use Rattle.shelf.specs.ListCalls.{reversalsCall}
-use Rattle.answers.specs.Answers.{verdictText, boundedText, valuedText, reversalsText, restText, badText}
-use Rattle.tnb_console.specs.declared.answer.Answered.{Answered}
-use Rattle.requests.specs.declared.commands.Call.{Call}
-use Rattle.requests.specs.declared.commands.Call.the-variants.{Load, Write, Drop, Operate, Minor, Carry, Reversals, Rest, Show, Bad}
-use Rattle.requests.specs.declared.commands.Operation.{Operation}
-use Rattle.requests.specs.declared.commands.Operation.the-variants.{Product, Inverse, Converse, Transpose, Submatrix}
+use Rattle.places.specs.Outcome.{Outcome}
+use Rattle.shelf.specs.Run.{run, load, write, drop, product, inverse, converse, transpose, submatrix, minor, carry, reversals, rest}
+use Rattle.answers.specs.Answers.{reportText, withBytes, badText}
+use Rattle.answers.specs.Items.{withItems}
+use Rattle.tnb_console.specs.declared.calls.Answered.{Answered}
+use Rattle.requests.specs.declared.commands.Command.{Command}
+use Rattle.requests.specs.declared.commands.Command.the-variants.{Load, Write, Drop, Product, Inverse, Converse, Transpose, Submatrix}
+use Rattle.requests.specs.declared.commands.Command.the-variants.{Minor, Carry, Reversals, Rest, Show, Bad}
 use Rattle.requests.specs.Requests.{Asked}
-use Rattle.tnb_console.specs.Calls.{lent, lentBytes, lentItems, writeText, carryText, showText}
+use Rattle.tnb_console.specs.Calls.{lentCount, lentBytes, lentItems, showText}
 
 pub record Reply : Type 0 where
   pub shelf : Shelf
@@ -31,13 +28,18 @@ pub record Replied (reply : Reply) (out : List ℕ) (at : ℕ) (after : List ℕ
   pub shelf : r .shelf ≡ reply .shelf
   pub text : Puts out at (reply .text) after (r .at)
 
--- to a call that changes the shelf, to an operation, and to a call that leaves the shelf as it is
-abbrev pub changedReply : List ℕ → Changed → Reply
-changedReply done c = record { shelf = c .shelf; text = verdictText done (c .verdict) }
+-- the reply to a call, by what it did: the shelf, and the text of its report
+abbrev pub told : (word : List ℕ) → Outcome → Reply
+told word o = record { shelf = o .shelf; text = reportText word (o .report) }
 
-abbrev pub operatedReply : Operated → Reply
-operatedReply o = record { shelf = o .shelf; text = boundedText (o .answer) }
+-- and behind that all the bytes, or items, as the call left them
+abbrev pub toldBytes : (word : List ℕ) → Outcome → Reply
+toldBytes word o = record { shelf = o .shelf; text = withBytes (reportText word (o .report)) (o .bytes) }
 
+abbrev pub toldItems : (word : List ℕ) → Outcome → Reply
+toldItems word o = record { shelf = o .shelf; text = withItems (reportText word (o .report)) (o .items) }
+
+-- the console's own answers leave the shelf as it is
 abbrev pub reply : Shelf → List ℕ → Reply
 reply s text = record { shelf = s; text = text }
 
@@ -45,27 +47,23 @@ reply s text = record { shelf = s; text = text }
 abbrev pub mask : ℕ → ℕ
 mask n = n % 256
 
--- an operation on the places and masks of a request
-unfoldable pub operateCall : Shelf → Operation → List ℕ → Operated
-operateCall s Product v = productCall s (getD v 0 0) (getD v 1 0) (getD v 2 0)
-operateCall s Inverse v = inverseCall s (getD v 0 0) (getD v 1 0)
-operateCall s Converse v = converseCall s (getD v 0 0) (getD v 1 0)
-operateCall s Transpose v = transposeCall s (getD v 0 0) (getD v 1 0)
-operateCall s Submatrix v = submatrixCall s (getD v 0 0) (mask (getD v 1 0)) (mask (getD v 2 0)) (getD v 3 0)
-
--- a call with its numbers, bytes and items
-unfoldable pub replyBy : Shelf → Call → List ℕ → List ℕ → List ℤ → Reply
-replyBy s Load v bytes list = changedReply (ascii "loaded") (loadCall s (getD v 0 0) bytes)
-replyBy s Write v bytes list = reply s (writeText s (getD v 0 0) (lentBytes (lent (getD v 1 0))))
-replyBy s Drop v bytes list = changedReply (ascii "dropped") (dropCall s (getD v 0 0))
-replyBy s (Operate o) v bytes list = operatedReply (operateCall s o v)
-replyBy s Minor v bytes list = reply s (valuedText (minorCall s (getD v 0 0) (mask (getD v 1 0)) (mask (getD v 2 0))))
-replyBy s Carry v bytes list = reply s (carryText s (getD v 0 0) list (lentItems (lent (getD v 1 0))))
-replyBy s Reversals v bytes list = reply s (reversalsText (reversalsCall list))
-replyBy s Rest v bytes list = reply s (restText (behindOf bytes))
-replyBy s Show v bytes list = reply s (showText s (getD v 0 0))
-replyBy s Bad v bytes list = reply s badText
+-- THE CONSOLE'S WORDS, each with its numbers v, bytes and items
+unfoldable pub replyBy : Shelf → Command → (v bytes : List ℕ) → List ℤ → Reply
+replyBy s Load v bytes items = told (ascii "loaded") (run s (load (getD v 0 0) bytes))
+replyBy s Write v bytes items = toldBytes (ascii "wrote") (run s (write (getD v 0 0) (lentBytes (lentCount (getD v 1 0)))))
+replyBy s Drop v bytes items = told (ascii "dropped") (run s (drop (getD v 0 0)))
+replyBy s Product v bytes items = told (ascii "bound") (run s (product (getD v 0 0) (getD v 1 0) (getD v 2 0)))
+replyBy s Inverse v bytes items = told (ascii "bound") (run s (inverse (getD v 0 0) (getD v 1 0)))
+replyBy s Converse v bytes items = told (ascii "bound") (run s (converse (getD v 0 0) (getD v 1 0)))
+replyBy s Transpose v bytes items = told (ascii "bound") (run s (transpose (getD v 0 0) (getD v 1 0)))
+replyBy s Submatrix v bytes items = told (ascii "bound") (run s (submatrix (getD v 0 0) (mask (getD v 1 0)) (mask (getD v 2 0)) (getD v 3 0)))
+replyBy s Minor v bytes items = told (ascii "number") (run s (minor (getD v 0 0) (mask (getD v 1 0)) (mask (getD v 2 0))))
+replyBy s Carry v bytes items = toldItems (ascii "carried") (run s (carry (getD v 0 0) items (lentItems (lentCount (getD v 1 0)))))
+replyBy s Reversals v bytes items = told (ascii "reversals") (run s (reversals items))
+replyBy s Rest v bytes items = toldBytes (ascii "rest") (run s (rest bytes))
+replyBy s Show v bytes items = reply s (showText s (getD v 0 0))
+replyBy s Bad v bytes items = reply s badText
 
 -- a request
 unfoldable pub replyTo : Shelf → Asked → Reply
-replyTo s a = replyBy s (a .call) (a .values) (a .bytes) (a .items)
+replyTo s a = replyBy s (a .command) (a .values) (a .bytes) (a .items)

@@ -1,19 +1,73 @@
-// Each call that a request asks for, with its answer put into the output.
+// The console's words: each does what a request asks for and puts the answer into the output.
 ghost use mathlib.Core.Path.{_≡_};
+ghost use Rattle.lines.specs.Ascii.{ascii};
 ghost use Rattle.lines.specs.Text.{Puts};
-ghost use Rattle.reader.specs.Matrix.{behindOf};
 ghost use Rattle.places.specs.Shelf.{Good};
-ghost use Rattle.operations.specs.Operations.{minorCall};
-ghost use Rattle.shelf.specs.ListCalls.{reversalsCall};
-ghost use Rattle.answers.specs.Answers.{valuedText, reversalsText, restText};
-ghost use Rattle.tnb_console.specs.Calls.{lent, lentBytes, lentItems, writeText, carryText, showText};
+ghost use Rattle.operations.specs.Reports.{operatedOutcome};
+ghost use Rattle.shelf.specs.Reports.{changedOutcome};
+ghost use Rattle.shelf.specs.Run.{run, load, write, drop, minor, carry, reversals, rest};
+ghost use Rattle.tnb_console.specs.Calls.{lentCount, lentBytes, lentItems, showText};
+ghost use Rattle.tnb_console.specs.Replies.{Replied, told, toldBytes, toldItems, reply};
 use crate::items;
+use shelf::Changed;
+use shelf::Operated;
 use shelf::Refusal;
 use shelf::Shelf;
 
+// The shelf after a request, and the index of the output behind the answer.
+pub struct Answered {
+    pub shelf: Shelf,
+    pub at: usize,
+}
+
+pub fn after(shelf: Shelf, at: usize) -> Answered
+    requires { ⌜ Good shelf ⌝ }
+    ensures { λ r. ⌜ Good (r .shelf) ⌝ }
+    ensures { λ r. ⌜ (r .shelf ≡ shelf) × (r .at ≡ at) ⌝ }
+{
+    Answered { shelf, at }
+}
+
+fn changed(change: Changed, word: &[u8], out: &mut [u8], at: usize) -> Answered
+    requires { ⌜ Good (change .shelf) ⌝ }
+    ensures { λ r. ⌜ Good (r .shelf) ⌝ }
+    ensures { λ r. ⌜ Replied (told (now (word .entry)) (changedOutcome change)) (now (out .entry)) at (now (out .exit)) r ⌝ }
+{
+    let shelf = change.shelf;
+    let verdict = change.verdict;
+    after(shelf, answers::put_verdict(out, at, verdict, word))
+}
+
+pub fn load(shelf: Shelf, place: usize, bytes: &[u8], out: &mut [u8], at: usize) -> Answered
+    requires { ⌜ Good shelf ⌝ }
+    ensures { λ r. ⌜ Good (r .shelf) ⌝ }
+    ensures { λ r. ⌜ Replied (told (ascii "loaded") (run shelf (load place (now (bytes .entry))))) (now (out .entry)) at (now (out .exit)) r ⌝ }
+{
+    changed(shelf::load(shelf, place, bytes), b"loaded", out, at)
+}
+
+pub fn drop(shelf: Shelf, place: usize, out: &mut [u8], at: usize) -> Answered
+    requires { ⌜ Good shelf ⌝ }
+    ensures { λ r. ⌜ Good (r .shelf) ⌝ }
+    ensures { λ r. ⌜ Replied (told (ascii "dropped") (run shelf (drop place))) (now (out .entry)) at (now (out .exit)) r ⌝ }
+{
+    changed(shelf::drop_place(shelf, place), b"dropped", out, at)
+}
+
+// What an operation did.
+pub fn operated(done: Operated, out: &mut [u8], at: usize) -> Answered
+    requires { ⌜ Good (done .shelf) ⌝ }
+    ensures { λ r. ⌜ Good (r .shelf) ⌝ }
+    ensures { λ r. ⌜ Replied (told (ascii "bound") (operatedOutcome done)) (now (out .entry)) at (now (out .exit)) r ⌝ }
+{
+    let shelf = done.shelf;
+    let answer = done.answer;
+    after(shelf, answers::put_bounded(out, at, answer))
+}
+
 // How many bytes or items are lent where so many were asked for.
 fn lent(count: usize) -> usize
-    ensures { λ r. ⌜ r ≡ lent count ⌝ }
+    ensures { λ r. ⌜ r ≡ lentCount count ⌝ }
 {
     if 512 < count {
         return 512;
@@ -22,20 +76,22 @@ fn lent(count: usize) -> usize
 }
 
 // Writes a place to lent bytes, which the answer ends with.
-fn write_to(shelf: Shelf, place: usize, bytes: &mut [u8], out: &mut [u8], at: usize) -> usize
+fn write_to(shelf: Shelf, place: usize, bytes: &mut [u8], out: &mut [u8], at: usize) -> Answered
     requires { ⌜ Good shelf ⌝ }
-    ensures { λ r. ⌜ Puts (now (out .entry)) at (writeText shelf place (now (bytes .entry))) (now (out .exit)) r ⌝ }
+    ensures { λ r. ⌜ Good (r .shelf) ⌝ }
+    ensures { λ r. ⌜ Replied (toldBytes (ascii "wrote") (run shelf (write place (now (bytes .entry))))) (now (out .entry)) at (now (out .exit)) r ⌝ }
 {
     let written = shelf::write(shelf, place, bytes);
     let space = answers::put_written(out, at, written);
     let buffer = lines::put(out, space, b" ");
-    lines::put_bytes(out, buffer, bytes)
+    after(shelf, lines::put_bytes(out, buffer, bytes))
 }
 
 // Lends so many bytes, each a5.
-pub fn write(shelf: Shelf, place: usize, count: usize, out: &mut [u8], at: usize) -> usize
+pub fn write(shelf: Shelf, place: usize, count: usize, out: &mut [u8], at: usize) -> Answered
     requires { ⌜ Good shelf ⌝ }
-    ensures { λ r. ⌜ Puts (now (out .entry)) at (writeText shelf place (lentBytes (lent count))) (now (out .exit)) r ⌝ }
+    ensures { λ r. ⌜ Good (r .shelf) ⌝ }
+    ensures { λ r. ⌜ Replied (toldBytes (ascii "wrote") (run shelf (write place (lentBytes (lentCount count))))) (now (out .entry)) at (now (out .exit)) r ⌝ }
 {
     let mut memory = [0xa5u8; 512];
     let bytes: &mut [u8] = &mut memory;
@@ -51,14 +107,16 @@ fn carry_to(
     items: &mut [i64],
     out: &mut [u8],
     at: usize,
-) -> usize
+) -> Answered
     requires { ⌜ Good shelf ⌝ }
-    ensures { λ r. ⌜ Puts (now (out .entry)) at (carryText shelf place (now (list .entry)) (now (items .entry))) (now (out .exit)) r ⌝ }
+    ensures { λ r. ⌜ Good (r .shelf) ⌝ }
+    ensures { λ r. ⌜ Replied (toldItems (ascii "carried") (run shelf (carry place (now (list .entry)) (now (items .entry)))))
+        (now (out .entry)) at (now (out .exit)) r ⌝ }
 {
     let verdict = shelf::carry(shelf, place, list, items);
     let space = answers::put_verdict(out, at, verdict, b"carried");
     let buffer = lines::put(out, space, b" ");
-    answers::put_items(out, buffer, items)
+    after(shelf, answers::put_items(out, buffer, items))
 }
 
 // Lends so many items.
@@ -69,9 +127,11 @@ pub fn carry(
     list: &[i64],
     out: &mut [u8],
     at: usize,
-) -> usize
+) -> Answered
     requires { ⌜ Good shelf ⌝ }
-    ensures { λ r. ⌜ Puts (now (out .entry)) at (carryText shelf place (now (list .entry)) (lentItems (lent count))) (now (out .exit)) r ⌝ }
+    ensures { λ r. ⌜ Good (r .shelf) ⌝ }
+    ensures { λ r. ⌜ Replied (toldItems (ascii "carried") (run shelf (carry place (now (list .entry)) (lentItems (lentCount count)))))
+        (now (out .entry)) at (now (out .exit)) r ⌝ }
 {
     let mut memory = [0i64; 1536];
     let numbers: &mut [i64] = &mut memory;
@@ -80,29 +140,40 @@ pub fn carry(
     carry_to(shelf, place, list, &mut numbers[0..n * 3], out, at)
 }
 
-pub fn minor(shelf: Shelf, place: usize, rows: u8, columns: u8, out: &mut [u8], at: usize) -> usize
+pub fn minor(
+    shelf: Shelf,
+    place: usize,
+    rows: u8,
+    columns: u8,
+    out: &mut [u8],
+    at: usize,
+) -> Answered
     requires { ⌜ Good shelf ⌝ }
-    ensures { λ r. ⌜ Puts (now (out .entry)) at (valuedText (minorCall shelf place rows columns)) (now (out .exit)) r ⌝ }
+    ensures { λ r. ⌜ Good (r .shelf) ⌝ }
+    ensures { λ r. ⌜ Replied (told (ascii "number") (run shelf (minor place rows columns))) (now (out .entry)) at (now (out .exit)) r ⌝ }
 {
     let answer = shelf::minor(shelf, place, rows, columns);
-    answers::put_valued(out, at, answer)
+    after(shelf, answers::put_valued(out, at, answer))
 }
 
-pub fn reversals(list: &[i64], out: &mut [u8], at: usize) -> usize
-    ensures { λ r. ⌜ Puts (now (out .entry)) at (reversalsText (reversalsCall (now (list .entry)))) (now (out .exit)) r ⌝ }
+pub fn reversals(shelf: Shelf, list: &[i64], out: &mut [u8], at: usize) -> Answered
+    requires { ⌜ Good shelf ⌝ }
+    ensures { λ r. ⌜ Good (r .shelf) ⌝ }
+    ensures { λ r. ⌜ Replied (told (ascii "reversals") (run shelf (reversals (now (list .entry))))) (now (out .entry)) at (now (out .exit)) r ⌝ }
 {
     let answer = shelf::count_reversals(list);
-    answers::put_reversals(out, at, answer)
+    after(shelf, answers::put_reversals(out, at, answer))
 }
 
-pub fn rest(bytes: &[u8], out: &mut [u8], at: usize) -> usize
-    ensures { λ r. ⌜ Puts (now (out .entry)) at (restText (behindOf (now (bytes .entry)))) (now (out .exit)) r ⌝ }
+pub fn rest(shelf: Shelf, bytes: &[u8], out: &mut [u8], at: usize) -> Answered
+    requires { ⌜ Good shelf ⌝ }
+    ensures { λ r. ⌜ Good (r .shelf) ⌝ }
+    ensures { λ r. ⌜ Replied (toldBytes (ascii "rest") (run shelf (rest (now (bytes .entry))))) (now (out .entry)) at (now (out .exit)) r ⌝ }
 {
-    answers::put_rest(out, at, shelf::behind(bytes))
+    after(shelf, answers::put_rest(out, at, shelf::behind(bytes)))
 }
 
-// The console's own word: what a place holds.
-pub fn show(shelf: Shelf, place: usize, out: &mut [u8], at: usize) -> usize
+fn put_shown(shelf: Shelf, place: usize, out: &mut [u8], at: usize) -> usize
     requires { ⌜ Good shelf ⌝ }
     ensures { λ r. ⌜ Puts (now (out .entry)) at (showText shelf place) (now (out .exit)) r ⌝ }
 {
@@ -114,4 +185,13 @@ pub fn show(shelf: Shelf, place: usize, out: &mut [u8], at: usize) -> usize
         return answers::put_refusal(out, at, why);
     }
     answers::put_place(out, at, shelf, place)
+}
+
+// The console's own word: what a place holds.
+pub fn show(shelf: Shelf, place: usize, out: &mut [u8], at: usize) -> Answered
+    requires { ⌜ Good shelf ⌝ }
+    ensures { λ r. ⌜ Good (r .shelf) ⌝ }
+    ensures { λ r. ⌜ Replied (reply shelf (showText shelf place)) (now (out .entry)) at (now (out .exit)) r ⌝ }
+{
+    after(shelf, put_shown(shelf, place, out, at))
 }

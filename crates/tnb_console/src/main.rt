@@ -1,5 +1,6 @@
 // A console for one shelf: requests on standard input, one to a line, and one line for each on standard output.
 ghost use Rattle.places.specs.Shelf.{Good};
+use libc::STDERR_FILENO;
 use libc::STDIN_FILENO;
 use libc::STDOUT_FILENO;
 use shelf::Shelf;
@@ -14,13 +15,14 @@ const LONGEST: usize = 4096;
 // Answers are written once so many bytes wait. The output has room for the longest answer behind them.
 const ENOUGH: usize = 32768;
 
-// What is kept from line to line: the shelf, where the next line starts, how many bytes of answers wait, and whether that line is too
-// long and its start thrown away.
+// What is kept from line to line: the shelf, where the next line starts, how many bytes of answers wait, whether that line is too
+// long and its start thrown away, and whether the answers before could be written.
 struct State {
     shelf: Shelf,
     start: usize,
     waiting: usize,
     long: bool,
+    written: bool,
 }
 
 fn keep(shelf: Shelf, start: usize, waiting: usize, long: bool) -> State
@@ -32,13 +34,17 @@ fn keep(shelf: Shelf, start: usize, waiting: usize, long: bool) -> State
         start,
         waiting,
         long,
+        written: true,
     }
 }
 
-fn flush(output: &[u8], waiting: usize) {
-    if waiting <= output.len() {
-        io::write_all(STDOUT_FILENO, &output[0..waiting]);
+// Writes what waits, and answers whether it could.
+fn flush(output: &[u8], waiting: usize) -> bool {
+    if io::write_all(STDOUT_FILENO, part(output, 0, waiting)) {
+        return true;
     }
+    io::write_all(STDERR_FILENO, b"tnb_console: cannot write its output\n");
+    false
 }
 
 // Makes room for an answer, and says where it goes.
@@ -166,11 +172,17 @@ fn respond_now(was: State, input: &[u8], n: usize, output: &mut [u8]) -> State
     let shelf = now.shelf;
     let start = now.start;
     let mut long = now.long;
-    flush(output, now.waiting);
     if too_long(start, n) {
         long = true;
     }
-    keep(shelf, start, 0, long)
+    let written = flush(output, now.waiting);
+    State {
+        shelf,
+        start,
+        waiting: 0,
+        long,
+        written,
+    }
 }
 
 // The last line may lack its end.
@@ -199,6 +211,9 @@ fn serve(input: &mut [u8], output: &mut [u8]) {
             return;
         }
         let done = respond_now(now, input, n, output);
+        if !done.written {
+            return;
+        }
         held = hold(input, done.start, n, done.long);
         let shelf = done.shelf;
         now = keep(shelf, 0, 0, done.long);

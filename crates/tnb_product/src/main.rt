@@ -1,13 +1,16 @@
 // Loads left.tnb and right.tnb to places 0 and 1, multiplies them into place 2, and prints n, then row, column, mantissa and exponent of
 // each factor; at the first refusal only that.
 ghost use Rattle.lines.specs.Text.{Puts};
+ghost use Rattle.verdict.specs.Report.{verdictReport};
 ghost use Rattle.places.specs.Shelf.{Good};
-ghost use Rattle.operations.specs.Operations.{productCall};
-ghost use Rattle.tnb_product.specs.Printed.{factorLine, rowLines, factorLines, resultText, refusalLine, printed};
+ghost use Rattle.operations.specs.Reports.{operatedOutcome};
+ghost use Rattle.shelf.specs.Reports.{factorReport};
+ghost use Rattle.tnb_product.specs.Printed.{factorLine, rowLines, factorLines, resultText, refusalLine, printed, unlessRefused, programText};
+use libc::STDERR_FILENO;
 use libc::STDOUT_FILENO;
 use shelf::Bounded;
-use shelf::Changed;
 use shelf::Factor;
+use shelf::Operated;
 use shelf::Refusal;
 use shelf::Shelf;
 use shelf::Verdict;
@@ -70,26 +73,9 @@ fn first(buffer: &[u8], n: usize) -> &[u8] {
     buffer
 }
 
-fn load_by(shelf: Shelf, place: usize, path: &[u8], buffer: &mut [u8]) -> Changed
-    requires { ⌜ Good shelf ⌝ }
-    ensures { λ r. ⌜ Good (r .shelf) ⌝ }
-{
-    let n = read_file(path, buffer);
-    shelf::load(shelf, place, first(buffer, n))
-}
-
-// Loads a place from a file. A load judges less than 4,096 bytes, so a longer file may be cut there.
-fn load_file(shelf: Shelf, place: usize, path: &[u8]) -> Changed
-    requires { ⌜ Good shelf ⌝ }
-    ensures { λ r. ⌜ Good (r .shelf) ⌝ }
-{
-    let mut buffer = io::buffer();
-    load_by(shelf, place, path, &mut buffer)
-}
-
 // The line of a factor.
 fn put_factor(out: &mut [u8], at: usize, i: usize, j: usize, factor: Factor) -> usize
-    ensures { λ r. ⌜ Puts (now (out .entry)) at (factorLine i j factor) (now (out .exit)) r ⌝ }
+    ensures { λ r. ⌜ Puts (now (out .entry)) at (factorLine i j (factorReport factor)) (now (out .exit)) r ⌝ }
 {
     let first = lines::put_whole(out, at, i as u64);
     let second = lines::put(out, first, b" ");
@@ -138,55 +124,67 @@ fn put_result(out: &mut [u8], shelf: Shelf) -> usize
 }
 
 fn put_refused(out: &mut [u8], why: Refusal) -> usize
-    ensures { λ r. ⌜ Puts (now (out .entry)) 0 (refusalLine why) (now (out .exit)) r ⌝ }
+    ensures { λ r. ⌜ Puts (now (out .entry)) 0 (refusalLine (why .number) (why .offset)) (now (out .exit)) r ⌝ }
 {
     let end = answers::put_refusal(out, 0, why);
     lines::put(out, end, b"\n")
 }
 
-// Multiplies, and puts what is to be printed.
-fn multiply(shelf: Shelf, out: &mut [u8]) -> usize
-    requires { ⌜ Good shelf ⌝ }
-    ensures { λ r. ⌜ Puts (now (out .entry)) 0 (printed (productCall shelf 0 1 2)) (now (out .exit)) r ⌝ }
+// What a product that was not refused left at place 2, or its refusal.
+fn put_product(out: &mut [u8], product: Operated) -> usize
+    requires { ⌜ Good (product .shelf) ⌝ }
+    ensures { λ r. ⌜ Puts (now (out .entry)) 0 (printed (operatedOutcome product)) (now (out .exit)) r ⌝ }
 {
-    let product = shelf::product(shelf, 0, 1, 2);
-    let result = product.shelf;
+    let shelf = product.shelf;
     let answer = product.answer;
     match answer {
-        Bounded::Bound(_) => put_result(out, result),
+        Bounded::Bound(_) => put_result(out, shelf),
         Bounded::Refused(why) => put_refused(out, why),
     }
 }
 
-// The same from the second file on.
-fn load_right(shelf: Shelf, out: &mut [u8]) -> usize
-    requires { ⌜ Good shelf ⌝ }
+// The first refusal of the two loads, or else the product.
+fn put_text(out: &mut [u8], left: Verdict, right: Verdict, product: Operated) -> usize
+    requires { ⌜ Good (product .shelf) ⌝ }
+    ensures { λ r. ⌜ Puts (now (out .entry)) 0 (unlessRefused (verdictReport left) (unlessRefused (verdictReport right) (printed (operatedOutcome product))))
+        (now (out .exit)) r ⌝ }
 {
-    let right = load_file(shelf, 1, b"right.tnb");
-    let loaded = right.shelf;
-    let verdict = right.verdict;
-    match verdict {
-        Verdict::Accepted => multiply(loaded, out),
+    match left {
         Verdict::Refused(why) => put_refused(out, why),
+        Verdict::Accepted => match right {
+            Verdict::Refused(why) => put_refused(out, why),
+            Verdict::Accepted => put_product(out, product),
+        },
     }
 }
 
-fn load_left(out: &mut [u8]) -> usize {
-    let left = load_file(shelf::new(), 0, b"left.tnb");
-    let loaded = left.shelf;
-    let verdict = left.verdict;
-    match verdict {
-        Verdict::Accepted => load_right(loaded, out),
-        Verdict::Refused(why) => put_refused(out, why),
-    }
+// What is printed, by the bytes of the two files. A refused load leaves its place empty, and the product of that is not printed.
+fn text(left: &[u8], right: &[u8], out: &mut [u8]) -> usize
+    ensures { λ r. ⌜ Puts (now (out .entry)) 0 (programText (now (left .entry)) (now (right .entry))) (now (out .exit)) r ⌝ }
+{
+    let first = shelf::load(shelf::new(), 0, left);
+    let one = first.shelf;
+    let second = shelf::load(one, 1, right);
+    let two = second.shelf;
+    let product = shelf::product(two, 0, 1, 2);
+    let left_verdict = first.verdict;
+    let right_verdict = second.verdict;
+    put_text(out, left_verdict, right_verdict, product)
 }
 
-fn print(out: &mut [u8]) {
-    let n = load_left(out);
-    io::write_all(STDOUT_FILENO, first(out, n));
+// Reads the two files. A load judges less than 4,096 bytes, so a longer file may be cut there.
+fn print(left: &mut [u8], right: &mut [u8], out: &mut [u8]) {
+    let a = read_file(b"left.tnb", left);
+    let b = read_file(b"right.tnb", right);
+    let n = text(first(left, a), first(right, b), out);
+    if !io::write_all(STDOUT_FILENO, first(out, n)) {
+        io::write_all(STDERR_FILENO, b"tnb_product: cannot write its output\n");
+    }
 }
 
 fn main() {
+    let mut left = io::buffer();
+    let mut right = io::buffer();
     let mut out = io::buffer();
-    print(&mut out);
+    print(&mut left, &mut right, &mut out);
 }

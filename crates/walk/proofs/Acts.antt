@@ -19,7 +19,7 @@ use Rattle.words.proofs.Alike.{Alike, alike, letters-joined}
 use Rattle.words.specs.Sources.{StoredStep}
 use Rattle.walk.specs.declared.Way.{Way}
 use Rattle.walk.specs.declared.letters.Move.{Move}
-use Rattle.walk.specs.Table.{cellOf, factorsOf}
+use Rattle.table.specs.Table.{cellOf, factorsOf}
 use Rattle.walk.specs.Steps.{wayOf, stepOf, letterAt, scaling, divides, backwards, entryPlace, entriesOf, diagonalOf, StoredEntries}
 use Rattle.walk.specs.Letters.{middle, placeWord, moveOf, moveAt}
 use Rattle.walk.specs.Held.{Agree}

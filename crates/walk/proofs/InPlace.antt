@@ -20,7 +20,7 @@ use Rattle.rowset.proofs.Order.{position-within}
 use Rattle.rowset.proofs.Positions.{position-below}
 use Rattle.words.specs.RowSet.{ofMask}
 use Rattle.words.specs.Walk.{scaled}
-use Rattle.walk.specs.Table.{absent}
+use Rattle.table.specs.Table.{absent}
 use Rattle.walk.specs.Steps.{scaling}
 use Rattle.walk.specs.Held.{stateOf, Working, letterReach}
 use Rattle.walk.specs.Packed.{numbersOf}

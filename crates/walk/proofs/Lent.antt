@@ -1,8 +1,8 @@
--- Factors and letters as they are lent: the factor at a place of a step (factor-at, read-default), an entry of D (entry-in), a step's factors as they are put
+-- Factors and letters as they are lent: the factor at a place of a step (factor-at), an entry of D (entry-in), a step's factors as they are put
 -- into words (Putting, put-next, put-all), its letters as they are spelled (SpelledTo, spelled-next), and read again (decoded).
 use mathlib.Core.Path.{_≡_, refl, sym, ap, ap₂, _∙_, subst}
 use mathlib.Core.Bool.{Bool, true, false, cond}
-use mathlib.Core.List.{List, [], _∷_}
+use mathlib.Core.List.{List}
 use Prim.Native.Nat.{ℕ, zero, suc, _+_, _-_, _*_, _/_, _%_, _≤_, _<_}
 use native.Mathlib.Nat.{not-suc-le-zero}
 use native.Mathlib.Decide.{ℕ-discrete}
@@ -12,21 +12,12 @@ use lib.Pow.{high, low}
 use lib.Seq.{getD-set-same, getD-set-other, ext-getD}
 use Rattle.number.specs.Number.{zeroNumber}
 use Rattle.number.specs.declared.Number.{Number}
-use Rattle.walk.specs.Table.{absent}
+use Rattle.table.specs.Table.{absent}
 use Rattle.walk.specs.Letters.{middle, moveAt, MoveWithin}
 use Rattle.walk.specs.Steps.{entryPlace, entriesOf}
 use Rattle.walk.specs.Lent.{numberIn, numbersIn, tableIn, codeOf}
 use Rattle.walk.specs.declared.Way.{Way}
 use Rattle.walk.specs.declared.letters.Move.{Move}
-
--- which default a read within a list is given does not matter
-pub read-within : {A : Type 0} (l : List A) (i : ℕ) (d e : A) → i < length l → getD l i d ≡ getD l i e
-read-within [] i d e h = absurd (not-suc-le-zero h)
-read-within (x ∷ l) zero d e h = refl
-read-within (x ∷ l) (suc i) d e h = read-within l i d e (omega arith)
-
-pub read-default : (b : List Number) (p : ℕ) → p < length b → getD b p absent ≡ getD b p zeroNumber
-read-default b p h = read-within b p absent zeroNumber h
 
 -- FACTORS
 pub numbers-at : (b : List ℕ) (p k i : ℕ) (d : Number) → i < k → getD (numbersIn b p k) i d ≡ numberIn b (p + i)

@@ -1,6 +1,5 @@
 -- A minor from its start (joined-start) through the steps of a joined word, the last first (joined-next), within range (joined-working), to the number at
--- its row set (minor-held);
--- the empty minor is 1 (minor-empty); the steps of a joined word as they are lent (joined-step).
+-- its row set (minor-held); the empty minor is 1 (minor-empty); the steps of a joined word as they are lent (joined-step).
 use mathlib.Core.Path.{_≡_, refl, sym, ap, ap₂, _∙_, subst}
 use mathlib.Core.Bool.{Bool, true, false, not, cond, _&&_}
 use mathlib.Core.List.{List, [], _∷_, map}
@@ -30,8 +29,8 @@ use Rattle.words.specs.Operation.{stepWord, joinedWord}
 use Rattle.words.proofs.Walks.{walk-append}
 use Rattle.words.proofs.Steps.{step-rows}
 use Rattle.words.specs.Sources.{StoredStep, StoredSteps}
-use Rattle.words.proofs.Exponents.{walk-ranged}
-use Rattle.walk.specs.Table.{absent}
+use Rattle.words.proofs.Exponents.{steps-walkable, walk-ranged}
+use Rattle.table.specs.Table.{absent}
 use Rattle.walk.specs.Lent.{stepAt, numbered, stepsOf}
 use Rattle.walk.specs.declared.Joined.{Joined}
 use Rattle.walk.specs.Held.{heldAt, stateOf, startOf, Agree, Working, stepReach}
@@ -49,7 +48,8 @@ unfolding startOf
 start-held n j s ln b l c = elim (ℕ-discrete j s) [
   | yes e ↦
       rw (eq-eqb j s e)
-      (ap (heldAt (set (replicate 70 zeroNumber) (positionOf j) oneNumber)) (sym e) ∙ held-same (replicate 70 zeroNumber) j oneNumber (below-256 n j ln b) (length-replicate 70 zeroNumber))
+      (ap (heldAt (set (replicate 70 zeroNumber) (positionOf j) oneNumber)) (sym e)
+      ∙ held-same (replicate 70 zeroNumber) j oneNumber (below-256 n j ln b) (length-replicate 70 zeroNumber))
   | no e ↦ rw (ne-eqb j s e) (held-other (replicate 70 zeroNumber) j s oneNumber c (λ f. e (sym f)) ∙ zeros s (below-256 n s ln l))
 ]
 
@@ -73,7 +73,8 @@ walk-joined n s [] ω = refl
 walk-joined n s (t ∷ L) ω = walk-append rounded (stepWord n s) (joinedWord n (t ∷ L)) ω
 
 pub joined-next : {n k : ℕ} (L : List (words.Step Number)) (s : words.Step Number) (c : ℕ) (ω η θ : State rounded) → n ≤ 8 → drop c L ≡ s ∷ drop (c + 1) L
-    → Agree n k η (walk rounded (joinedWord n (drop (c + 1) L)) ω) → Agree n k θ (walk rounded (stepWord n s) η) → Agree n k θ (walk rounded (joinedWord n (drop c L)) ω)
+    → Agree n k η (walk rounded (joinedWord n (drop (c + 1) L)) ω) → Agree n k θ (walk rounded (stepWord n s) η)
+    → Agree n k θ (walk rounded (joinedWord n (drop c L)) ω)
 joined-next {n} {k} L s c ω η θ ln e p q =
     subst (Agree n k θ) (sym (ap (λ (M : List (words.Step Number)). walk rounded (joinedWord n M) ω) e ∙ walk-joined n s (drop (c + 1) L) ω))
     (agree-trans q (walk-agree ln (stepWord n s) (step-rows n s) η (walk rounded (joinedWord n (drop (c + 1) L)) ω) p))
@@ -105,7 +106,7 @@ joined-working n k L J stored some ln six c =
           let M = drop c L in
           let g : length M ≤ 6 = omega (arith, length-drop c L) in
           let h : length M * (n * n) ≤ 6 * (8 * 8) = mul-le-mul g (mul-le-mul ln ln) in
-          ranged-more (omega arith) (walk-ranged n M (stored-drop n L c stored) some [] (joinedWord n M) refl (omega arith) J S e);
+          ranged-more (omega arith) (walk-ranged n M (steps-walkable n M (stored-drop n L c stored)) some [] (joinedWord n M) refl (omega arith) J S e);
     }
 
 pub stored-at : (n : ℕ) (L M : List (words.Step Number)) (c : ℕ) (s : words.Step Number) → StoredSteps n L → drop c L ≡ s ∷ M → StoredStep n s

@@ -16,7 +16,7 @@ use Rattle.rowset.proofs.Positions.{position-injective}
 use Rattle.words.specs.RowSet.{replaced, ofMask}
 use Rattle.words.specs.Walk.{moved, movedIf}
 use Rattle.rowset.specs.Sets.{Neighbours, closedOf, changedOf, ChangedAt}
-use Rattle.walk.specs.Table.{absent}
+use Rattle.table.specs.Table.{absent}
 use Rattle.walk.specs.Held.{heldAt, stateOf, Agree, Working, letterReach}
 use Rattle.rowset.proofs.Order.{position-lt, position-within}
 use Rattle.rowset.proofs.Changed.{changed-below, closed-below, closed-count, closed-changed}
@@ -28,8 +28,12 @@ abbrev Ready : Number → Number → Number → Type 0
 Ready x w y = Ranged reach x × Ranged reach w × Ranged reach y × Ranged reach (productOf w y)
 
 move-reach : {x w y : Number} → Ranged letterReach x → Stored w → Ranged letterReach y → Ready x w y
-move-reach x w y =
-    (ranged-more (omega arith) x, ranged-more (omega arith) (ranged-stored w), ranged-more (omega arith) y, ranged-more (omega arith) (ranged-product (ranged-stored w) y (omega arith)))
+move-reach x w y = (
+  ranged-more (omega arith) x,
+  ranged-more (omega arith) (ranged-stored w),
+  ranged-more (omega arith) y,
+  ranged-more (omega arith) (ranged-product (ranged-stored w) y (omega arith)),
+)
 
 module _ (n k a o : ℕ) (w : Number) (v : List Number) where
   -- what the letter makes of the set s, and where s stands among the sets that it changes
@@ -45,7 +49,8 @@ module _ (n k a o : ℕ) (w : Number) (v : List Number) where
   module _ (N : Neighbours n a o) where
     moved-by : (s : ℕ) (b : Bool) → maskMoves a o s ≡ b → movedAt s ≡ movedIf rounded b a o w (stateOf v) (ofMask n s)
     unfolding movedAt moved
-    moved-by s b e = ap (λ (x : Bool). movedIf rounded x a o w (stateOf v) (ofMask n s)) (mask-moves n a o s (N .to-low) (N .to-high) (N .from-low) (N .from-high) ∙ e)
+    moved-by s b e =
+        ap (λ (x : Bool). movedIf rounded x a o w (stateOf v) (ofMask n s)) (mask-moves n a o s (N .to-low) (N .to-high) (N .from-low) (N .from-high) ∙ e)
 
     pub moved-still : (s : ℕ) → s < 2 ^ n → maskMoves a o s ≡ false → movedAt s ≡ heldAt v s
     moved-still s h e = moved-by s false e ∙ held-back v n s h
@@ -72,7 +77,8 @@ module _ (n k a o : ℕ) (w : Number) (v : List Number) where
       unfolding rankOf
       rank-lt s b c m =
           let b' = below-256 n s ln b in
-          position-lt (k - 1) (closedOf (min a o) s) (2 ^ (n - 2)) (closed-rows s b' c m) (closed-below s a o b' (N .to-low) la (N .from-low) lo (N .beside) n ln (N .to-high) (N .from-high) b)
+          position-lt (k - 1) (closedOf (min a o) s) (2 ^ (n - 2)) (closed-rows s b' c m)
+          (closed-below s a o b' (N .to-low) la (N .from-low) lo (N .beside) n ln (N .to-high) (N .from-high) b)
 
       rank-only : (s t : ℕ) → s < 256 → t < 256 → maskCount s ≡ k → maskCount t ≡ k → maskMoves a o s ≡ true → maskMoves a o t ≡ true
           → rankOf t ≡ rankOf s → t ≡ s
@@ -126,7 +132,8 @@ module _ (n k a o : ℕ) (w : Number) (v : List Number) where
             move-next z u' ez eu =
                 swept-next S s ln changed-lt (C .rows) (C .moves) (C .others)
                 (λ t bt ct mt e. rank-only s t (C .below) (below-256 n t ln bt) (C .rows) ct (C .moves) mt (e ∙ sym (C .others)))
-                u' z (eu ∙ ap (λ (x : ℕ). set u x z) ei) (ez ∙ ap₂ (λ (x y : Number). sumOf x (productOf w y)) here there ∙ sym (moved-changed s changed-lt (C .moves)))
+                u' z (eu ∙ ap (λ (x : ℕ). set u x z) ei)
+                (ez ∙ ap₂ (λ (x y : Number). sumOf x (productOf w y)) here there ∙ sym (moved-changed s changed-lt (C .moves)))
 
       pub move-all : {u : List Number} {p : ℕ} → SweptMove u p → countBelow (k - 1) (2 ^ (n - 2)) ≤ p → Agree n k (stateOf u) (moved rounded a o w (stateOf v))
       unfolding movedAt

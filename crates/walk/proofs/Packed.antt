@@ -14,9 +14,9 @@ use Rattle.number.proofs.Reach.{ranged-sum}
 use Rattle.number.proofs.Zero.{product-zero-right, sum-zero-right}
 use Rattle.rowset.specs.Mask.{positionOf}
 use Rattle.walk.specs.Held.{startOf}
-use Rattle.walk.specs.Table.{absent}
+use Rattle.table.specs.Table.{absent}
 use Rattle.walk.specs.Packed.{numbersOf}
-use Rattle.walk.proofs.Lent.{read-within}
+use Rattle.arrays.proofs.Filled.{read-any}
 
 map-set : (l : List ℕ) (i y : ℕ) → map unpackOf (set l i y) ≡ set (map unpackOf l) i (unpackOf y)
 map-set [] i y = refl
@@ -29,7 +29,7 @@ long (x ∷ l) = ap suc (long l)
 
 -- the number at i
 pub number-at : (u : List ℕ) (i : ℕ) → length u ≡ 70 → i < 70 → getD (numbersOf u) i absent ≡ unpackOf (getD u i 0)
-number-at u i e h = read-within (map unpackOf u) i absent (unpackOf 0) (omega (arith, long u, e)) ∙ List·getD-map unpackOf u i 0
+number-at u i e h = read-any (map unpackOf u) i absent (unpackOf 0) (omega (arith, long u, e)) ∙ List·getD-map unpackOf u i 0
 
 pub words-size : (u : List ℕ) → length (numbersOf u) ≡ 70 → length u ≡ 70
 words-size u e = sym (long u) ∙ e

@@ -17,7 +17,7 @@ use Rattle.rowset.proofs.Positions.{position-injective}
 use Rattle.words.specs.RowSet.{RowSet, ofMask}
 use Rattle.words.specs.Walk.{scaled}
 use Rattle.rowset.specs.Sets.{SetAt}
-use Rattle.walk.specs.Table.{absent}
+use Rattle.table.specs.Table.{absent}
 use Rattle.walk.specs.Steps.{scaling}
 use Rattle.walk.specs.Held.{heldAt, stateOf, Agree, Working, letterReach}
 use Rattle.rowset.proofs.Order.{position-lt, position-within}

@@ -15,7 +15,7 @@ use Rattle.walk.specs.declared.Way.{Way}
 use Rattle.walk.specs.declared.Way.the-variants.{Plain, Inverted, Conversed, Transposed}
 use Rattle.walk.specs.declared.letters.Move.{Move}
 use Rattle.rowset.specs.Sets.{adjacent}
-use Rattle.walk.specs.Table.{cellOf}
+use Rattle.table.specs.Table.{cellOf}
 use Rattle.walk.specs.Steps.{divides, backwards, entryPlace}
 use Rattle.walk.specs.Letters.{middle, placeWord, moveOf, moveAt, MoveWithin}
 
@@ -164,7 +164,8 @@ module _ (n : ℕ) (way : Way) (ln : 1 ≤ n) (hn : n ≤ 8) where
     letter-right =
         let e : 0 + t ≡ t = omega arith in
         subst (λ (k : ℕ). T (right n way k (getD (placeWord n way) t (D (λ i. 0))))) e
-        (along-at (right n way) 0 (placeWord n way) (and-right (eqb (length (placeWord n way)) (2 * middle n + 1)) (along (right n way) 0 (placeWord n way)) spelt-parts) t
+        (along-at (right n way) 0 (placeWord n way)
+        (and-right (eqb (length (placeWord n way)) (2 * middle n + 1)) (along (right n way) 0 (placeWord n way)) spelt-parts) t
         (omega (arith, word-length)) (D (λ i. 0)))
 
 -- a letter E or Et; a letter D, with its kind and its entries
@@ -187,7 +188,8 @@ entries-at : (n : ℕ) (way : Way) (e : ℕ → ℕ) → T (entries n way e) →
 unfolding entries
 entries-at n way e t i l h =
     let z : suc (i - 1) ≡ i = omega arith in
-    subst (λ (k : ℕ). e k ≡ entryPlace n (backwards way) k) z (eqb→eq _ _ (all-at n (λ i. eqb (e (suc i)) (entryPlace n (backwards way) (suc i))) t (i - 1) (omega arith)))
+    subst (λ (k : ℕ). e k ≡ entryPlace n (backwards way) k) z
+    (eqb→eq _ _ (all-at n (λ i. eqb (e (suc i)) (entryPlace n (backwards way) (suc i))) t (i - 1) (omega arith)))
 
 module _ (n : ℕ) (way : Way) (t : ℕ) where
   right-diagonal : (l : Letter ℕ) → T (right n way t l) → t ≡ middle n → IsDiagonal n way l

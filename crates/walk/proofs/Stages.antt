@@ -37,7 +37,8 @@ module _ (n t : ℕ) (ln : 1 ≤ n) (hn : n ≤ 8) (l : t < middle n) where
       let i : ℕ = stageOf t in
       let T' = implies-at (ltb t (middle n)) _ (all₂-at 9 28 stages stages-all n t (omega arith) h) (lt-ltb t (middle n) l) in
       let p = and-left (leb 1 i && (leb i 7 && leb (i * (i - 1) / 2) t)) _ T' in
-      let q = and-right (leb 1 i && (leb i 7 && leb (i * (i - 1) / 2) t)) (leb (columnOf t i) 7 && (leb (2 + i) (n + columnOf t i) && leb (rowOf n t i) 8)) T' in
+      let q =
+      and-right (leb 1 i && (leb i 7 && leb (i * (i - 1) / 2) t)) (leb (columnOf t i) 7 && (leb (2 + i) (n + columnOf t i) && leb (rowOf n t i) 8)) T' in
       let p' = and-right (leb 1 i) (leb i 7 && leb (i * (i - 1) / 2) t) p in
       let q' = and-right (leb (columnOf t i) 7) (leb (2 + i) (n + columnOf t i) && leb (rowOf n t i) 8) q in
       record {

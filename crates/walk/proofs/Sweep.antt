@@ -12,7 +12,7 @@ use lib.Seq.{getD-set-same, getD-set-other}
 use Rattle.number.specs.declared.Number.{Number}
 use Rattle.rowset.specs.Mask.{maskCount, positionOf}
 use Rattle.rowset.proofs.Positions.{position-below, position-injective}
-use Rattle.walk.specs.Table.{absent}
+use Rattle.table.specs.Table.{absent}
 use Rattle.walk.specs.Held.{heldAt}
 
 pub record Swept (n k : ℕ) (touched : ℕ → Bool) (rank : ℕ → ℕ) (new old : ℕ → Number) (u : List Number) (p : ℕ) : Type 0 where

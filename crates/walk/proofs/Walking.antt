@@ -24,7 +24,7 @@ use Rattle.words.proofs.Related.{total, letterCost}
 use Rattle.words.proofs.Counts.{total-append, joined-square}
 use Rattle.words.proofs.Steps.{Weights, step-rows, step-weights}
 use Rattle.words.specs.Sources.{StoredStep}
-use Rattle.words.proofs.Exponents.{state-ranged}
+use Rattle.words.proofs.Exponents.{step-walkable, state-ranged}
 use Rattle.walk.specs.Held.{Agree, Working, stepReach, letterReach}
 use Rattle.walk.proofs.Held.{agree-refl, agree-trans, working-agree, act-agree}
 
@@ -69,7 +69,8 @@ module _ (n k : ℕ) (s : words.Step Number) (stored : StoredStep n s) (some : 1
       working-agree (walk-agree ln W (part-rows U W e) ω (only k ω) (only-agree k ω n))
       (record {
         ranged = λ S z c. ranged-more (omega (arith, part-cost U W e))
-            (state-ranged n W (all-behind (Weights Stored Stored n) U W (subst (All (Weights Stored Stored n)) (sym e) (step-weights Stored n s stored)))
+            (state-ranged n W (all-behind (Weights (Ranged 1000) Stored n) U W
+            (subst (All (Weights (Ranged 1000) Stored n)) (sym e) (step-weights (Ranged 1000) Stored n s (step-walkable n s stored))))
             stepReach (only k ω) (only-ranged k ω stepReach n w) (omega (arith, part-cost U W e)) S z);
       })
 

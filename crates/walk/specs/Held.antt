@@ -7,7 +7,7 @@ use lib.ListN.{getD, length, set, replicate}
 use Rattle.number.specs.Number.{rounded, zeroNumber, oneNumber, Ranged}
 use Rattle.number.specs.declared.Number.{Number}
 use Rattle.rowset.specs.Mask.{maskOf, positionOf}
-use Rattle.walk.specs.Table.{absent}
+use Rattle.table.specs.Table.{absent}
 use Rattle.words.specs.RowSet.{RowSet, count}
 use Rattle.words.specs.Walk.{State}
 

@@ -1,9 +1,9 @@
 -- What a caller of the walk holds and lends: the factors of six steps in words (tableIn), and the letters of their words as numbers (Spelled).
--- A joined word with these: its steps (stepsOf), and that its letters are spelled (AllSpelled).
+-- A joined word with these: its steps (stepsOf), and that its letters are spelled (AllSpelled, Prepared).
 use mathlib.Core.Path.{_≡_}
 use mathlib.Core.List.{List, [], _∷_, map}
 use Prim.Native.Nat.{ℕ, zero, suc, _+_, _*_, _<_}
-use lib.ListN.{getD, take}
+use lib.ListN.{getD, take, length, replicate}
 use Rattle.number.specs.declared.Number.{Number}
 use Rattle.words.specs.Operation as words
 use Rattle.walk.specs.Steps.{stepOf}
@@ -57,3 +57,14 @@ stepsOf j b = map (stepAt j b) (take (j .count) numbered)
 
 pub record AllSpelled (j : Joined) (l : List ℕ) : Type 0 where
   pub step : (c : ℕ) → c < j .count → Spelled (j .n) (wayAt j c) c l
+
+-- a word of n rows without steps
+abbrev pub noSteps : ℕ → Joined
+noSteps n = record { steps = replicate 6 (record { way = Plain }); count = 0; n = n }
+
+-- a word whose letters l and factors b can be lent, and to which a step can be put
+pub record Prepared (j : Joined) (l b : List ℕ) : Type 0 where
+  pub six : length (j .steps) ≡ 6
+  pub letters : length l ≡ 342
+  pub factors : length b ≡ 768
+  pub spelled : AllSpelled j l

@@ -6,7 +6,7 @@ use Rattle.words.specs.Word.{Letter, E, Et, D, Dinv, Word}
 use Rattle.words.specs.Operation.{step, stepWord}
 use Rattle.rowset.specs.Sets.{Neighbours}
 use Rattle.walk.specs.Steps.{wayOf}
-use Rattle.walk.specs.Table.{cellOf}
+use Rattle.table.specs.Table.{cellOf}
 use Rattle.walk.specs.declared.Way.{Way}
 use Rattle.walk.specs.declared.Way.the-variants.{Plain}
 use Rattle.walk.specs.declared.letters.Move.{Move}

@@ -1,4 +1,3 @@
-pub mod Table
 pub mod Steps
 pub mod Letters
 pub mod Lent

@@ -10,7 +10,7 @@ use Rattle.words.specs.Word.{Letter, D}
 use Rattle.words.specs.Walk.{State, scaled}
 use Rattle.words.specs.Operation as words
 use Rattle.words.specs.Operation.{stepWord}
-use Rattle.walk.specs.Table.{cellOf, factorsOf}
+use Rattle.table.specs.Table.{cellOf, factorsOf}
 use Rattle.walk.specs.declared.Way.{Way}
 use Rattle.walk.specs.declared.Way.the-variants.{Plain, Inverted, Conversed, Transposed}
 

@@ -1,9 +1,14 @@
 // What a caller of the walk makes once and lends: the factors of six steps in words, and the letters of their words as numbers.
+// A word is made of no steps (`no_steps`), and a step at a time is put behind (`put_step`).
 ghost use mathlib.Core.Path.{_≡_};
+ghost use mathlib.Core.List.{[], _∷_, _++_};
 ghost use Prim.Native.Nat.{_+_, _*_, _≤_, _<_};
 ghost use lib.ListN.{length};
 ghost use Rattle.walk.specs.Letters.{middle, moveAt, MoveWithin};
-ghost use Rattle.walk.specs.Lent.{numberIn, tableIn, codeOf, Spelled, Kept};
+ghost use Rattle.walk.specs.Lent.{numberIn, tableIn, codeOf, Spelled, Kept, noSteps, stepsOf, Prepared};
+ghost use Rattle.walk.specs.Steps.{stepOf};
+use crate::Joined;
+use crate::Step;
 use crate::Way;
 use crate::letters;
 use crate::letters::Move;
@@ -76,5 +81,42 @@ pub fn letter_in(l: &[u16; 342], n: usize, way: Way, c: usize, t: usize) -> Move
         to: rows % 16,
         from: rows / 16,
         at: v % 64,
+    }
+}
+
+// A word of n rows without steps.
+pub fn no_steps(n: usize) -> Joined
+    ensures { λ r. ⌜ r ≡ noSteps n ⌝ }
+{
+    let s = Step { way: Way::Plain };
+    Joined {
+        steps: [s; 6],
+        count: 0,
+        n,
+    }
+}
+
+// One step more behind those of a word: a source's factors, and the way that its word is taken.
+pub fn put_step(
+    word: Joined,
+    l: &mut [u16; 342],
+    b: &mut [u64; 768],
+    way: Way,
+    table: [Number; 64],
+) -> Joined
+    requires { ⌜ Prepared word (now l) (now b) × (1 ≤ word .n) × (word .n ≤ 8) × (word .count < 6) ⌝ }
+    ensures { λ r. ⌜ Prepared r (now (l .exit)) (now (b .exit)) × (r .n ≡ word .n) × (r .count ≡ word .count + 1) ⌝ }
+    ensures { λ r. ⌜ stepsOf r (now (b .exit)) ≡ stepsOf word (now (b .entry)) ++ (stepOf way table ∷ []) ⌝ }
+{
+    let n = word.n;
+    let c = word.count;
+    spell(l, n, way, c);
+    put_factors(b, c, table);
+    let mut steps = word.steps;
+    steps[c] = Step { way };
+    Joined {
+        steps,
+        count: c + 1,
+        n,
     }
 }

@@ -1,14 +1,15 @@
--- Words whose letters correspond one by one (`Matched P`): the word of a matrix (matched-word), words joined (matched-append), the inverse's word and the converse's
--- (matched-inverse, matched-converse). So the words of steps whose sources are alike (Alike, AlikeSteps): letters-joined. Steps are alike in other numbers (alike-each).
--- A word corresponds to itself in its weights and entries (letters-self).
+-- Words whose letters correspond one by one (`Matched P`): the word of a matrix (matched-word), words joined (matched-append), the inverse's word and the
+-- converse's (matched-inverse, matched-converse). So the words of steps whose sources are alike (Alike, AlikeSteps): letters-joined. Steps are alike in other
+-- numbers (alike-each). A word corresponds to itself in its weights and entries (letters-self).
 use mathlib.Core.Path.{_≡_, refl, sym, ap}
 use mathlib.Core.List.{List, [], _∷_, _++_}
 use Prim.Native.Nat.{ℕ, zero, suc, _+_, _-_, _≤_, _<_}
 use native.Mathlib.Omega.{arith}
-use Rattle.words.specs.Word.{Factors, Letter, E, Et, D, Dinv, Word, ascending, descending, forUp, word, inverseLetter, inverseWord, converseLetter, converseWord, exchanged}
+use Rattle.words.specs.Word.{Factors, Letter, E, Et, D, Dinv, Word, ascending, descending, forUp, word, inverseLetter, inverseWord, converseLetter}
+use Rattle.words.specs.Word.{converseWord, exchanged}
 use Rattle.words.specs.Operation.{Way, plain, inverted, conversed, transposed, Step, step, stepWord, joinedWord, eachSteps}
 use Rattle.words.proofs.Walks.{All}
-use Rattle.words.specs.Sources.{Sources}
+use Rattle.words.specs.Sources.{Weighted, Sources}
 use Rattle.words.proofs.Steps.{Weights}
 use Rattle.words.proofs.Related.{Matched, Letters}
 
@@ -17,17 +18,20 @@ module _ {A B : Type 0} (P : Letter A → Letter B → Type 0) where
   matched-append [] [] U′ X′ h g = g
   matched-append (x ∷ U) (y ∷ X) U′ X′ h g = (h .0, matched-append U X U′ X′ (h .1) g)
 
-  matched-ascending : (a c : ℕ) (f : ℕ → Word A) (g : ℕ → Word B) → ((i : ℕ) → a ≤ i → i < a + c → Matched P (f i) (g i)) → Matched P (ascending a c f) (ascending a c g)
+  matched-ascending : (a c : ℕ) (f : ℕ → Word A) (g : ℕ → Word B) → ((i : ℕ) → a ≤ i → i < a + c → Matched P (f i) (g i))
+      → Matched P (ascending a c f) (ascending a c g)
   unfolding ascending
   matched-ascending a zero f g h = tt
   matched-ascending a (suc c) f g h =
       matched-append (f a) (g a) _ _ (h a (omega arith) (omega arith)) (matched-ascending (suc a) c f g (λ i x y. h i (omega arith) (omega arith)))
 
-  matched-descending : (a c : ℕ) (f : ℕ → Word A) (g : ℕ → Word B) → c ≤ a → ((i : ℕ) → i ≤ a → a < i + c → Matched P (f i) (g i)) → Matched P (descending a c f) (descending a c g)
+  matched-descending : (a c : ℕ) (f : ℕ → Word A) (g : ℕ → Word B) → c ≤ a → ((i : ℕ) → i ≤ a → a < i + c → Matched P (f i) (g i))
+      → Matched P (descending a c f) (descending a c g)
   unfolding descending
   matched-descending a zero f g l h = tt
   matched-descending a (suc c) f g l h =
-      matched-append (f a) (g a) _ _ (h a (omega arith) (omega arith)) (matched-descending (a - 1) c f g (omega arith) (λ i x y. h i (omega arith) (omega arith)))
+      matched-append (f a) (g a) _ _ (h a (omega arith) (omega arith))
+      (matched-descending (a - 1) c f g (omega arith) (λ i x y. h i (omega arith) (omega arith)))
 
   single : (x : Letter A) (y : Letter B) → P x y → Matched P (x ∷ []) (y ∷ [])
   single x y h = (h, tt)
@@ -40,7 +44,8 @@ module _ {A B : Type 0} (P : Letter A → Letter B → Type 0) where
     pub matched-word : Matched P (word n b) (word n c)
     unfolding word
     matched-word =
-        matched-append (forUp 1 (n - 1) (λ i. forUp (n - i + 1) n (λ j. E j (b j (i + j - n)) ∷ []))) (forUp 1 (n - 1) (λ i. forUp (n - i + 1) n (λ j. E j (c j (i + j - n)) ∷ []))) _ _
+        matched-append (forUp 1 (n - 1) (λ i. forUp (n - i + 1) n (λ j. E j (b j (i + j - n)) ∷ [])))
+        (forUp 1 (n - 1) (λ i. forUp (n - i + 1) n (λ j. E j (c j (i + j - n)) ∷ []))) _ _
         (matched-ascending 1 (suc (n - 1) - 1) _ _ (λ i x y. matched-ascending (n - i + 1) (suc n - (n - i + 1)) _ _ (λ j z w.
         single (E j (b j (i + j - n))) (E j (c j (i + j - n))) (below (i + j - n) j (omega arith) (omega arith) (omega arith))))) (
           diagonal,
@@ -48,12 +53,14 @@ module _ {A B : Type 0} (P : Letter A → Letter B → Type 0) where
               single (Et j (b (i + j - n) j)) (Et j (c (i + j - n) j)) (above (i + j - n) j (omega arith) (omega arith) (omega arith)))),
         )
 
-  pub matched-inverse : ((x : Letter A) (y : Letter B) → P x y → P (inverseLetter x) (inverseLetter y)) → (U : Word A) (X : Word B) → Matched P U X → Matched P (inverseWord U) (inverseWord X)
+  pub matched-inverse : ((x : Letter A) (y : Letter B) → P x y → P (inverseLetter x) (inverseLetter y)) → (U : Word A) (X : Word B) → Matched P U X
+      → Matched P (inverseWord U) (inverseWord X)
   unfolding inverseWord
   matched-inverse h [] [] g = tt
   matched-inverse h (x ∷ U) (y ∷ X) g = matched-append (inverseWord U) (inverseWord X) _ _ (matched-inverse h U X (g .1)) (h x y (g .0), tt)
 
-  pub matched-converse : (n : ℕ) → ((x : Letter A) (y : Letter B) → P x y → P (converseLetter n x) (converseLetter n y)) → (U : Word A) (X : Word B) → Matched P U X
+  pub matched-converse : (n : ℕ) → ((x : Letter A) (y : Letter B) → P x y → P (converseLetter n x) (converseLetter n y)) → (U : Word A) (X : Word B)
+      → Matched P U X
       → Matched P (converseWord n U) (converseWord n X)
   unfolding converseWord
   matched-converse n h [] [] g = tt
@@ -118,12 +125,14 @@ module _ {A B : Type 0} (P Q : A → B → Type 0) (n : ℕ) where
   letters-joined (s ∷ []) (t ∷ t′ ∷ M) h = absurd (h .1)
   letters-joined (s ∷ s′ ∷ L) (t ∷ []) h = absurd (h .1)
   letters-joined (s ∷ s′ ∷ L) (t ∷ t′ ∷ M) h =
-      matched-append (Letters P Q n) (stepWord n s) (stepWord n t) (joinedWord n (s′ ∷ L)) (joinedWord n (t′ ∷ M)) (letters-step s t (h .0)) (letters-joined (s′ ∷ L) (t′ ∷ M) (h .1))
+      matched-append (Letters P Q n) (stepWord n s) (stepWord n t) (joinedWord n (s′ ∷ L)) (joinedWord n (t′ ∷ M)) (letters-step s t (h .0))
+      (letters-joined (s′ ∷ L) (t′ ∷ M) (h .1))
 
-  -- sources whose factors are in R, beside the same steps in other numbers
-  pub alike-each : (R : A → Type 0) (f : A → B) → ((x : A) → R x → P x (f x)) → ((x : A) → R x → Q x (f x)) → (L : List (Step A)) → Sources R n L → AlikeSteps L (eachSteps f L)
-  alike-each R f p q [] h = tt
-  alike-each R f p q (step w b ∷ L) h = (
-    alike (record { off = λ i j x y z v e. p (b i j) (h .0 i j (x, y) (z, v)); on = λ i x y. q (b i i) (h .0 i i (x, y) (x, y)) }),
-    alike-each R f p q L (h .1),
+  -- sources whose factors are in R off the diagonal and in S on it, beside the same steps in other numbers
+  pub alike-each : (R S : A → Type 0) (f : A → B) → ((x : A) → R x → P x (f x)) → ((x : A) → S x → Q x (f x))
+      → (L : List (Step A)) → Sources (Weighted R S n) L → AlikeSteps L (eachSteps f L)
+  alike-each R S f p q [] h = tt
+  alike-each R S f p q (step w b ∷ L) h = (
+    alike (record { off = λ i j x y z v e. p (b i j) (h .0 .off i j (x, y) (z, v) e); on = λ i x y. q (b i i) (h .0 .on i (x, y)) }),
+    alike-each R S f p q L (h .1),
   )

@@ -1,5 +1,5 @@
--- Chosen rows in ascending order: how many (length-members), the highest of them (chosen-top), the others (chosen-under), each a row (chosen-in); sets among them
--- (length-among, count-among); and all rows chosen (count-all, chosen-all).
+-- Chosen rows in ascending order: how many (length-members), the highest of them (chosen-top), the others (chosen-under), each a row (chosen-in); sets among
+-- them (length-among, count-among); and all rows chosen (count-all, chosen-all, among-all).
 use mathlib.Core.Path.{_≡_, refl, sym, ap, _∙_}
 use mathlib.Core.Bool.{true, false}
 use mathlib.Core.List.{[], _∷_, _++_}
@@ -77,3 +77,10 @@ chosen-all (suc n) i h =
           let e : i ≡ suc (count (rows n 1 n)) = omega (arith, h .1, count-all n) in
           ap (chosen (true ∷ rows n 1 n)) e ∙ chosen-last (rows n 1 n) ∙ omega (arith, length-rows n 1 n, h .1)
     ]
+
+pub among-all : (n : ℕ) (I : RowSet) → length I ≡ n → among (rows n 1 n) I ≡ I
+unfolding among rows
+among-all zero [] e = refl
+among-all zero (x ∷ I) e = absurd (omega arith)
+among-all (suc n) [] e = absurd (omega arith)
+among-all (suc n) (x ∷ I) e = ap (λ P. among P (x ∷ I)) (rows-last n 1 (omega arith)) ∙ ap (λ S. x ∷ S) (among-all n I (omega arith))

@@ -1,4 +1,5 @@
--- How many letters the words have: a word of n rows has n² - n letters E and Et and one D (word-cost), and m joined words m times as many (joined-cost); where each of the
+-- How many letters the words have: a word of n rows has n² - n letters E and Et and one D (word-cost), and m joined words m times as many (joined-cost); where
+-- each of the
 -- n entries of D costs as much as a letter E or Et, m n² such costs (joined-square).
 use mathlib.Core.Path.{_≡_, refl, sym, ap, ap₂, _∙_}
 use mathlib.Core.List.{List, [], _∷_, _++_}
@@ -6,7 +7,8 @@ use Prim.Native.Nat.{ℕ, zero, suc, _+_, _-_, _*_, _≤_, _<_}
 use native.Mathlib.Nat.{mul-le-mul}
 use native.Mathlib.Omega.{arith}
 use lib.ListN.{length}
-use Rattle.words.specs.Word.{Factors, Letter, E, Et, D, Dinv, Word, ascending, descending, forUp, forDown, word, inverseLetter, inverseWord, converseLetter, converseWord, exchanged}
+use Rattle.words.specs.Word.{Factors, Letter, E, Et, D, Dinv, Word, ascending, descending, forUp, forDown, word, inverseLetter, inverseWord}
+use Rattle.words.specs.Word.{converseLetter, converseWord, exchanged}
 use Rattle.words.proofs.Related.{total, letterCost}
 use Rattle.words.specs.Operation.{plain, inverted, conversed, transposed, Step, step, stepWord, joinedWord}
 
@@ -37,7 +39,8 @@ module _ {A : Type 0} (f : Letter A → ℕ) where
     total-descending a (suc c) g h = total-append (g a) (descending (a - 1) c g) ∙ omega (arith, h a, total-descending (a - 1) c g h)
 
     -- i letters for each i
-    sum-ascending : (a c : ℕ) (g : ℕ → Word A) → ((i : ℕ) → a ≤ i → i < a + c → total f (g i) ≡ e * i) → 2 * total f (ascending a c g) + e * c ≡ e * c * (2 * a + c)
+    sum-ascending : (a c : ℕ) (g : ℕ → Word A) → ((i : ℕ) → a ≤ i → i < a + c → total f (g i) ≡ e * i)
+        → 2 * total f (ascending a c g) + e * c ≡ e * c * (2 * a + c)
     unfolding ascending total
     sum-ascending a zero g h = omega arith
     sum-ascending a (suc c) g h =
@@ -49,7 +52,8 @@ module _ {A : Type 0} (f : Letter A → ℕ) where
     sum-descending zero g h = omega arith
     sum-descending (suc c) g h =
         let z : suc c - 1 ≡ c = omega arith in
-        let p : total f (descending (suc c) (suc c) g) ≡ total f (g (suc c)) + total f (descending (suc c - 1) c g) = total-append (g (suc c)) (descending (suc c - 1) c g) in
+        let p : total f (descending (suc c) (suc c) g) ≡ total f (g (suc c)) + total f (descending (suc c - 1) c g) =
+        total-append (g (suc c)) (descending (suc c - 1) c g) in
         let q : total f (descending (suc c - 1) c g) ≡ total f (descending c c g) = ap (λ (i : ℕ). total f (descending i c g)) z in
         omega (arith, p, q, h (suc c) (omega arith), sum-descending c g (λ i x. h i (omega arith)))
 
@@ -58,13 +62,15 @@ module _ {A : Type 0} (f : Letter A → ℕ) where
     unfolding total
     total-stage n i b l =
         let z : suc n - (n - i + 1) ≡ i = omega arith in
-        total-ascending (n - i + 1) (suc n - (n - i + 1)) (λ j. E j (b j (i + j - n)) ∷ []) (λ j. omega (arith, moving j (b j (i + j - n)) .0)) ∙ ap (λ (c : ℕ). e * c) z
+        total-ascending (n - i + 1) (suc n - (n - i + 1)) (λ j. E j (b j (i + j - n)) ∷ []) (λ j. omega (arith, moving j (b j (i + j - n)) .0))
+        ∙ ap (λ (c : ℕ). e * c) z
 
     total-stage-back : (n i : ℕ) (b : Factors A) → i ≤ n → total f (forDown n (n - i + 1) (λ j. Et j (b (i + j - n) j) ∷ [])) ≡ e * i
     unfolding total
     total-stage-back n i b l =
         let z : suc n - (n - i + 1) ≡ i = omega arith in
-        total-descending n (suc n - (n - i + 1)) (λ j. Et j (b (i + j - n) j) ∷ []) (λ j. omega (arith, moving j (b (i + j - n) j) .1)) ∙ ap (λ (c : ℕ). e * c) z
+        total-descending n (suc n - (n - i + 1)) (λ j. Et j (b (i + j - n) j) ∷ []) (λ j. omega (arith, moving j (b (i + j - n) j) .1))
+        ∙ ap (λ (c : ℕ). e * c) z
 
     word-total : (n : ℕ) (b : Factors A) → 1 ≤ n → total f (word n b) ≡ e * (n * n - n) + d
     unfolding word total
@@ -72,8 +78,10 @@ module _ {A : Type 0} (f : Letter A → ℕ) where
         let U : ℕ → Word A = λ i. forUp (n - i + 1) n (λ j. E j (b j (i + j - n)) ∷ []) in
         let L : ℕ → Word A = λ i. forDown n (n - i + 1) (λ j. Et j (b (i + j - n) j) ∷ []) in
         let z : suc (n - 1) - 1 ≡ n - 1 = omega arith in
-        let s : 2 * total f (ascending 1 (n - 1) U) + e * (n - 1) ≡ e * (n - 1) * (2 * 1 + (n - 1)) = sum-ascending 1 (n - 1) U (λ i x y. total-stage n i b (omega arith)) in
-        let t : 2 * total f (descending (n - 1) (n - 1) L) ≡ e * (n - 1) * ((n - 1) + 1) = sum-descending (n - 1) L (λ i x. total-stage-back n i b (omega arith)) in
+        let s : 2 * total f (ascending 1 (n - 1) U) + e * (n - 1) ≡ e * (n - 1) * (2 * 1 + (n - 1)) =
+        sum-ascending 1 (n - 1) U (λ i x y. total-stage n i b (omega arith)) in
+        let t : 2 * total f (descending (n - 1) (n - 1) L) ≡ e * (n - 1) * ((n - 1) + 1) =
+        sum-descending (n - 1) L (λ i x. total-stage-back n i b (omega arith)) in
         total-append (ascending 1 (suc (n - 1) - 1) U) (D (λ i. b i i) ∷ descending (n - 1) (suc (n - 1) - 1) L)
         ∙ ap₂ (λ (m x : ℕ). total f (ascending 1 m U) + (x + total f (descending (n - 1) m L))) z (scaling (λ i. b i i) .0)
         ∙ halves e d (total f (ascending 1 (n - 1) U)) (total f (descending (n - 1) (n - 1) L)) (n - 1) n (omega arith) s t
@@ -110,7 +118,8 @@ module _ {A : Type 0} (f : Letter A → ℕ) where
     unfolding joinedWord total
     joined-total n [] l = omega arith
     joined-total n (s ∷ []) l = step-total n s l ∙ omega arith
-    joined-total n (s ∷ t ∷ L) l = total-append (stepWord n s) (joinedWord n (t ∷ L)) ∙ ap₂ _+_ (step-total n s l) (joined-total n (t ∷ L) l) ∙ more (suc (length L)) (e * (n * n - n) + d)
+    joined-total n (s ∷ t ∷ L) l =
+        total-append (stepWord n s) (joinedWord n (t ∷ L)) ∙ ap₂ _+_ (step-total n s l) (joined-total n (t ∷ L) l) ∙ more (suc (length L)) (e * (n * n - n) + d)
       where
         more : (m y : ℕ) → y + m * y ≡ suc m * y
         more m y = omega arith

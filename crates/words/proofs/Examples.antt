@@ -1,24 +1,23 @@
--- Document 01's marked examples hold, P5 to P12 (rule-examples) and all of P1 to P12 as one table (marked-examples), and so do its tables of bounds (bound-examples), by computing; the bounds are the
--- paper's formulas (product-bound, source-bound).
+-- The worked examples hold (rule-examples), and so do the tables of bounds (bound-examples), by computing; the bounds are the paper's formulas (product-bound,
+-- source-bound).
 use mathlib.Core.Path.{_≡_, refl}
 use Prim.Native.Nat.{ℕ, _+_, _-_, _*_}
 use native.Mathlib.Omega.{arith}
 use lib.Ieee.{size}
-use mathlib.Core.List.{List, [], _∷_, _++_}
-use Rattle.number.specs.Examples.{Row, AllHold, arithmeticTable}
-use Rattle.number.proofs.Examples.{examples}
-use Rattle.number.specs.Number.{round, carried, sumOf, productOf, quotientOf, inRange}
+use Rattle.number.specs.Examples.{AllHold}
+use Rattle.number.specs.Number.{round, renormalised, sumOf, productOf, quotientOf, inRange}
 use Rattle.number.specs.Signed.{signedRound, signedSum, withSign, signedProduct}
 use Rattle.words.specs.RowSet.{has, put, count, equal, rows, ofMask, among}
 use Rattle.words.specs.Word.{ascending, descending, word, inverseWord, converseWord}
 use Rattle.words.specs.Walk.{oneAt, moved, scaled, act, walk, minor, carryLetter, carry}
 use Rattle.words.specs.Formula.{onDiagonal, belowDiagonal, newFactor}
-use Rattle.words.specs.Operation.{joinedWord, boundOf, rowByRow, refactored}
-use Rattle.words.specs.Examples.{ruleTable, boundTable, markedTable}
+use Rattle.words.specs.Operation.{joinedWord, boundOf, rowByRow, result}
+use Rattle.words.specs.Examples.{ruleTable, boundTable}
 
 pub rule-examples : AllHold ruleTable
-unfolding ruleTable has put count equal rows ofMask among ascending descending word inverseWord converseWord joinedWord oneAt moved scaled act walk minor carryLetter carry
-    onDiagonal belowDiagonal newFactor refactored rowByRow round carried sumOf productOf quotientOf signedRound signedSum withSign signedProduct inRange size lib.Ieee.span lib.Ieee.climb mathlib.Core.Bool.xor
+unfolding ruleTable has put count equal rows ofMask among ascending descending word inverseWord converseWord joinedWord oneAt moved scaled act walk minor
+    carryLetter carry onDiagonal belowDiagonal newFactor result rowByRow round renormalised sumOf productOf quotientOf signedRound signedSum withSign
+    signedProduct inRange size lib.Ieee.span lib.Ieee.climb mathlib.Core.Bool.xor
 rule-examples = (refl, (refl, (refl, (refl, (refl, (refl, (refl, (refl, (refl, (refl, (refl, tt)))))))))))
 
 pub bound-examples : AllHold boundTable
@@ -31,13 +30,3 @@ product-bound n = omega arith
 
 pub source-bound : (n : ℕ) → boundOf 1 n ≡ 8 * n * n - 4 * n + 3
 source-bound n = omega arith
-
--- two tables, one behind the other
-hold-append : (T S : List Row) → AllHold T → AllHold S → AllHold (T ++ S)
-hold-append [] S t s = s
-hold-append (r ∷ T) S t s = (t .0, hold-append T S (t .1) s)
-
--- P1 TO P12
-pub marked-examples : AllHold markedTable
-unfolding markedTable
-marked-examples = hold-append arithmeticTable ruleTable examples rule-examples

@@ -13,3 +13,4 @@ pub mod Formulas
 pub mod Exponents
 pub mod Examples
 pub mod RowByRow
+pub mod Operations

@@ -1,4 +1,5 @@
--- THE GRADED WALK LEMMA: a relation between the numbers of two arithmetics that a letter keeps is kept by a walk (walk-related), and by a minor (minor-related).
+-- THE GRADED WALK LEMMA: a relation between the numbers of two arithmetics that a letter keeps is kept by a walk (walk-related), and by a minor
+-- (minor-related).
 -- The relation is graded, as by an error so far: a letter E or Et takes a grade to another, and so does each entry of D that is multiplied or divided by.
 -- Instances: rounded numbers within so many unit roundings of fractions; exponents that reach so far; fractions that stand for elements of a ring.
 use mathlib.Core.Path.{_≡_, refl, ap, _∙_, subst}
@@ -90,7 +91,8 @@ module _ (A B : Arithmetic) (G : Type 0) (Rel : G → A .Num → B .Num → Type
   abbrev pub States : G → State A → State B → Type 0
   States g ω η = (S : RowSet) → length S ≡ n → Rel g (ω S) (η S)
 
-  moved-related : (a o : ℕ) (g : G) (w : A .Num) (v : B .Num) → Weight w v → (ω : State A) (η : State B) → States g ω η → States (afterMove g) (moved A a o w ω) (moved B a o v η)
+  moved-related : (a o : ℕ) (g : G) (w : A .Num) (v : B .Num) → Weight w v → (ω : State A) (η : State B) → States g ω η
+      → States (afterMove g) (moved A a o w ω) (moved B a o v η)
   unfolding moved
   moved-related a o g w v h ω η r S s = by (has a S && not (has o S))
     where
@@ -101,17 +103,20 @@ module _ (A B : Arithmetic) (G : Type 0) (Rel : G → A .Num → B .Num → Type
   module _ (f : A .Num → A .Num → A .Num) (h : B .Num → B .Num → B .Num)
       (kept : (g : G) (x e : A .Num) (y d : B .Num) → Rel g x y → Entry e d → Rel (afterEntry g) (f x e) (h y d))
       (e : ℕ → A .Num) (d : ℕ → B .Num) (entries : (i : ℕ) → 1 ≤ i → i ≤ n → Entry (e i) (d i)) where
-    pub scaled-related : (S : RowSet) → length S ≤ n → (g : G) (x : A .Num) (y : B .Num) → Rel g x y → Rel (repeated (length S) afterEntry g) (scaled A f e S x) (scaled B h d S y)
+    pub scaled-related : (S : RowSet) → length S ≤ n → (g : G) (x : A .Num) (y : B .Num) → Rel g x y
+        → Rel (repeated (length S) afterEntry g) (scaled A f e S x) (scaled B h d S y)
     unfolding scaled repeated
     scaled-related [] l g x y r = r
     scaled-related (true ∷ S) l g x y r = kept _ _ _ _ _ (scaled-related S (omega arith) g x y r) (entries (suc (length S)) (omega arith) l)
     scaled-related (false ∷ S) l g x y r = rel-skips _ _ _ (scaled-related S (omega arith) g x y r)
 
-    scaled-states : (g : G) (ω : State A) (η : State B) → States g ω η → States (repeated n afterEntry g) (λ S. scaled A f e S (ω S)) (λ S. scaled B h d S (η S))
+    scaled-states : (g : G) (ω : State A) (η : State B) → States g ω η
+        → States (repeated n afterEntry g) (λ S. scaled A f e S (ω S)) (λ S. scaled B h d S (η S))
     scaled-states g ω η r S s =
         subst (λ (k : ℕ). Rel (repeated k afterEntry g) (scaled A f e S (ω S)) (scaled B h d S (η S))) s (scaled-related S (omega (arith, s)) g _ _ (r S s))
 
-  act-related : (l : Letter (A .Num)) (m : Letter (B .Num)) → Letters Weight Entry n l m → (g : G) (ω : State A) (η : State B) → States g ω η → States (afterLetter l g) (act A l ω) (act B m η)
+  act-related : (l : Letter (A .Num)) (m : Letter (B .Num)) → Letters Weight Entry n l m → (g : G) (ω : State A) (η : State B) → States g ω η
+      → States (afterLetter l g) (act A l ω) (act B m η)
   unfolding act
   act-related (E j w) (E i v) h g ω η r S s =
       subst (λ (k : ℕ). Rel (afterMove g) (moved A j (j - 1) w ω S) (moved B k (k - 1) v η S)) (h .0) (moved-related j (j - 1) g w v (h .1) ω η r S s)
@@ -120,13 +125,15 @@ module _ (A B : Arithmetic) (G : Type 0) (Rel : G → A .Num → B .Num → Type
   act-related (D e) (D f) h g ω η r S s = scaled-states (A .mul) (B .mul) rel-times e f h g ω η r S s
   act-related (Dinv e) (Dinv f) h g ω η r S s = scaled-states (A .div) (B .div) rel-over e f h g ω η r S s
 
-  pub walk-related : (W : Word (A .Num)) (X : Word (B .Num)) → Matched (Letters Weight Entry n) W X → (g : G) (ω : State A) (η : State B) → States g ω η → States (after W g) (walk A W ω) (walk B X η)
+  pub walk-related : (W : Word (A .Num)) (X : Word (B .Num)) → Matched (Letters Weight Entry n) W X → (g : G) (ω : State A) (η : State B) → States g ω η
+      → States (after W g) (walk A W ω) (walk B X η)
   unfolding walk after
   walk-related [] [] h g ω η r S s = r S s
   walk-related (l ∷ W) (m ∷ X) h g ω η r S s = act-related l m (h .0) (after W g) (walk A W ω) (walk B X η) (walk-related W X (h .1) g ω η r) S s
 
   -- a minor of related words, from a grade that relates zero to zero and one to one
-  pub minor-related : (W : Word (A .Num)) (X : Word (B .Num)) → Matched (Letters Weight Entry n) W X → (g : G) → Rel g (A .zero) (B .zero) → Rel g (A .one) (B .one) → (I J : RowSet) → length I ≡ n
+  pub minor-related : (W : Word (A .Num)) (X : Word (B .Num)) → Matched (Letters Weight Entry n) W X → (g : G) → Rel g (A .zero) (B .zero)
+      → Rel g (A .one) (B .one) → (I J : RowSet) → length I ≡ n
       → Rel (after W g) (minor A W I J) (minor B X I J)
   unfolding minor oneAt
   minor-related W X h g z o I J i = walk-related W X h g (oneAt A J) (oneAt B J) (λ S s. by (equal J S)) I i
@@ -141,7 +148,8 @@ module _ (A B : Arithmetic) (G : Type 0) (Rel : G → A .Num → B .Num → Type
   after-append (l ∷ U) W g = ap (afterLetter l) (after-append U W g)
 
   -- a measure of the grades to which each letter E or Et adds a, and each entry of D e
-  module _ (measure : G → ℕ) (a e : ℕ) (moving : (g : G) → measure (afterMove g) ≡ measure g + a) (entering : (g : G) → measure (afterEntry g) ≡ measure g + e) where
+  module _ (measure : G → ℕ) (a e : ℕ) (moving : (g : G) → measure (afterMove g) ≡ measure g + a)
+      (entering : (g : G) → measure (afterEntry g) ≡ measure g + e) where
     pub repeated-measure : (m : ℕ) (g : G) → measure (repeated m afterEntry g) ≡ measure g + m * e
     unfolding repeated
     repeated-measure zero g = omega arith

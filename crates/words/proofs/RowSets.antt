@@ -1,4 +1,5 @@
--- Laws of row sets: the rows 1 .. n (in-under, in-top); the highest row and the rows under it (has-top, has-under, put-top, put-under, replaced-down, replaced-up);
+-- Laws of row sets: the rows 1 .. n (in-under, in-top); the highest row and the rows under it (has-top, has-under, put-top, put-under, replaced-down,
+-- replaced-up);
 -- lengths (length-put, length-replaced, length-rows); the rows of a run (has-rows); sets that are equal (equal-same, equal-true).
 use mathlib.Core.Path.{_≡_, refl, sym, ap, _∙_}
 use mathlib.Core.Bool.{Bool, true, false, cond, _&&_, false≢true}
@@ -71,7 +72,8 @@ unfolding rows
 has-rows zero i a b p q = absurd (omega arith)
 has-rows (suc n) i a b p q = by (leb i n) refl (has-rows n i a b p)
   where
-    by : (t : Bool) → leb i n ≡ t → (i ≤ n → has i (rows n a b) ≡ leb a i && leb i b) → has i ((leb a (suc n) && leb (suc n) b) ∷ rows n a b) ≡ leb a i && leb i b
+    by : (t : Bool) → leb i n ≡ t → (i ≤ n → has i (rows n a b) ≡ leb a i && leb i b)
+        → has i ((leb a (suc n) && leb (suc n) b) ∷ rows n a b) ≡ leb a i && leb i b
     by true e r =
         let h : i ≤ n = leb-true i n e in
         has-under i _ (rows n a b) (omega (arith, length-rows n a b)) ∙ r h

@@ -1,5 +1,6 @@
 -- Runs, the consecutive rows a .. b of n rows: the highest row is one of them (rows-in, rows-last) or is not (rows-out, rows-above, rows-below); rows beyond n
--- (rows-beyond); how many they are (count-rows); the next row put to them (put-rows); what does not count rows above a set (rows-own, rows-none); and blocks of rows (rows-run).
+-- (rows-beyond); how many they are (count-rows); the next row put to them (put-rows); what does not count rows above a set (rows-own, rows-none); and blocks of
+-- rows (rows-run).
 use mathlib.Core.Path.{_≡_, refl, sym, ap, ap₂, _∙_}
 use mathlib.Core.Bool.{Bool, true, false, _&&_}
 use mathlib.Core.List.{[], _∷_}
@@ -36,7 +37,8 @@ rows-below n a b h = rows-out n a b (λ p q. omega arith)
 pub rows-beyond : (n a b c : ℕ) → n ≤ b → n ≤ c → rows n a b ≡ rows n a c
 unfolding rows
 rows-beyond zero a b c h g = refl
-rows-beyond (suc n) a b c h g = ap₂ (λ y S. (leb a (suc n) && y) ∷ S) (le-leb (suc n) b h ∙ sym (le-leb (suc n) c g)) (rows-beyond n a b c (omega arith) (omega arith))
+rows-beyond (suc n) a b c h g =
+    ap₂ (λ y S. (leb a (suc n) && y) ∷ S) (le-leb (suc n) b h ∙ sym (le-leb (suc n) c g)) (rows-beyond n a b c (omega arith) (omega arith))
 
 pub rows-zero : (n b : ℕ) → rows n 0 b ≡ rows n 1 b
 unfolding rows

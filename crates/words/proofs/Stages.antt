@@ -80,14 +80,16 @@ module _ {A : Type 0} where
       start i = omega arith
 
       inner : (i : ℕ) → transposedWord (forUp (n - i + 1) n (λ j. E j (b j (i + j - n)) ∷ [])) ≡ forDown n (n - i + 1) (λ j. Et j (b j (i + j - n)) ∷ [])
-      inner i = transposed-ascending (n - i + 1) (suc n - (n - i + 1)) _ ∙ ap (λ a. descending a (suc n - (n - i + 1)) (λ j. Et j (b j (i + j - n)) ∷ [])) (start i)
+      inner i =
+          transposed-ascending (n - i + 1) (suc n - (n - i + 1)) _ ∙ ap (λ a. descending a (suc n - (n - i + 1)) (λ j. Et j (b j (i + j - n)) ∷ [])) (start i)
 
   pub word-stages : (n : ℕ) (b : Factors A) → word n b ≡ stages n 1 (n - 1) b ++ (D (λ i. b i i) ∷ transposedWord (stages n 1 (n - 1) (exchanged b)))
   unfolding word
   word-stages n b = sym (ap₂ (λ L U. L ++ (D (λ i. b i i) ∷ U)) (lower-loop n b) (upper-loop n (exchanged b)))
 
   -- what holds of every letter of a stage, of stages, of the word
-  pub stage-all : (P : Letter A → Type 0) (n k : ℕ) (b : Factors A) → ((i j : ℕ) → i + k ≡ n + j → 1 ≤ j → 1 ≤ i → i ≤ n → P (E i (b i j))) → All P (stage n k b)
+  pub stage-all : (P : Letter A → Type 0) (n k : ℕ) (b : Factors A) → ((i j : ℕ) → i + k ≡ n + j → 1 ≤ j → 1 ≤ i → i ≤ n → P (E i (b i j)))
+      → All P (stage n k b)
   unfolding stage
   stage-all P n zero b f = tt
   stage-all P zero (suc k) b f = tt
@@ -95,14 +97,17 @@ module _ {A : Type 0} where
       all-append P (stage n k b) _ (stage-all P n k b (λ i j e p o q. f i j (omega arith) p o (omega arith)))
       (f (suc n) (suc k) (omega arith) (omega arith) (omega arith) (omega arith), tt)
 
-  pub stages-all : (P : Letter A → Type 0) (n k m : ℕ) (b : Factors A) → m ≤ n - k → ((i j : ℕ) → 1 ≤ j → j < i → i ≤ n → P (E i (b i j))) → All P (stages n k m b)
+  pub stages-all : (P : Letter A → Type 0) (n k m : ℕ) (b : Factors A) → m ≤ n - k → ((i j : ℕ) → 1 ≤ j → j < i → i ≤ n → P (E i (b i j)))
+      → All P (stages n k m b)
   unfolding stages
   stages-all P n k zero b h f = tt
   stages-all P n k (suc m) b h f =
       all-append P (stage n k b) _ (stage-all P n k b (λ i j e p o q. f i j p (omega arith) q)) (stages-all P n (suc k) m b (omega arith) f)
 
-  pub transposed-stages-all : (P : Letter A → Type 0) (n k m : ℕ) (b : Factors A) → m ≤ n - k → ((i j : ℕ) → 1 ≤ j → j < i → i ≤ n → P (Et i (b i j))) → All P (transposedWord (stages n k m b))
-  transposed-stages-all P n k m b h f = transposed-all (λ l. P (transposedLetter l)) P (λ l g. g) (stages n k m b) (stages-all (λ l. P (transposedLetter l)) n k m b h f)
+  pub transposed-stages-all : (P : Letter A → Type 0) (n k m : ℕ) (b : Factors A) → m ≤ n - k → ((i j : ℕ) → 1 ≤ j → j < i → i ≤ n → P (Et i (b i j)))
+      → All P (transposedWord (stages n k m b))
+  transposed-stages-all P n k m b h f =
+      transposed-all (λ l. P (transposedLetter l)) P (λ l g. g) (stages n k m b) (stages-all (λ l. P (transposedLetter l)) n k m b h f)
 
   pub word-all : (P : Letter A → Type 0) (n : ℕ) (b : Factors A) → ((i j : ℕ) → 1 ≤ j → j < i → i ≤ n → P (E i (b i j)))
       → P (D (λ i. b i i)) → ((i j : ℕ) → 1 ≤ j → j < i → i ≤ n → P (Et i (b j i))) → All P (word n b)
@@ -143,7 +148,8 @@ module _ (K : Arithmetic) where
   pub raise-false : (n : ℕ) (w : Num) (ω : State K) → Agree n (under false (act K (E (suc n) w) ω)) (under false ω)
   unfolding act moved
   raise-false n w ω S s =
-      ap (λ t. movedIf K (t && not (has (suc n - 1) (false ∷ S))) (suc n) (suc n - 1) w ω (false ∷ S)) (ap (λ k. has (suc k) (false ∷ S)) (sym s) ∙ has-top false S)
+      ap (λ t. movedIf K (t && not (has (suc n - 1) (false ∷ S))) (suc n) (suc n - 1) w ω (false ∷ S))
+      (ap (λ k. has (suc k) (false ∷ S)) (sym s) ∙ has-top false S)
 
   -- a stage on a set of suc n rows: first the letter of the highest row, then the stage of the rows under it
   pub stage-under : (n k : ℕ) (b : Factors Num) (ω : State K) (x : Bool) (S : RowSet) → length S ≡ n

@@ -1,4 +1,5 @@
--- Laws of the walk over any arithmetic: words joined (walk-append, carry-append), the start at its own set (oneAt-same), letters under the highest row (act-under, act-false),
+-- Laws of the walk over any arithmetic: words joined (walk-append, carry-append), the start at its own set (oneAt-same), letters under the highest row
+-- (act-under, act-false),
 -- and at the two highest rows (raise-top, lower-top). What holds of every letter of a word (All), as that its rows are among 1 .. n (Rows).
 use mathlib.Core.Path.{_≡_, refl, ap, ap₂, _∙_}
 use mathlib.Core.Bool.{Bool, true, false, not, cond, _&&_}

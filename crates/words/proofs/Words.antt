@@ -1,4 +1,5 @@
--- Laws of words: loops (ascending-last); the transposed word, reversed with E and Et exchanged (transposedWord, transposed-append, transposed-transposed, transposed-ascending);
+-- Laws of words: loops (ascending-last); the transposed word, reversed with E and Et exchanged (transposedWord, transposed-append, transposed-transposed,
+-- transposed-ascending);
 -- and what holds of every letter (all-map, transposed-all, inverse-all, converse-all).
 use mathlib.Core.Path.{_≡_, refl, sym, ap, ap₂, _∙_}
 use mathlib.Core.List.{List, [], _∷_, _++_, append-nil, append-assoc}
@@ -13,7 +14,8 @@ module _ {A : Type 0} where
   ascending-last a zero f = append-nil (f a) ∙ ap f (omega arith)
   ascending-last a (suc c) f =
       let e : suc a + c ≡ a + suc c = omega arith in
-      ap (λ L. f a ++ L) (ascending-last (suc a) c f) ∙ sym (append-assoc (f a) (ascending (suc a) c f) (f (suc a + c))) ∙ ap (λ k. f a ++ ascending (suc a) c f ++ f k) e
+      ap (λ L. f a ++ L) (ascending-last (suc a) c f) ∙ sym (append-assoc (f a) (ascending (suc a) c f) (f (suc a + c)))
+      ∙ ap (λ k. f a ++ ascending (suc a) c f ++ f k) e
 
 module _ {A : Type 0} where
   abbrev pub transposedLetter : Letter A → Letter A
@@ -29,7 +31,8 @@ module _ {A : Type 0} where
   pub transposed-append : (U W : Word A) → transposedWord (U ++ W) ≡ transposedWord W ++ transposedWord U
   unfolding transposedWord
   transposed-append [] W = sym (append-nil (transposedWord W))
-  transposed-append (l ∷ U) W = ap (λ L. L ++ (transposedLetter l ∷ [])) (transposed-append U W) ∙ append-assoc (transposedWord W) (transposedWord U) (transposedLetter l ∷ [])
+  transposed-append (l ∷ U) W =
+      ap (λ L. L ++ (transposedLetter l ∷ [])) (transposed-append U W) ∙ append-assoc (transposedWord W) (transposedWord U) (transposedLetter l ∷ [])
 
   pub transposedLetter-twice : (l : Letter A) → transposedLetter (transposedLetter l) ≡ l
   transposedLetter-twice (E j w) = refl
@@ -40,7 +43,8 @@ module _ {A : Type 0} where
   pub transposed-transposed : (W : Word A) → transposedWord (transposedWord W) ≡ W
   unfolding transposedWord
   transposed-transposed [] = refl
-  transposed-transposed (l ∷ W) = transposed-append (transposedWord W) (transposedLetter l ∷ []) ∙ ap₂ (λ x L. x ∷ L) (transposedLetter-twice l) (transposed-transposed W)
+  transposed-transposed (l ∷ W) =
+      transposed-append (transposedWord W) (transposedLetter l ∷ []) ∙ ap₂ (λ x L. x ∷ L) (transposedLetter-twice l) (transposed-transposed W)
 
   -- a loop, from its end
   pub transposed-ascending : (a c : ℕ) (f : ℕ → Word A) → transposedWord (ascending a c f) ≡ descending (a + c - 1) c (λ i. transposedWord (f i))
@@ -48,7 +52,8 @@ module _ {A : Type 0} where
   transposed-ascending a zero f = refl
   transposed-ascending a (suc c) f =
       let e : a + c ≡ a + suc c - 1 = omega arith in
-      ap transposedWord (ascending-last a c f) ∙ transposed-append (ascending a c f) (f (a + c)) ∙ ap (λ L. transposedWord (f (a + c)) ++ L) (transposed-ascending a c f)
+      ap transposedWord (ascending-last a c f) ∙ transposed-append (ascending a c f) (f (a + c))
+      ∙ ap (λ L. transposedWord (f (a + c)) ++ L) (transposed-ascending a c f)
       ∙ ap (λ k. descending k (suc c) (λ i. transposedWord (f i))) e
 
 -- EVERY LETTER: from a property P to a property Q

@@ -1,13 +1,15 @@
--- Document 01's marked examples: P5 to P12 on words (ruleTable), all of P1 to P12 as rows of one table (markedTable), and its two tables of bounds.
+-- Worked examples of words, walks and formulas (ruleTable), and document 01's two tables of bounds (boundTable). Its marked examples P1 to P12 are one table of
+-- calls in crate shelf;
+-- the rows here hold the definitions of this crate to the same values.
 use mathlib.Core.Bool.{true, false, cond}
-use mathlib.Core.List.{List, [], _∷_, _++_}
+use mathlib.Core.List.{List, [], _∷_}
 use Prim.Native.Nat.{ℕ, _*_, _^_}
 use lib.Dec.{eqb, ltb}
 use Rattle.number.specs.declared.Number.{Number}
 use Rattle.number.specs.Number.{oneNumber, rounded, inRange}
 use Rattle.number.specs.declared.signed.Signed.{Signed}
 use Rattle.number.specs.Signed.{plain, zeroSigned, signedArithmetic}
-use Rattle.number.specs.Examples.{Row, row, up, down, arithmeticTable}
+use Rattle.number.specs.Examples.{Row, row, up, down}
 use Rattle.words.specs.RowSet.{ofMask}
 use Rattle.words.specs.Word.{Factors, word, forUp}
 use Rattle.words.specs.Walk.{minor, carry}
@@ -61,17 +63,18 @@ minusOne = record { negative = true; size = oneNumber }
 
 unfoldable pub ruleTable : List Row
 ruleTable =
-    row (factorsOf 2 (product ones ones)) (two ∷ threeHalves ∷ threeHalves ∷ half ∷ [])  -- P5
+    row (factorsOf 2 (product ones ones)) (two ∷ threeHalves ∷ threeHalves ∷ half ∷ [])  -- all ones, times itself
     ∷ row (factorsOf 2 (product ones higher)) (two ∷ fiveHalves ∷ threeHalves ∷ half ∷ [])  -- beside it: the left word, then the right word
-    ∷ row (factorsOf 2 (inverse ones)) (two ∷ half ∷ half ∷ half ∷ [])  -- P6
-    ∷ row (factorsOf 2 (converse ones)) (two ∷ half ∷ half ∷ half ∷ [])  -- P7
-    ∷ row (factorsOf 3 (cornerOf ones)) (oneNumber ∷ two ∷ oneNumber ∷ oneNumber ∷ [])  -- P8
-    ∷ row (minor rounded (word 3 ones) (ofMask 3 5) (ofMask 3 5)) five  -- P9: rows and columns 1 and 3
-    ∷ row (factorsOf 1 (inverse (λ i j. three))) (down 2863311531 33 ∷ [])  -- P10
-    ∷ row (inRange (result rounded 1 (product (λ i j. large) ones) 1 1)) true  -- P11: times one
+    ∷ row (factorsOf 2 (inverse ones)) (two ∷ half ∷ half ∷ half ∷ [])
+    ∷ row (factorsOf 2 (converse ones)) (two ∷ half ∷ half ∷ half ∷ [])
+    ∷ row (factorsOf 3 (cornerOf ones)) (oneNumber ∷ two ∷ oneNumber ∷ oneNumber ∷ [])
+    ∷ row (minor rounded (word 3 ones) (ofMask 3 5) (ofMask 3 5)) five  -- rows and columns 1 and 3
+    ∷ row (factorsOf 1 (inverse (λ i j. three))) (down 2863311531 33 ∷ [])  -- the inverse of 3
+    ∷ row (inRange (result rounded 1 (product (λ i j. large) ones) 1 1)) true  -- the largest exponent times one
     ∷ row (inRange (result rounded 1 (product (λ i j. large) (λ i j. two)) 1 1)) false  -- times two
     ∷ row (inRange (result rounded 1 (inverse (λ i j. large)) 1 1)) false  -- its inverse
-    ∷ row (forUp 1 2 (λ i. carry signedArithmetic (word 2 (λ i j. signedOne)) (λ i. cond (eqb i 1) signedOne minusOne) i ∷ [])) (zeroSigned ∷ minusOne ∷ [])  -- P12: the list 1, -1
+    ∷ row (forUp 1 2 (λ i. carry signedArithmetic (word 2 (λ i j. signedOne)) (λ i. cond (eqb i 1) signedOne minusOne) i ∷ []))
+    (zeroSigned ∷ minusOne ∷ [])  -- the list 1, -1
     ∷ []
 
 -- the bounds returned for n = 1 to 8: of a product, and of one source
@@ -79,9 +82,5 @@ unfoldable pub boundTable : List Row
 boundTable =
     row (forUp 1 8 (λ n. bound n (product ones ones) ∷ [])) (11 ∷ 51 ∷ 123 ∷ 227 ∷ 363 ∷ 531 ∷ 731 ∷ 963 ∷ [])
     ∷ row (forUp 1 8 (λ n. bound n (inverse ones) ∷ [])) (7 ∷ 27 ∷ 63 ∷ 115 ∷ 183 ∷ 267 ∷ 367 ∷ 483 ∷ [])
-    ∷ row (bound 3 (cornerOf ones)) 63  -- P8's, which goes by the source's rows
+    ∷ row (bound 3 (cornerOf ones)) 63  -- which goes by the source's rows
     ∷ []
-
--- P1 to P12: the numbers' rows, then the words'
-unfoldable pub markedTable : List Row
-markedTable = arithmeticTable ++ ruleTable

@@ -1,12 +1,14 @@
--- Product, re-signed inverse, converse and submatrix: their words, their new factors and their bounds (document 01), over any arithmetic.
+-- The operations (document 01): product, re-signed inverse and converse, which are steps joined, and submatrix. Their words, the minors that are asked for,
+-- the new factors and their bounds, over any arithmetic.
+use mathlib.Core.Path.{_≡_}
 use mathlib.Core.List.{List, [], _∷_, _++_}
-use Prim.Native.Nat.{ℕ, _+_, _-_, _*_}
+use Prim.Native.Nat.{ℕ, _+_, _-_, _*_, _≤_}
 use lib.ListN.{length}
 use Rattle.fraction.specs.Arithmetic.{Arithmetic}
-use Rattle.words.specs.RowSet.{RowSet, rows, count, among}
+use Rattle.words.specs.RowSet.{RowSet, count, among}
 use Rattle.words.specs.Word.{Factors, Word, word, inverseWord, converseWord, exchanged, forUp}
 use Rattle.words.specs.Walk.{minor}
-use Rattle.words.specs.Formula.{newFactor}
+use Rattle.words.specs.Formula.{justBefore, newFactor}
 
 -- A source, and the way that its word is taken.
 pub data Way : Type 0 where
@@ -15,11 +17,9 @@ pub data Way : Type 0 where
 pub data Step (A : Type 0) : Type 0 where
   step : Way → Factors A → Step A
 
--- The operations with their sources, and a submatrix with its chosen rows and columns.
+-- The operations: steps joined, and the chosen rows and columns of a source.
 pub data Operation (A : Type 0) : Type 0 where
-  product : Factors A → Factors A → Operation A
-  inverse : Factors A → Operation A
-  converse : Factors A → Operation A
+  joined : List (Step A) → Operation A
   submatrix : Factors A → RowSet → RowSet → Operation A
 
 module _ {A : Type 0} (n : ℕ) where
@@ -40,28 +40,39 @@ abbrev pub boundOf : ℕ → ℕ → ℕ
 boundOf m n = 4 * m * (2 * n * n - n) + 3
 
 module _ {A : Type 0} where
+  -- product, re-signed inverse and converse are steps joined
+  abbrev pub product : Factors A → Factors A → Operation A
+  product b c = joined (step plain b ∷ step plain c ∷ [])
+
+  abbrev pub inverse : Factors A → Operation A
+  inverse b = joined (step inverted b ∷ [])
+
+  abbrev pub converse : Factors A → Operation A
+  converse b = joined (step conversed b ∷ [])
+
+  -- the steps whose words are joined
   abbrev pub steps : Operation A → List (Step A)
-  steps (product b c) = step plain b ∷ step plain c ∷ []
-  steps (inverse b) = step inverted b ∷ []
-  steps (converse b) = step conversed b ∷ []
+  steps (joined L) = L
   steps (submatrix b P Q) = step plain b ∷ []
 
-  -- the rows and the columns that the result keeps of the n of its sources
-  abbrev pub keptRows : ℕ → Operation A → RowSet
-  keptRows n (product b c) = rows n 1 n
-  keptRows n (inverse b) = rows n 1 n
-  keptRows n (converse b) = rows n 1 n
-  keptRows n (submatrix b P Q) = P
+  -- a set of the result's rows as a set of the sources' rows: sets of a submatrix count among the chosen rows
+  abbrev pub rowsOf : Operation A → RowSet → RowSet
+  rowsOf (joined L) I = I
+  rowsOf (submatrix b P Q) I = among P I
 
-  abbrev pub keptColumns : ℕ → Operation A → RowSet
-  keptColumns n (product b c) = rows n 1 n
-  keptColumns n (inverse b) = rows n 1 n
-  keptColumns n (converse b) = rows n 1 n
-  keptColumns n (submatrix b P Q) = Q
+  abbrev pub columnsOf : Operation A → RowSet → RowSet
+  columnsOf (joined L) J = J
+  columnsOf (submatrix b P Q) J = among Q J
 
-  -- how many rows the result has
+  -- how many rows the result has, where the sources have n
   abbrev pub size : ℕ → Operation A → ℕ
-  size n o = count (keptRows n o)
+  size n (joined L) = n
+  size n (submatrix b P Q) = count P
+
+  -- what fits sources of n rows: one step or more; chosen rows and columns of n, equally many
+  abbrev pub Fit : ℕ → Operation A → Type 0
+  Fit n (joined L) = 1 ≤ length L
+  Fit n (submatrix b P Q) = (length P ≡ n) × (length Q ≡ n) × (count Q ≡ count P)
 
   abbrev pub bound : ℕ → Operation A → ℕ
   bound n o = boundOf (length (steps o)) n
@@ -73,13 +84,13 @@ rowByRow k b = forUp 1 k (λ i. forUp 1 k (λ j. b i j ∷ []))
 module _ (K : Arithmetic) where
   open Arithmetic K using (Num)
 
-  -- the new factors of the joined word of steps, of its rows P and columns Q: sets count among these, and the walk is over the whole word
-  unfoldable pub refactored : ℕ → List (Step Num) → RowSet → RowSet → Factors Num
-  refactored n L P Q = newFactor K (count P) (λ I J. minor K (joinedWord n L) (among P I) (among Q J))
+  -- the minor that the formulas ask for at sets of the result's rows and columns: the walk is over the whole joined word
+  abbrev pub askedMinor : ℕ → Operation Num → RowSet → RowSet → Num
+  askedMinor n o I J = minor K (joinedWord n (steps o)) (rowsOf o I) (columnsOf o J)
 
-  -- the operation's result
-  abbrev pub result : ℕ → Operation Num → Factors Num
-  result n o = refactored n (steps o) (keptRows n o) (keptColumns n o)
+  -- the operation's result: the new factors of these minors
+  unfoldable pub result : ℕ → Operation Num → Factors Num
+  result n o = newFactor K (size n o) (justBefore (size n o)) (askedMinor n o)
 
 -- the same factors, steps and operation in other numbers
 module _ {A B : Type 0} (f : A → B) where
@@ -94,7 +105,5 @@ module _ {A B : Type 0} (f : A → B) where
   eachSteps (s ∷ L) = eachStep s ∷ eachSteps L
 
   abbrev pub eachSource : Operation A → Operation B
-  eachSource (product b c) = product (eachFactor b) (eachFactor c)
-  eachSource (inverse b) = inverse (eachFactor b)
-  eachSource (converse b) = converse (eachFactor b)
+  eachSource (joined L) = joined (eachSteps L)
   eachSource (submatrix b P Q) = submatrix (eachFactor b) P Q

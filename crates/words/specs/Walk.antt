@@ -49,7 +49,8 @@ module _ (K : Arithmetic) where
   unfoldable pub minor : Word Num → RowSet → RowSet → Num
   minor W I J = walk W (oneAt J) I
 
-  -- carrying a list of items v 1, v 2, .. through a word, from right to left: E j w adds w times item j - 1 to item j; Et j w adds w times item j to item j - 1; D multiplies item i by its entry
+  -- carrying a list of items v 1, v 2, .. through a word, from right to left: E j w adds w times item j - 1 to item j; Et j w adds w times item j to item j -
+  -- 1; D multiplies item i by its entry
   unfoldable pub carryLetter : Letter Num → (ℕ → Num) → ℕ → Num
   carryLetter (E j w) v i = cond (eqb i j) (add (v i) (mul w (v (j - 1)))) (v i)
   carryLetter (Et j w) v i = cond (eqb i (j - 1)) (add (v i) (mul w (v j))) (v i)

@@ -6,7 +6,7 @@ use lib.ListN.{length, length-append}
 use Rattle.group.specs.Group.{bytesOf}
 use Rattle.group.proofs.RoundTrip.{bytes-short}
 use Rattle.number.specs.declared.Number.{Number}
-use Rattle.writer.specs.Encoding.{codeOf, partOf, factorsBytes, encoding, AllStored, Storable}
+use Rattle.writer.specs.Encoding.{exponentCode, partOf, factorsBytes, encoding, AllStored, Storable}
 use Rattle.writer.proofs.Writing.{factor-bytes-stored, encoding-length, square-small}
 
 -- two bytes for an exponent code, five for the rest of a mantissa
@@ -14,7 +14,7 @@ factors-short : (L : List Number) → AllStored L → length (factorsBytes L) �
 unfolding factorsBytes
 factors-short [] s = omega arith
 factors-short (a ∷ L) s =
-    let c : length (bytesOf (codeOf a)) ≤ 2 = bytes-short 1 10 (codeOf a) (omega (arith, s .0 .stop)) in
+    let c : length (bytesOf (exponentCode a)) ≤ 2 = bytes-short 1 10 (exponentCode a) (omega (arith, s .0 .stop)) in
     let m : length (bytesOf (partOf a)) ≤ 5 = bytes-short 4 10 (partOf a) (omega (arith, s .0 .high)) in
     let r : length (factorsBytes L) ≤ 7 * length L = factors-short L (s .1) in
     rw (factor-bytes-stored a (s .0)) (simp length-append (omega arith))

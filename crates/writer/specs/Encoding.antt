@@ -1,24 +1,29 @@
--- The bytes of a matrix (document 01, "Bytes"): `encoding`, and `lengthOf`, how many they are.
+-- The bytes of a matrix (document 01, "Bytes"): `encoding`, and `encodedLength`, how many they are; and what writing them to lent bytes returns and leaves
+-- (`writingReport`, `bytesAfterWriting`).
 use Prim.Native.Nat.{ℕ, _-_, _*_, _^_, _≤_, _<_}
 use mathlib.Core.Path.{_≡_}
 use mathlib.Core.Bool.{cond}
 use mathlib.Core.List.{List, [], _∷_, _++_}
+use lib.IntN.{pos}
 use lib.ListN.{length, take}
 use lib.Seq.{sets}
 use lib.Dec.{ltb, eqb}
+use Rattle.verdict.specs.declared.Verdict.{Verdict}
+use Rattle.verdict.specs.Verdict.{when, after}
+use Rattle.verdict.specs.Report.{Report, accepted, refused, reportOf}
 use Rattle.group.specs.Group.{bytesOf}
 use Rattle.number.specs.declared.Number.{Number}
 use Rattle.number.specs.Number.{bias, Stored}
 use Rattle.writer.specs.declared.Written.{Written}
-use Rattle.writer.specs.declared.Written.the-variants.{Bytes, TooShort}
+use Rattle.writer.specs.declared.Written.the-variants.{Length, Refused}
 
 -- the exponent -1001: an exponent code counts from there
 abbrev pub codeZero : ℕ
 codeZero = bias - 1001
 
 -- e + 1001
-abbrev pub codeOf : Number → ℕ
-codeOf a = a .x - codeZero
+abbrev pub exponentCode : Number → ℕ
+exponentCode a = a .x - codeZero
 
 -- m - 2 ^ 31
 abbrev pub partOf : Number → ℕ
@@ -26,7 +31,7 @@ partOf a = a .m - 2 ^ 31
 
 -- a factor; code 0 stands for zero and has no second
 unfoldable pub factorBytes : Number → List ℕ
-factorBytes a = cond (eqb (a .m) 0) (bytesOf 0) (bytesOf (codeOf a) ++ bytesOf (partOf a))
+factorBytes a = cond (eqb (a .m) 0) (bytesOf 0) (bytesOf (exponentCode a) ++ bytesOf (partOf a))
 
 unfoldable pub factorsBytes : List Number → List ℕ
 factorsBytes [] = []
@@ -36,19 +41,29 @@ factorsBytes (a ∷ L) = factorBytes a ++ factorsBytes L
 unfoldable pub encoding : ℕ → List Number → List ℕ
 encoding n L = bytesOf n ++ factorsBytes L
 
-abbrev pub lengthOf : ℕ → List Number → ℕ
-lengthOf n L = length (encoding n L)
+abbrev pub encodedLength : ℕ → List Number → ℕ
+encodedLength n L = length (encoding n L)
 
 -- the factors among 64 numbers
-abbrev pub factorsOf : ℕ → List Number → List Number
-factorsOf n numbers = take (n * n) numbers
+abbrev pub squareFactors : ℕ → List Number → List Number
+squareFactors n numbers = take (n * n) numbers
 
--- what a writer does with lent bytes: none is changed where they are too few (10), and else none past the length
-abbrev pub writtenOf : ℕ → ℕ → Written
-writtenOf room need = cond (ltb room need) TooShort (Bytes need)
+-- 10: the lent bytes are too few
+abbrev pub roomTest : (out bytes : List ℕ) → Verdict
+roomTest out bytes = when (ltb (length out) (length bytes)) 10
 
-abbrev pub bytesAfter : List ℕ → List ℕ → List ℕ
-bytesAfter out bytes = cond (ltb (length out) (length bytes)) out (sets out 0 bytes)
+-- what writing bytes to lent ones returns: how many they are
+unfoldable pub writingReport : (out bytes : List ℕ) → Report
+writingReport out bytes = reportOf (roomTest out bytes) (pos (length bytes) ∷ [])
+
+-- the lent bytes then: none is changed where they are too few, and else none past the length
+unfoldable pub bytesAfterWriting : (out bytes : List ℕ) → List ℕ
+bytesAfterWriting out bytes = after (roomTest out bytes) out (sets out 0 bytes)
+
+-- what the writer's answers report
+abbrev pub writtenReport : Written → Report
+writtenReport (Length k) = accepted (pos k ∷ [])
+writtenReport (Refused w) = refused (w .number) (w .offset)
 
 abbrev pub AllStored : List Number → Type 0
 AllStored [] = Unit {0}

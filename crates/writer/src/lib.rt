@@ -3,17 +3,19 @@ ghost use mathlib.Core.Path.{_≡_};
 ghost use Prim.Native.Nat.{_-_, _*_, _≤_, min};
 ghost use lib.ListN.{length};
 ghost use lib.Seq.{sets};
-ghost use Rattle.writer.specs.Encoding.{factorBytes, factorsOf, encoding, lengthOf, writtenOf, bytesAfter};
+ghost use Rattle.writer.specs.Encoding.{factorBytes, squareFactors, encoding, encodedLength, writingReport, bytesAfterWriting, writtenReport};
 use number::Number;
+use verdict::Refusal;
+use verdict::Verdict;
+use verdict::test;
 
 // The exponent -1001, as it is kept: an exponent code counts from there.
 pub const CODE_ZERO: u64 = 4193303;
 
 pub enum Written {
     // So many bytes were written.
-    Bytes(usize),
-    // The lent bytes are too few (document 01's 10), and stay as they were.
-    TooShort,
+    Length(usize),
+    Refused(Refusal),
 }
 
 // a - b, or 0 where b is the larger.
@@ -42,7 +44,7 @@ fn factor_length(a: Number) -> usize
 
 // How many bytes the matrix of n rows takes.
 pub fn matrix_length(numbers: [Number; 64], n: usize) -> usize
-    ensures { λ r. ⌜ r ≡ lengthOf n (factorsOf n numbers) ⌝ }
+    ensures { λ r. ⌜ r ≡ encodedLength n (squareFactors n numbers) ⌝ }
 {
     let count = factor_count(n);
     let mut total = group::width(n as u64);
@@ -70,9 +72,9 @@ fn put_factor(out: &mut [u8], a: Number) -> usize
 
 // Writes the matrix of n rows at the start of out, and answers how many bytes that took.
 fn put_matrix(numbers: [Number; 64], n: usize, out: &mut [u8]) -> usize
-    requires { ⌜ lengthOf n (factorsOf n numbers) ≤ length (now out) ⌝ }
-    ensures { λ r. ⌜ r ≡ lengthOf n (factorsOf n numbers) ⌝ }
-    ensures { λ _. ⌜ now (out .exit) ≡ sets (now (out .entry)) 0 (encoding n (factorsOf n numbers)) ⌝ }
+    requires { ⌜ encodedLength n (squareFactors n numbers) ≤ length (now out) ⌝ }
+    ensures { λ r. ⌜ r ≡ encodedLength n (squareFactors n numbers) ⌝ }
+    ensures { λ _. ⌜ now (out .exit) ≡ sets (now (out .entry)) 0 (encoding n (squareFactors n numbers)) ⌝ }
 {
     let count = factor_count(n);
     let mut at = group::put(out, n as u64);
@@ -87,11 +89,13 @@ fn put_matrix(numbers: [Number; 64], n: usize, out: &mut [u8]) -> usize
 
 // Writes the matrix of n rows to lent bytes. No byte past its length is changed.
 pub fn write_matrix(numbers: [Number; 64], n: usize, out: &mut [u8]) -> Written
-    ensures { λ r. ⌜ r ≡ writtenOf (length (now (out .entry))) (lengthOf n (factorsOf n numbers)) ⌝ }
-    ensures { λ _. ⌜ now (out .exit) ≡ bytesAfter (now (out .entry)) (encoding n (factorsOf n numbers)) ⌝ }
+    ensures { λ r. ⌜ writtenReport r ≡ writingReport (now (out .entry)) (encoding n (squareFactors n numbers)) ⌝ }
+    ensures { λ _. ⌜ now (out .exit) ≡ bytesAfterWriting (now (out .entry)) (encoding n (squareFactors n numbers)) ⌝ }
 {
-    if out.len() < matrix_length(numbers, n) {
-        return Written::TooShort;
+    let need = matrix_length(numbers, n);
+    let verdict = test(Verdict::Accepted, out.len() < need, 10);
+    match verdict {
+        Verdict::Accepted => Written::Length(put_matrix(numbers, n, out)),
+        Verdict::Refused(why) => Written::Refused(why),
     }
-    Written::Bytes(put_matrix(numbers, n, out))
 }

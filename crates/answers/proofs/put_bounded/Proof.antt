@@ -1,5 +1,4 @@
 -- `answers::put_bounded` meets its contract.
-use Rattle.answers.specs.Answers.{boundedText}
 use borrow.Author.Needs.{needs}
 use Rattle.answers.proofs.put_bounded.Statement.{statement}
 use Rattle.answers.proofs.put_bounded.Tie as tie
@@ -26,14 +25,12 @@ same-length : tie.Need-same-length
 same-length c = search needs
 
 returns : tie.Need-returns
-unfolding boundedText
 returns c = rw (c .before .before .before .before .before .before .answer .given .1) (c .before .before .put-count .ensures)
 
 same-length-2 : tie.Need-same-length-2
 same-length-2 c = search needs
 
 returns-2 : tie.Need-returns-2
-unfolding boundedText
 returns-2 c = rw (c .before .before .before .before .before .answer2 .given .1) (c .before .before .put-refusal .ensures)
 
 pub put-bounded-spec : {M : Type 1} → statement M

@@ -3,7 +3,7 @@ use Rattle.answers.specs.Answers.{integerText}
 use mathlib.Core.Path.{ap, _∙_}
 use lib.IntN.{natAbs}
 use mir.Facts.{toZ-ofZ}
-use Rattle.lists.specs.Items.{isNegative}
+use Rattle.number.specs.Integer.{isNegative}
 use borrow.Author.Needs.{needs}
 use Rattle.answers.proofs.put_integer.Statement.{statement}
 use Rattle.answers.proofs.put_integer.Tie as tie

@@ -2,13 +2,13 @@
 use mir.Facts.{toZ-ofZ}
 use Rattle.lines.specs.Ascii.{ascii}
 use Rattle.lines.proofs.Text.{puts-behind}
-use Rattle.answers.specs.Answers.{numberText}
+use Rattle.answers.proofs.Reports.{number-text}
 use borrow.Author.Needs.{needs}
 use Rattle.answers.proofs.put_number.Statement.{statement}
 use Rattle.answers.proofs.put_number.Tie as tie
 
-put-whole-requires : tie.Need-put-whole-requires
-put-whole-requires c κs = search needs
+put-value-requires : tie.Need-put-value-requires
+put-value-requires c κs = search needs
 
 slice-aggregate-put : tie.Need-slice-aggregate-put
 slice-aggregate-put c = search needs
@@ -23,16 +23,18 @@ same-length : tie.Need-same-length
 same-length c = search needs
 
 returns : tie.Need-returns
-unfolding numberText
 returns c =
-    let e = toZ-ofZ (c .before .before .before .before .before .before .before .before .before .before .before .before .before .before .fits .exponent) in
-    puts-behind (c .before .before .before .before .before .before .before .before .before .before .before .put-whole .ensures) (puts-behind {a = ascii " "} (c .before .before .before .before .before .before .put .ensures) (rw e at (c .before .before .put-integer .ensures)))
+    let second = c .before .before .before .before .before .before in
+    let first = second .before .before .before .before .before in
+    let e = toZ-ofZ (first .before .before .before .fits .exponent) in
+    rw (number-text _ _)
+    (puts-behind (first .put-value .ensures) (puts-behind {a = ascii " "} (second .put .ensures) (rw e at (c .before .before .put-integer .ensures))))
 
 pub put-number-spec : {M : Type 1} → statement M
 put-number-spec =
     tie.close
     (tie.spec
-    put-whole-requires
+    put-value-requires
     slice-aggregate-put
     put-requires
     put-integer-requires

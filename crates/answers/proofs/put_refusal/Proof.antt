@@ -33,8 +33,11 @@ same-length c = search needs
 returns : tie.Need-returns
 unfolding refusalText
 returns c =
-    puts-behind {a = ascii "refused "} (c .before .before .before .before .before .before .before .before .before .before .before .before .before .before .before .before .put .ensures)
-    (puts-behind (c .before .before .before .before .before .before .before .before .before .before .before .put-whole .ensures) (puts-behind {a = ascii " at "} (c .before .before .before .before .before .before .put2 .ensures) (c .before .before .put-whole2 .ensures)))
+    let at-offset = c .before .before .before .before .before .before in
+    let number = at-offset .before .before .before .before .before in
+    let begin = number .before .before .before .before .before in
+    puts-behind {a = ascii "refused "} (begin .put .ensures)
+    (puts-behind (number .put-whole .ensures) (puts-behind {a = ascii " at "} (at-offset .put2 .ensures) (c .before .before .put-whole2 .ensures)))
 
 pub put-refusal-spec : {M : Type 1} → statement M
 put-refusal-spec =

@@ -1,7 +1,6 @@
 -- `answers::put_rest` meets its contract.
 use Rattle.lines.specs.Ascii.{ascii}
 use Rattle.lines.proofs.Text.{puts-behind}
-use Rattle.answers.specs.Answers.{restText}
 use borrow.Author.Needs.{needs}
 use Rattle.answers.proofs.put_rest.Statement.{statement}
 use Rattle.answers.proofs.put_rest.Tie as tie
@@ -19,7 +18,6 @@ same-length : tie.Need-same-length
 same-length c = search needs
 
 returns : tie.Need-returns
-unfolding restText
 returns c = puts-behind {a = ascii "rest "} (c .before .before .before .before .before .before .put .ensures) (c .before .before .put-bytes .ensures)
 
 pub put-rest-spec : {M : Type 1} → statement M

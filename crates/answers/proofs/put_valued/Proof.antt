@@ -4,7 +4,6 @@ use mir.Val.{SFits}
 use mir.Facts.{toZ-ofZ}
 use Rattle.lines.specs.Ascii.{ascii}
 use Rattle.lines.proofs.Text.{puts-behind}
-use Rattle.answers.specs.Answers.{valuedText}
 use borrow.Author.Needs.{needs}
 use Rattle.answers.proofs.put_valued.Statement.{statement}
 use Rattle.answers.proofs.put_valued.Tie as tie
@@ -31,17 +30,17 @@ same-length : tie.Need-same-length
 same-length c = search needs
 
 returns : tie.Need-returns
-unfolding valuedText
 returns c =
-    let known = c .before .before .before .before .before .before .before .before .before .before .answer .given in
-    let fits : SFits w64 (known .0 .1 .0) = record { sfits = c .before .before .before .before .before .before .before .before .before .known-told .given .1 .0 .1 } in
-    rw (known .1) (puts-behind {a = ascii "number "} (c .before .before .before .before .before .before .put .ensures) (rw (toZ-ofZ fits) at (c .before .before .put-number .ensures)))
+    let begin = c .before .before .before .before .before .before .before .before .before in
+    let known = begin .before .answer .given in
+    let fits : SFits w64 (known .0 .1 .0) = record { sfits = begin .known-told .given .1 .0 .1 } in
+    let word = c .before .before .before .before .before .before .put .ensures in
+    rw (known .1) (puts-behind {a = ascii "number"} word (rw (toZ-ofZ fits) at (c .before .before .put-number .ensures)))
 
 same-length-2 : tie.Need-same-length-2
 same-length-2 c = search needs
 
 returns-2 : tie.Need-returns-2
-unfolding valuedText
 returns-2 c = rw (c .before .before .before .before .before .answer2 .given .1) (c .before .before .put-refusal .ensures)
 
 pub put-valued-spec : {M : Type 1} → statement M

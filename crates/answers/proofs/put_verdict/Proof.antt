@@ -1,5 +1,5 @@
 -- `answers::put_verdict` meets its contract.
-use Rattle.answers.specs.Answers.{verdictText}
+use Rattle.answers.proofs.Reports.{word-text}
 use borrow.Author.Needs.{needs}
 use Rattle.answers.proofs.put_verdict.Statement.{statement}
 use Rattle.answers.proofs.put_verdict.Tie as tie
@@ -20,14 +20,12 @@ same-length : tie.Need-same-length
 same-length c = search needs
 
 returns : tie.Need-returns
-unfolding verdictText
-returns c = rw (c .before .before .before .before .enum-told .given .1) (c .before .before .put .ensures)
+returns c = rw (c .before .before .before .before .enum-told .given .1, word-text _) (c .before .before .put .ensures)
 
 same-length-2 : tie.Need-same-length-2
 same-length-2 c = search needs
 
 returns-2 : tie.Need-returns-2
-unfolding verdictText
 returns-2 c = rw (c .before .before .before .before .before .verdict .given .1) (c .before .before .put-refusal .ensures)
 
 pub put-verdict-spec : {M : Type 1} → statement M

@@ -6,7 +6,8 @@ use mathlib.Core.Path.{_≡_}
 use mathlib.Core.Logic.{_⊎_, inl, inr, ⊎-elim}
 use denote.Ref.{now}
 use Rattle.group.specs.Group.{Bytes}
-use Rattle.group.proofs.Reading.{Passed, passed-none, product-small, weight-small, passed-end, passed-five, passed-zero, passed-value, passed-large, passed-more, group-found}
+use Rattle.group.proofs.Reading.{Passed, passed-none, product-small, weight-small, passed-end, passed-five, passed-zero, passed-value, passed-large}
+use Rattle.group.proofs.Reading.{passed-more, group-found}
 use Rattle.group.proofs.group_at.Statement.{statement}
 use Rattle.group.proofs.group_at.Tie as tie
 
@@ -101,7 +102,8 @@ loop-less c = omega arith
 
 loop-again : tie.Need-loop-again Inv-loop μ-loop
 loop-again c =
-    passed-more (c .before .before .before .before .before .loop .inv) (c .before .wide .result) (omega arith) (omega arith) (c .before .wide .ensures) (c .if2 .left) (byte c)
+    passed-more (c .before .before .before .before .before .loop .inv) (c .before .wide .result) (omega arith) (omega arith) (c .before .wide .ensures)
+    (c .if2 .left) (byte c)
 
 returns-5 : tie.Need-returns-5 Inv-loop μ-loop
 returns-5 c = group-found _ _ (bytes (c .before)) (passed-five (c .before .loop .inv) (c .loop-test .left))

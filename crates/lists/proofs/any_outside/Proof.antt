@@ -31,7 +31,8 @@ returns : tie.Need-returns Inv-loop μ-loop
 returns c =
     let b = c .before .before .before .before in
     let g : length (b .before .args .t1) ≡ 8 = search needs in
-    sym (b .loop .inv .1 ∙ outside-here (b .before .args .t1) (b .before .args .n) (b .loop .k) unset (c .before .before .before .loop-test .taken) (omega (arith, b .before .pre))
+    sym (b .loop .inv .1 ∙ outside-here (b .before .args .t1) (b .before .args .n) (b .loop .k) unset (c .before .before .before .loop-test .taken)
+    (omega (arith, b .before .pre))
     (sym (c .before .outside .ensures) ∙ c .if1 .taken))
 
 add-k : tie.Need-add-k Inv-loop μ-loop
@@ -45,7 +46,8 @@ loop-again c =
     let b = c .before .before .before .before in
     let g : length (b .before .args .t1) ≡ 8 = search needs in (
       omega (arith, c .before .before .before .loop-test .taken),
-      b .loop .inv .1 ∙ outside-later (b .before .args .t1) (b .before .args .n) (b .loop .k) unset (c .before .before .before .loop-test .taken) (omega (arith, b .before .pre))
+      b .loop .inv .1 ∙ outside-later (b .before .args .t1) (b .before .args .n) (b .loop .k) unset (c .before .before .before .loop-test .taken)
+          (omega (arith, b .before .pre))
           (sym (c .before .outside .ensures) ∙ c .if1 .left),
     )
 

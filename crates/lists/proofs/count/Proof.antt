@@ -20,7 +20,8 @@ zero-requires : tie.Need-zero-requires Inv-loop μ-loop
 zero-requires c κs = search needs
 
 loop-holds : tie.Need-loop-holds Inv-loop μ-loop
-loop-holds c = (omega arith, omega arith, omega (arith, ap (λ (a : Signed). reversalsBehind a (take (c .before .args .n) (c .before .args .t1))) (c .zero .ensures)))
+loop-holds c =
+    (omega arith, omega arith, omega (arith, ap (λ (a : Signed). reversalsBehind a (take (c .before .args .n) (c .before .args .t1))) (c .zero .ensures)))
 
 mul-a : tie.Need-mul-a Inv-loop μ-loop
 mul-a c = search needs
@@ -32,7 +33,12 @@ turn-requires : tie.Need-turn-requires Inv-loop μ-loop
 turn-requires c κs = search needs
 
 turned : (c : tie.After-turn Inv-loop μ-loop) → c .turn .result ≤ 1
-turned c = omega (arith, c .turn .ensures, turn-le (c .before .before .before .loop .last) (getD (c .before .before .before .before .before .args .t1) (c .before .before .before .loop .k) unset))
+turned c =
+    omega (
+      arith,
+      c .turn .ensures,
+      turn-le (c .before .before .before .loop .last) (getD (c .before .before .before .before .before .args .t1) (c .before .before .before .loop .k) unset),
+    )
 
 add-found : tie.Need-add-found Inv-loop μ-loop
 add-found c = record { fits = omega (arith, turned c, c .before .before .before .loop .inv .1) }
@@ -58,7 +64,11 @@ returns : tie.Need-returns Inv-loop μ-loop
 unfolding reversalsBehind
 returns c =
     let b = c .before in
-    omega (arith, b .loop .inv .2, ap (reversalsBehind (b .loop .last)) (front-end (b .before .before .args .t1) (b .before .before .args .n) (b .loop .k) (c .loop-test .left)))
+    omega (
+      arith,
+      b .loop .inv .2,
+      ap (reversalsBehind (b .loop .last)) (front-end (b .before .before .args .t1) (b .before .before .args .n) (b .loop .k) (c .loop-test .left)),
+    )
 
 pub count-spec : {M : Type 1} → statement M
 count-spec =

@@ -10,14 +10,16 @@ use Rattle.number.specs.Number.{round}
 use Rattle.number.proofs.difference.Statement.{statement}
 use Rattle.number.proofs.difference.Tie as tie
 
-fits : (c : tie.After-power) → (c .before .before .args .a * c .power .result < 2 ^ 64) × (c .before .before .args .a * c .power .result + c .before .before .args .b < 2 ^ 64)
+fits : (c : tie.After-power)
+    → (c .before .before .args .a * c .power .result < 2 ^ 64) × (c .before .before .args .a * c .power .result + c .before .before .args .b < 2 ^ 64)
 fits c =
     let p = c .before .before .pre in
     let k = c .before .before .args .i - c .before .before .args .j in
     rw (c .power .ensures) (sum-fits _ _ _ (p .1) (p .3) (pow-mono {i = k} {j = 32} (omega arith)))
 
 -- where the arms meet the second number is less than a quarter of a unit, if the first has the least mantissa
-quarter : (c : tie.Joined2) → c .before .before .args .a ≡ 2 ^ 31 → c .before .before .args .b * 4 < 2 ^ (c .before .before .args .i - c .before .before .args .j)
+quarter : (c : tie.Joined2) → c .before .before .args .a ≡ 2 ^ 31
+    → c .before .before .args .b * 4 < 2 ^ (c .before .before .args .i - c .before .before .args .j)
 quarter c e =
     let s = c .before .before in
     let k = s .args .i - s .args .j in
@@ -31,28 +33,28 @@ sub-k c = search needs
 power-requires : tie.Need-power-requires
 power-requires c κs = search needs
 
-mul-whole : tie.Need-mul-whole
-mul-whole c = omega (arith, fits c)
+mul-round-integer : tie.Need-mul-round-integer
+mul-round-integer c = omega (arith, fits c)
 
-sub-whole : tie.Need-sub-whole
-sub-whole c = rw (c .power .ensures) (omega arith)
+sub-round-integer : tie.Need-sub-round-integer
+sub-round-integer c = rw (c .power .ensures) (omega arith)
 
-whole-requires : tie.Need-whole-requires
-whole-requires c κs = rw (c .power .ensures) (omega arith)
+round-integer-requires : tie.Need-round-integer-requires
+round-integer-requires c κs = rw (c .power .ensures) (omega arith)
 
 returns : tie.Need-returns
 returns c =
     let a = c .before .before .before .args in
-    c .whole .ensures ∙ ap (λ (d : ℕ). round (a .a * d - a .b) 1 (a .j)) (c .before .power .ensures)
+    c .round-integer .ensures ∙ ap (λ (d : ℕ). round (a .a * d - a .b) 1 (a .j)) (c .before .power .ensures)
 
-sub-whole-2 : tie.Need-sub-whole-2
-sub-whole-2 c = search needs
+sub-round-integer-2 : tie.Need-sub-round-integer-2
+sub-round-integer-2 c = search needs
 
-add-whole : tie.Need-add-whole
-add-whole c = search needs
+add-round-integer : tie.Need-add-round-integer
+add-round-integer c = search needs
 
-whole-requires-2 : tie.Need-whole-requires-2
-whole-requires-2 c κs = search needs
+round-integer-requires-2 : tie.Need-round-integer-requires-2
+round-integer-requires-2 c κs = search needs
 
 returns-2 : tie.Need-returns-2
 returns-2 c =
@@ -62,19 +64,19 @@ returns-2 c =
     let f : a .a ≡ 2 ^ 31 = c .before .if3 .taken in
     let g : a .a * 2 ^ (a .i - a .j) ≡ 2 ^ 64 = rw (e, f) refl in
     let h : 18446744073709551615 - a .b + 1 ≡ a .a * 2 ^ (a .i - a .j) - a .b = omega arith in
-    c .whole2 .ensures ∙ ap (λ (n : ℕ). round n 1 (a .j)) h
+    c .round-integer2 .ensures ∙ ap (λ (n : ℕ). round n 1 (a .j)) h
 
-mul-whole-2 : tie.Need-mul-whole-2
-mul-whole-2 c = search needs
+mul-round-integer-2 : tie.Need-mul-round-integer-2
+mul-round-integer-2 c = search needs
 
-sub-whole-3 : tie.Need-sub-whole-3
-sub-whole-3 c = search needs
+sub-round-integer-3 : tie.Need-sub-round-integer-3
+sub-round-integer-3 c = search needs
 
-sub-whole-4 : tie.Need-sub-whole-4
-sub-whole-4 c = search needs
+sub-round-integer-4 : tie.Need-sub-round-integer-4
+sub-round-integer-4 c = search needs
 
-whole-requires-3 : tie.Need-whole-requires-3
-whole-requires-3 c κs = search needs
+round-integer-requires-3 : tie.Need-round-integer-requires-3
+round-integer-requires-3 c κs = search needs
 
 returns-3 : tie.Need-returns-3
 returns-3 c =
@@ -83,7 +85,8 @@ returns-3 c =
     let k = a .i - a .j in
     let far : 2 ^ 33 ≤ 2 ^ k = pow-mono {i = 33} {j = k} (c .before .before .if1 .left) in
     let e : a .i - 3 + 3 ≡ a .j + k = omega arith in
-    c .whole3 .ensures ∙ difference-far (a .a) 1 (a .i - 3) 3 (omega arith) (λ f. omega arith) (b .pre .0) (b .pre .1) (omega arith) ∙ ap (λ (x : ℕ). record { m = a .a; x = x }) e
+    c .round-integer3 .ensures ∙ difference-far (a .a) 1 (a .i - 3) 3 (omega arith) (λ f. omega arith) (b .pre .0) (b .pre .1) (omega arith)
+    ∙ ap (λ (x : ℕ). record { m = a .a; x = x }) e
     ∙ sym (difference-far (a .a) (a .b) (a .j) k (omega (arith, b .pre .3)) (quarter (c .before)) (b .pre .0) (b .pre .1) (b .pre .2))
 
 pub difference-spec : {M : Type 1} → statement M
@@ -92,16 +95,16 @@ difference-spec =
     (tie.spec
     sub-k
     power-requires
-    mul-whole
-    sub-whole
-    whole-requires
+    mul-round-integer
+    sub-round-integer
+    round-integer-requires
     returns
-    sub-whole-2
-    add-whole
-    whole-requires-2
+    sub-round-integer-2
+    add-round-integer
+    round-integer-requires-2
     returns-2
-    mul-whole-2
-    sub-whole-3
-    sub-whole-4
-    whole-requires-3
+    mul-round-integer-2
+    sub-round-integer-3
+    sub-round-integer-4
+    round-integer-requires-3
     returns-3)

@@ -34,7 +34,8 @@ round-requires c κs =
 returns : tie.Need-returns
 returns c =
     let a = c .before .before .args in
-    c .round .ensures ∙ ap (λ (n : ℕ). round n (a .b) (a .x - 31)) (div-add-mod' (a .a * 2147483648) (a .b)) ∙ sym (quotient-more (a .a) (a .b) (a .x) (omega arith) (omega arith) (c .before .if1 .taken))
+    c .round .ensures ∙ ap (λ (n : ℕ). round n (a .b) (a .x - 31)) (div-add-mod' (a .a * 2147483648) (a .b))
+    ∙ sym (quotient-more (a .a) (a .b) (a .x) (omega arith) (omega arith) (c .before .if1 .taken))
 
 mul-n-2 : tie.Need-mul-n-2
 mul-n-2 c = search needs
@@ -57,7 +58,8 @@ round-requires-2 c κs =
 returns-2 : tie.Need-returns-2
 returns-2 c =
     let a = c .before .before .args in
-    c .round2 .ensures ∙ ap (λ (n : ℕ). round n (a .b) (a .x - 32)) (div-add-mod' (a .a * 4294967296) (a .b)) ∙ sym (quotient-less (a .a) (a .b) (a .x) (omega arith) (omega arith) (c .before .if1 .left))
+    c .round2 .ensures ∙ ap (λ (n : ℕ). round n (a .b) (a .x - 32)) (div-add-mod' (a .a * 4294967296) (a .b))
+    ∙ sym (quotient-less (a .a) (a .b) (a .x) (omega arith) (omega arith) (c .before .if1 .left))
 
 pub quotient-spec : {M : Type 1} → statement M
 quotient-spec =

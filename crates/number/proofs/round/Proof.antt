@@ -6,16 +6,16 @@ use borrow.Author.Needs.{needs}
 use lib.Ieee.{nearest}
 use Rattle.number.proofs.Closest.{nearest-up, nearest-even, nearest-down}
 use Rattle.number.proofs.Rounding.{round-parts}
-use Rattle.number.specs.Number.{round, carried}
+use Rattle.number.specs.Number.{round, renormalised}
 use Rattle.number.proofs.round.Statement.{statement}
 use Rattle.number.proofs.round.Tie as tie
 
 -- the whole number that was taken, if it is the nearest
 answer : (c : tie.Start) (m : ℕ) → nearest (c .args .q) (compare (c .args .rest * 2) (c .args .d)) ≡ m
-    → carried m (c .args .x) ≡ round (c .args .q * c .args .d + c .args .rest) (c .args .d) (c .args .x)
+    → renormalised m (c .args .x) ≡ round (c .args .q * c .args .d + c .args .rest) (c .args .d) (c .args .x)
 answer c m e =
     let a = c .args in
-    sym (round-parts (a .q) (a .rest) (a .d) (a .x) (c .pre .2) (c .pre .0) (c .pre .1) ∙ ap (λ (k : ℕ). carried k (a .x)) e)
+    sym (round-parts (a .q) (a .rest) (a .d) (a .x) (c .pre .2) (c .pre .0) (c .pre .1) ∙ ap (λ (k : ℕ). renormalised k (a .x)) e)
 
 -- the even one at a tie
 tie-even : (c : tie.Start) → c .args .rest * 2 ≡ c .args .d → nearest (c .args .q) (compare (c .args .rest * 2) (c .args .d)) ≡ c .args .q + c .args .q % 2
@@ -24,52 +24,52 @@ tie-even c e = nearest-even (c .args .q) (c .args .rest * 2) (c .args .d) e
 mul-t : tie.Need-mul-t
 mul-t c = search needs
 
-add-carried : tie.Need-add-carried
-add-carried c = search needs
+add-renormalised : tie.Need-add-renormalised
+add-renormalised c = search needs
 
-carried-requires : tie.Need-carried-requires
-carried-requires c κs = search needs
+renormalised-requires : tie.Need-renormalised-requires
+renormalised-requires c κs = search needs
 
 returns : tie.Need-returns
-returns c = c .carried .ensures ∙ answer (c .before .before) _ (nearest-up _ _ _ (c .before .if1 .taken))
+returns c = c .renormalised .ensures ∙ answer (c .before .before) _ (nearest-up _ _ _ (c .before .if1 .taken))
 
-carried-requires-2 : tie.Need-carried-requires-2
-carried-requires-2 c κs = search needs
+renormalised-requires-2 : tie.Need-renormalised-requires-2
+renormalised-requires-2 c κs = search needs
 
 returns-2 : tie.Need-returns-2
-returns-2 c = c .carried2 .ensures ∙ answer (c .before .before .before) _ (nearest-down _ _ _ (c .before .if2 .taken))
+returns-2 c = c .renormalised2 .ensures ∙ answer (c .before .before .before) _ (nearest-down _ _ _ (c .before .if2 .taken))
 
-add-carried-2 : tie.Need-add-carried-2
-add-carried-2 c = search needs
+add-renormalised-2 : tie.Need-add-renormalised-2
+add-renormalised-2 c = search needs
 
-carried-requires-3 : tie.Need-carried-requires-3
-carried-requires-3 c κs = search needs
+renormalised-requires-3 : tie.Need-renormalised-requires-3
+renormalised-requires-3 c κs = search needs
 
 returns-3 : tie.Need-returns-3
 returns-3 c =
     let s = c .before .before .before .before in
-    c .carried3 .ensures ∙ answer s _ (tie-even s (omega arith) ∙ omega arith)
+    c .renormalised3 .ensures ∙ answer s _ (tie-even s (omega arith) ∙ omega arith)
 
-carried-requires-4 : tie.Need-carried-requires-4
-carried-requires-4 c κs = search needs
+renormalised-requires-4 : tie.Need-renormalised-requires-4
+renormalised-requires-4 c κs = search needs
 
 returns-4 : tie.Need-returns-4
 returns-4 c =
     let s = c .before .before .before .before in
-    c .carried4 .ensures ∙ answer s _ (tie-even s (omega arith) ∙ omega arith)
+    c .renormalised4 .ensures ∙ answer s _ (tie-even s (omega arith) ∙ omega arith)
 
 pub round-spec : {M : Type 1} → statement M
 round-spec =
     tie.close
     (tie.spec
     mul-t
-    add-carried
-    carried-requires
+    add-renormalised
+    renormalised-requires
     returns
-    carried-requires-2
+    renormalised-requires-2
     returns-2
-    add-carried-2
-    carried-requires-3
+    add-renormalised-2
+    renormalised-requires-3
     returns-3
-    carried-requires-4
+    renormalised-requires-4
     returns-4)

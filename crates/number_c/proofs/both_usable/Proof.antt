@@ -1,4 +1,4 @@
--- `both_usable` meets its contract.
+-- `both_usable` meets its contract: the first test's answer decides whether the second is asked, as `&&` does.
 use mathlib.Core.Path.{sym, ap, _∙_}
 use mathlib.Core.Bool.{Bool, _&&_}
 use borrow.Author.Needs.{needs}

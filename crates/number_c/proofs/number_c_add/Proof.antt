@@ -1,11 +1,10 @@
 -- `number_c_add` meets its contract: usable operands are within reach.
 use mathlib.Core.Path.{sym, ap, ap₂, subst, _∙_}
-use mathlib.Core.Bool.{Bool, cond}
 use borrow.Author.Needs.{needs}
 use Rattle.number.specs.Number.{reach}
 use Rattle.number.specs.Signed.{signedSum, SignedRanged}
 use Rattle.number_c.proofs.Operands.{both-ranged}
-use Rattle.number_c.specs.Answer.{refused, signedOf, itemOf}
+use Rattle.number_c.specs.Answer.{fromSigned}
 use Rattle.number_c.proofs.number_c_add.Statement.{statement}
 use Rattle.number_c.proofs.number_c_add.Tie as tie
 
@@ -29,17 +28,15 @@ answer-requires c κs = search needs
 
 returns : tie.Need-returns
 returns c =
-    let a = c .before .before .before .before .before .before .args in
-    c .answer .ensures ∙ ap itemOf (c .before .add .ensures ∙ ap₂ signedSum (c .before .before .before .signed .ensures) (c .before .before .signed2 .ensures))
-    ∙ sym (ap (λ (t : Bool). cond t (itemOf (signedSum (signedOf (a .a)) (signedOf (a .b)))) refused) (sym (c .before .before .before .before .before .both-usable .ensures) ∙ c .before .before .before .before .if1 .taken))
+    rw (sym (c .before .before .before .before .before .both-usable .ensures) ∙ c .before .before .before .before .if1 .taken)
+    (c .answer .ensures
+    ∙ ap fromSigned (c .before .add .ensures ∙ ap₂ signedSum (c .before .before .before .signed .ensures) (c .before .before .signed2 .ensures)))
 
-refused-requires : tie.Need-refused-requires
-refused-requires c κs = search needs
+no-answer-requires : tie.Need-no-answer-requires
+no-answer-requires c κs = search needs
 
 returns-2 : tie.Need-returns-2
-returns-2 c =
-    let a = c .before .before .before .args in
-    c .refused .ensures ∙ sym (ap (λ (t : Bool). cond t (itemOf (signedSum (signedOf (a .a)) (signedOf (a .b)))) refused) (sym (c .before .before .both-usable .ensures) ∙ c .before .if1 .left))
+returns-2 c = rw (sym (c .before .before .both-usable .ensures) ∙ c .before .if1 .left) (c .no-answer .ensures)
 
 pub number-c-add-spec : {M : Type 1} → statement M
 number-c-add-spec =
@@ -51,5 +48,5 @@ number-c-add-spec =
     add-requires
     answer-requires
     returns
-    refused-requires
+    no-answer-requires
     returns-2)

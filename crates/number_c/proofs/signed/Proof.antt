@@ -1,4 +1,4 @@
--- `signed` meets its contract.
+-- `signed` meets its contract: the sign is copied, and the size is what `number` answers.
 use mathlib.Core.Path.{ap}
 use borrow.Author.Needs.{needs}
 use Rattle.number.specs.declared.Number.{Number}

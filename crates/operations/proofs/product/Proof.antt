@@ -1,10 +1,7 @@
+-- The product is worked and kept; the outcome is that of the definition, and demand 3 holds (`operation-done`).
 use Rattle.operations.proofs.Results.{product-ready, operation-done}
 use Rattle.operations.proofs.product.Statement.{statement}
 use Rattle.operations.proofs.product.Tie as tie
-use Rattle.operations.proofs.product.Reads as reads
-use Rattle.operations.proofs.product.Lts as lts
-use Rattle.operations.proofs.work.keep.Reads as keep-reads
-use Rattle.operations.proofs.work.product.Reads as product-reads
 
 product-requires : tie.Need-product-requires
 product-requires c κs = c .pre
@@ -16,7 +13,8 @@ returns : tie.Need-returns
 returns c =
     let begin = c .before .before in
     let a = begin .args in
-    operation-done _ (a .target) _ _ (product-ready (a .shelf) (begin .pre) (a .left) (a .right) (a .target)) (a .shelf) (begin .pre) _ _ (c .before .product .ensures .0) (c .keep .ensures)
+    operation-done _ (a .target) _ _ (product-ready (a .shelf) (begin .pre) (a .left) (a .right) (a .target)) (a .shelf) (begin .pre) _ _
+    (c .before .product .ensures .0) (c .keep .ensures)
 
 pub product-spec : {M : Type 1} → statement M
 product-spec = tie.close (tie.spec product-requires keep-requires returns)

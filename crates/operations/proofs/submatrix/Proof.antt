@@ -1,12 +1,8 @@
+-- The submatrix, its sets as masks, is worked and kept; the outcome is that of the definition, and demand 3 holds (`operation-done`).
 use Rattle.operations.proofs.Results.{submatrix-ready, operation-done}
 use borrow.Author.Needs.{needs}
 use Rattle.operations.proofs.submatrix.Statement.{statement}
 use Rattle.operations.proofs.submatrix.Tie as tie
-use Rattle.operations.proofs.submatrix.Reads as reads
-use Rattle.operations.proofs.submatrix.Lts as lts
-use Rattle.operations.proofs.work.keep.Reads as keep-reads
-use Rattle.operations.proofs.work.submatrix.Reads as submatrix-reads
-use Rattle.rowset.proofs.wide.Reads as wide-reads
 
 wide-requires : tie.Need-wide-requires
 wide-requires c κs = search needs

@@ -1,12 +1,8 @@
-use mathlib.Core.Path.{ap, _∙_}
-use Rattle.operations.specs.Operations.{kept}
+-- The transpose is worked and kept; the outcome is that of the definition (`transpose-kept`).
+use Rattle.operations.proofs.Proposals.{transpose-kept}
 use borrow.Author.Needs.{needs}
 use Rattle.operations.proofs.transpose.Statement.{statement}
 use Rattle.operations.proofs.transpose.Tie as tie
-use Rattle.operations.proofs.transpose.Reads as reads
-use Rattle.operations.proofs.transpose.Lts as lts
-use Rattle.operations.proofs.work.keep.Reads as keep-reads
-use Rattle.operations.proofs.work.transposed.Reads as transposed-reads
 
 transposed-requires : tie.Need-transposed-requires
 transposed-requires c κs = search needs
@@ -17,7 +13,7 @@ keep-requires c κs = (c .before .pre, c .transposed .ensures .1)
 returns : tie.Need-returns
 returns c =
     let a = c .before .before .args in
-    (c .keep .ensures .0 ∙ ap (kept (a .shelf) (a .target)) (c .before .transposed .ensures .0), c .keep .ensures .1)
+    transpose-kept (a .shelf) (a .source) (a .target) _ _ (c .before .transposed .ensures .0) (c .keep .ensures)
 
 pub transpose-spec : {M : Type 1} → statement M
 transpose-spec = tie.close (tie.spec transposed-requires keep-requires returns)

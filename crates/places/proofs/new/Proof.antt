@@ -1,3 +1,4 @@
+-- The empty shelf is what its definition says, and good.
 use mathlib.Core.Path.{sym, ap, subst}
 use lib.ListN.{replicate}
 use Rattle.number.specs.declared.Number.{Number}
@@ -8,9 +9,6 @@ use Rattle.places.proofs.Holding.{good-empty}
 use borrow.Author.Needs.{needs}
 use Rattle.places.proofs.new.Statement.{statement}
 use Rattle.places.proofs.new.Tie as tie
-use Rattle.places.proofs.new.Reads as reads
-use Rattle.places.proofs.new.Lts as lts
-use Rattle.number.proofs.Number.zero.Reads as zero-reads
 
 -- eight empty places, and one number everywhere
 abbrev filled : Number → Shelf

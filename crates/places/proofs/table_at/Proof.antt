@@ -1,16 +1,14 @@
-use Rattle.walk.specs.Table.{absent}
-use Rattle.number.proofs.Arrays.{length-mapped}
+-- `table_at` meets its contract. The invariant: the first k numbers of the place are read.
+use Rattle.table.specs.Table.{absent}
+use Rattle.arrays.proofs.Structs.{length-mapped}
 use Prim.Native.Nat.{_+_, _*_, _-_}
 use mathlib.Core.Path.{refl}
 use lib.ListN.{getD}
-use Rattle.places.proofs.Filled.{Filled, filled-none, filled-more}
+use Rattle.arrays.proofs.Filled.{Filled, filled-none, filled-more}
 use Rattle.places.proofs.Holding.{table-read}
 use borrow.Author.Needs.{needs}
 use Rattle.places.proofs.table_at.Statement.{statement}
 use Rattle.places.proofs.table_at.Tie as tie
-use Rattle.places.proofs.table_at.Reads as reads
-use Rattle.places.proofs.table_at.Lts as lts
-use Rattle.number.proofs.Number.zero.Reads as zero-reads
 
 abbrev Inv-loop : tie.InvT-loop
 Inv-loop place shelf t₀ k₀ t k = Filled absent (λ i. getD (shelf .numbers) (place * 64 + i) absent) 64 k t

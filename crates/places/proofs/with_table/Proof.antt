@@ -1,28 +1,23 @@
-use Rattle.walk.specs.Table.{absent}
-use lib.ListN.{getD}
-use Prim.Native.Nat.{_+_}
-use lib.ListN.{set}
-use lib.Seq.{take-all}
-use mathlib.Core.Path.{sym, ap, subst, _∙_}
-use mathlib.Core.List.{List}
-use Rattle.number.specs.declared.Number.{Number}
-use Rattle.number.proofs.Arrays.{length-mapped}
-use Rattle.places.proofs.Holding.{shelf-fields, good-put}
-use Prim.Native.Nat.{ℕ, _*_, _-_, _≤_}
-use mathlib.Core.Path.{_≡_, refl}
-use lib.ListN.{length, take}
-use lib.Seq.{sets}
-use Rattle.places.proofs.Holding.{put-more}
-use Rattle.places.specs.Shelf.{withTable, Good}
+-- `with_table` meets its contract. The invariant: the first k numbers of the table are put, and the sizes are as they were.
+use Prim.Native.Nat.{ℕ, _+_, _*_, _-_, _≤_}
 use native.Mathlib.Omega.{arith}
+use mathlib.Core.Path.{_≡_, refl, sym, ap, subst, _∙_}
+use mathlib.Core.List.{List}
+use lib.ListN.{length, getD, take, set}
+use lib.Seq.{sets, take-all}
+use Rattle.arrays.proofs.Runs.{sets-next}
+use Rattle.number.specs.declared.Number.{Number}
+use Rattle.arrays.proofs.Structs.{length-mapped}
+use Rattle.table.specs.Table.{absent}
+use Rattle.places.specs.Shelf.{withTable, Good}
+use Rattle.places.proofs.Holding.{shelf-fields, good-put}
 use borrow.Author.Needs.{needs}
 use Rattle.places.proofs.with_table.Statement.{statement}
 use Rattle.places.proofs.with_table.Tie as tie
-use Rattle.places.proofs.with_table.Reads as reads
-use Rattle.places.proofs.with_table.Lts as lts
 
 abbrev Inv-loop : tie.InvT-loop
-Inv-loop place n t left₀ k₀ left k = (k ≤ 64) × (left .numbers ≡ sets (left₀ .numbers) (place * 64) (take k t)) × (left .sizes ≡ left₀ .sizes) × (length (left₀ .numbers) ≡ 512)
+Inv-loop place n t left₀ k₀ left k =
+    (k ≤ 64) × (left .numbers ≡ sets (left₀ .numbers) (place * 64) (take k t)) × (left .sizes ≡ left₀ .sizes) × (length (left₀ .numbers) ≡ 512)
 
 abbrev μ-loop : tie.MeasureT-loop
 μ-loop place n t left₀ k₀ left k = 64 - k
@@ -60,7 +55,8 @@ loop-again c =
     let l = c .before .before .loop in
     let k = l .k in (
       omega arith,
-      ap (λ (x : List Number). set x (a .place * 64 + k) (getD (a .t4) k absent)) (l .inv .1) ∙ put-more (a .shelf .numbers) (a .t4) (a .place * 64) k (search needs),
+      ap (λ (x : List Number). set x (a .place * 64 + k) (getD (a .t4) k absent)) (l .inv .1)
+          ∙ sets-next absent (a .shelf .numbers) (a .t4) (a .place * 64) k (search needs),
       l .inv .2,
       l .inv .3,
     )
@@ -80,7 +76,8 @@ returns c =
     let t : take (l .k) (a .t4) ≡ a .t4 = take-all (l .k) (a .t4) (search needs) in
     let same : _ ≡ withTable (a .shelf) (a .place) (a .n) (a .t4) =
     shelf-fields _ _ (l .inv .1 ∙ ap (sets (a .shelf .numbers) (a .place * 64)) t) (ap (λ (x : List ℕ). set x (a .place) (a .n)) (l .inv .2)) in
-    (same, subst Good (sym same) (good-put (a .shelf) (c .before .before .pre .0) (a .place) (a .n) (a .t4) (c .before .before .pre .1) (c .before .before .pre .2)))
+    let p = c .before .before .pre in
+    (same, subst Good (sym same) (good-put (a .shelf) (p .0) (a .place) (a .n) (a .t4) (p .1) (p .2)))
 
 pub with-table-spec : {M : Type 1} → statement M
 with-table-spec =

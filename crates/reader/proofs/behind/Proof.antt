@@ -4,10 +4,10 @@ use borrow.Author.Needs.{needs}
 use mathlib.Core.Path.{refl, ap, _∙_}
 use lib.ListN.{length}
 use denote.Ref.{now}
-use Rattle.reader.specs.declared.Outcome.the-variants.{Matrix}
+use Rattle.reader.specs.declared.ReadOutcome.the-variants.{Matrix}
 use Rattle.reader.specs.declared.Parsed.{Parsed}
 use Rattle.reader.specs.Matrix.{matrixOf, OutcomeInside}
-use Rattle.writer.proofs.Parts.{part-is}
+use Rattle.arrays.proofs.Runs.{part-is}
 use Rattle.reader.proofs.Reading.{matched, behindOutcome, behind-outcome}
 use Rattle.reader.proofs.behind.Statement.{statement}
 use Rattle.reader.proofs.behind.Tie as tie
@@ -15,7 +15,8 @@ use Rattle.reader.proofs.behind.Tie as tie
 -- the matrix that was read ends within the input
 inside : (c : tie.After-outcome) → c .outcome .given .0 .1 .0 ≤ length (now (c .before .before .before .before .args .s))
 inside c =
-    let h : OutcomeInside _ (Matrix (c .outcome .given .0 .0) (c .outcome .given .0 .1 .0)) = rw (c .outcome .given .1) at (c .before .before .read-matrix .ensures .1) in
+    let h : OutcomeInside _ (Matrix (c .outcome .given .0 .0) (c .outcome .given .0 .1 .0)) =
+    rw (c .outcome .given .1) at (c .before .before .read-matrix .ensures .1) in
     h .2
 
 read-matrix-requires : tie.Need-read-matrix-requires

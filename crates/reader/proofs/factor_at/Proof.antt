@@ -4,8 +4,8 @@ use borrow.Author.Needs.{needs}
 use mathlib.Core.Path.{refl}
 use lib.ListN.{length, take}
 use denote.Ref.{now}
-use Rattle.reader.specs.declared.Item.the-variants.{Value}
-use Rattle.reader.specs.Matrix.{mantissaAt, judgedBy, factorBy, factorAt, ItemInside}
+use Rattle.reader.specs.declared.ByteItem.the-variants.{Value}
+use Rattle.reader.specs.Matrix.{mantissaAt, judgedBy, factorByItem, factorAt, ItemInside}
 use Rattle.reader.proofs.Reading.{matched}
 use Rattle.reader.proofs.factor_at.Statement.{statement}
 use Rattle.reader.proofs.factor_at.Tie as tie
@@ -42,8 +42,9 @@ unfolding factorAt
 returns c =
     let a = c .before .before .before .before .before .before .before .before .before .args in
     let i = c .before .before .before .before .before in (
-      matched (factorBy (now (a .s)) (a .n) (take (a .k) (a .numbers)) (a .at)) (i .before .before .item-at .ensures .0) (i .item .given .1)
-          (matched (judgedBy (a .at) (mantissaAt (now (a .s)) _ _)) (c .before .before .before .judge .ensures) (c .before .enum-told .given .1) (c .mantissa-at .ensures .0)),
+      matched (factorByItem (now (a .s)) (a .n) (take (a .k) (a .numbers)) (a .at)) (i .before .before .item-at .ensures .0) (i .item .given .1)
+          (matched (judgedBy (a .at) (mantissaAt (now (a .s)) _ _)) (c .before .before .before .judge .ensures) (c .before .enum-told .given .1)
+          (c .mantissa-at .ensures .0)),
       c .mantissa-at .ensures .1,
     )
 
@@ -52,7 +53,7 @@ unfolding factorAt
 returns-2 c =
     let a = c .before .before .before .before .before .before .before .before .before .args in
     let i = c .before .before .before .before .before in (
-      matched (factorBy (now (a .s)) (a .n) (take (a .k) (a .numbers)) (a .at)) (i .before .before .item-at .ensures .0) (i .item .given .1)
+      matched (factorByItem (now (a .s)) (a .n) (take (a .k) (a .numbers)) (a .at)) (i .before .before .item-at .ensures .0) (i .item .given .1)
           (matched (judgedBy (a .at) (mantissaAt (now (a .s)) _ _)) (c .before .before .before .judge .ensures) (c .before .verdict .given .1) refl),
       tt,
     )
@@ -60,8 +61,11 @@ returns-2 c =
 returns-3 : tie.Need-returns-3
 unfolding factorAt
 returns-3 c =
-    let a = c .before .before .before .before .before .args in
-    (matched (factorBy (now (a .s)) (a .n) (take (a .k) (a .numbers)) (a .at)) (c .before .before .before .item-at .ensures .0) (c .before .item2 .given .1) refl, tt)
+    let a = c .before .before .before .before .before .args in (
+      matched (factorByItem (now (a .s)) (a .n) (take (a .k) (a .numbers)) (a .at)) (c .before .before .before .item-at .ensures .0)
+          (c .before .item2 .given .1) refl,
+      tt,
+    )
 
 pub factor-at-spec : {M : Type 1} → statement M
 factor-at-spec =

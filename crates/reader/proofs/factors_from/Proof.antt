@@ -4,7 +4,7 @@ use native.Mathlib.Omega.{arith}
 use borrow.Author.Needs.{needs}
 use mathlib.Core.Path.{_∙_}
 use Rattle.writer.proofs.Writing.{square-small}
-use Rattle.reader.specs.declared.Factor.the-variants.{At}
+use Rattle.reader.specs.declared.ByteFactor.the-variants.{At}
 use Rattle.reader.specs.Matrix.{FactorInside}
 use Rattle.reader.proofs.Reading.{ReadSoFar, read-none, read-more, read-fault, read-all}
 use Rattle.reader.proofs.factors_from.Statement.{statement}
@@ -45,7 +45,8 @@ loop-again c =
     let l = c .before .before .before .before .before in
     let e = c .before .before .before in
     let b : FactorInside _ (At (c .before .got .given .0 .0) (c .before .got .given .0 .1 .0)) = rw (c .before .got .given .1) at (e .factor-at .ensures .1) in
-    read-more (l .loop .inv) (e .factor-at .result) (e .factor-at .ensures .0) (omega arith) (c .before .got .given .0 .0) (c .before .got .given .0 .1 .0) (c .before .got .given .1) b
+    read-more (l .loop .inv) (e .factor-at .result) (e .factor-at .ensures .0) (omega arith) (c .before .got .given .0 .0) (c .before .got .given .0 .1 .0)
+    (c .before .got .given .1) b
 
 enum-known-got-2 : tie.Need-enum-known-got-2 Inv-loop μ-loop
 enum-known-got-2 c = search needs
@@ -57,8 +58,11 @@ returns : tie.Need-returns Inv-loop μ-loop
 returns c =
     let l = c .before .before .before .before .before .before in
     let e = c .before .before .before .before in
-    let g = c .before .before .got2 .given in
-    (c .fault .ensures ∙ read-fault (l .loop .inv) (e .factor-at .result) (e .factor-at .ensures .0) (omega arith) (g .0 .0) (g .0 .1 .0) (g .1), rw (c .fault .ensures) tt)
+    let g = c .before .before .got2 .given in (
+      c .fault .ensures
+          ∙ read-fault (l .loop .inv) (e .factor-at .result) (e .factor-at .ensures .0) (omega arith) (g .0 .0) (g .0 .1 .0) (g .1),
+      rw (c .fault .ensures) tt,
+    )
 
 returns-2 : tie.Need-returns-2 Inv-loop μ-loop
 returns-2 c =

@@ -6,8 +6,8 @@ use mathlib.Core.Path.{_≡_, refl, ap, _∙_}
 use lib.ListN.{length, drop}
 use denote.Ref.{now}
 use Rattle.group.specs.Group.{groupOf}
-use Rattle.reader.specs.Matrix.{itemBy, itemAt}
-use Rattle.writer.proofs.Parts.{part-is}
+use Rattle.reader.specs.Matrix.{itemByGroup, itemAt}
+use Rattle.arrays.proofs.Runs.{part-is}
 use Rattle.reader.proofs.Reading.{matched, part-inside}
 use Rattle.reader.proofs.item_at.Statement.{statement}
 use Rattle.reader.proofs.item_at.Tie as tie
@@ -54,19 +54,19 @@ returns : tie.Need-returns
 unfolding itemAt
 returns c =
     let a = c .before .before .before .before .before .before .args in
-    (matched (itemBy (now (a .s)) (a .at)) (found (c .before .before .before)) (c .before .got .given .1) refl, inside (c .before))
+    (matched (itemByGroup (now (a .s)) (a .at)) (found (c .before .before .before)) (c .before .got .given .1) refl, inside (c .before))
 
 returns-2 : tie.Need-returns-2
 unfolding itemAt
 returns-2 c =
     let a = c .before .before .before .before .before .args in
-    (matched (itemBy (now (a .s)) (a .at)) (found (c .before .before)) (c .enum-told .given .1) refl, tt)
+    (matched (itemByGroup (now (a .s)) (a .at)) (found (c .before .before)) (c .enum-told .given .1) refl, tt)
 
 returns-3 : tie.Need-returns-3
 unfolding itemAt
 returns-3 c =
     let a = c .before .before .before .before .before .args in
-    (matched (itemBy (now (a .s)) (a .at)) (found (c .before .before)) (c .enum-told2 .given .1) refl, tt)
+    (matched (itemByGroup (now (a .s)) (a .at)) (found (c .before .before)) (c .enum-told2 .given .1) refl, tt)
 
 pub item-at-spec : {M : Type 1} → statement M
 item-at-spec =

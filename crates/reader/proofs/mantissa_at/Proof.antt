@@ -5,7 +5,7 @@ use borrow.Author.Tests.{lt-ltb, le-ltb, eq-eqb, ne-eqb}
 use mathlib.Core.Path.{refl}
 use lib.ListN.{length}
 use denote.Ref.{now}
-use Rattle.reader.specs.declared.Item.the-variants.{Value}
+use Rattle.reader.specs.declared.ByteItem.the-variants.{Value}
 use Rattle.reader.specs.Matrix.{mantissaBy, mantissaAt, ItemInside}
 use Rattle.reader.proofs.Reading.{matched}
 use Rattle.reader.proofs.mantissa_at.Statement.{statement}

@@ -6,8 +6,8 @@ use borrow.Author.Tests.{lt-ltb, le-ltb}
 use mathlib.Core.Path.{_≡_, _∙_}
 use lib.ListN.{length}
 use denote.Ref.{now}
-use Rattle.reader.specs.declared.Item.{Item}
-use Rattle.reader.specs.declared.Item.the-variants.{Value}
+use Rattle.reader.specs.declared.ByteItem.{ByteItem}
+use Rattle.reader.specs.declared.ByteItem.the-variants.{Value}
 use Rattle.reader.specs.declared.Parsed.{Parsed}
 use Rattle.reader.specs.Matrix.{ItemInside, parsed, matrixBy, matrixOf}
 use Rattle.reader.proofs.Reading.{matched}
@@ -21,10 +21,10 @@ inside c =
     h .0
 
 -- an answer by what the first item is
-answer : (c : tie.After-item-at) (w : Item) → c .item-at .result ≡ w → {x : Parsed} → x ≡ parsed (matrixBy (now (c .before .before .args .s)) w) →
+answer : (c : tie.After-item-at) (w : ByteItem) → c .item-at .result ≡ w → {x : Parsed} → x ≡ parsed (matrixBy (now (c .before .before .args .s)) w) →
     x ≡ parsed (matrixOf (now (c .before .before .args .s)))
 unfolding matrixOf
-answer c w q h = matched (λ (w : Item). parsed (matrixBy (now (c .before .before .args .s)) w)) (c .item-at .ensures .0) q h
+answer c w q h = matched (λ (w : ByteItem). parsed (matrixBy (now (c .before .before .args .s)) w)) (c .item-at .ensures .0) q h
 
 item-at-requires : tie.Need-item-at-requires
 item-at-requires c κs = search needs
@@ -46,7 +46,8 @@ fault-requires-2 c κs = search needs
 returns-2 : tie.Need-returns-2
 returns-2 c =
     let i = c .before .before .before .before in (
-      answer (i .before .before) _ (i .item .given .1) (c .fault2 .ensures ∙ simp (le-ltb _ _ (c .before .before .if1 .left), lt-ltb _ _ (c .before .if2 .taken))),
+      answer (i .before .before) _ (i .item .given .1)
+          (c .fault2 .ensures ∙ simp (le-ltb _ _ (c .before .before .if1 .left), lt-ltb _ _ (c .before .if2 .taken))),
       rw (c .fault2 .ensures) tt,
     )
 

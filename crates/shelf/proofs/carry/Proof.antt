@@ -1,20 +1,15 @@
+-- A carry: its place judged, and the list carried through the word of the place (laws in Carrying).
 use mathlib.Core.Path.{_≡_, sym, _∙_}
 use denote.Ref.{now}
 use native.Mathlib.Omega.{arith}
-use Rattle.places.specs.declared.Verdict.the-variants.{Accepted}
-use Rattle.places.specs.Refusal.{firstOf, sourceTests}
+use Rattle.verdict.specs.declared.Verdict.the-variants.{Accepted}
+use Rattle.verdict.specs.Verdict.{firstOf}
+use Rattle.places.specs.Tests.{sourceTests}
 use Rattle.places.proofs.Verdicts.{Source, source-accepted}
-use Rattle.shelf.proofs.Lists.{carry-turned, carry-done, carry-refused, carry-number}
+use Rattle.shelf.proofs.Carrying.{carry-turned, carry-done}
 use borrow.Author.Needs.{needs}
 use Rattle.shelf.proofs.carry.Statement.{statement}
 use Rattle.shelf.proofs.carry.Tie as tie
-use Rattle.shelf.proofs.carry.Reads as reads
-use Rattle.shelf.proofs.carry.Lts as lts
-use Rattle.lists.proofs.carry.Reads as carry-reads
-use Rattle.places.proofs.judge.refused.Reads as refused-reads
-use Rattle.places.proofs.judge.source.Reads as source-reads
-use Rattle.places.proofs.rows_at.Reads as rows-at-reads
-use Rattle.places.proofs.table_at.Reads as table-at-reads
 
 -- the places on the way: entry, the source accepted, the list carried
 abbrev entry : tie.After-enum-told → tie.Start
@@ -54,63 +49,19 @@ carry-requires : tie.Need-carry-requires
 carry-requires c κs =
     let told = c .before .before .before in
     let o = source told in
-    rw (c .before .before .rows-at .ensures, c .before .table-at .ensures) (o .some, entry told .pre .held _ (o .small) .few, entry told .pre .held _ (o .small) .stored)
-
-enum-told-2 : tie.Need-enum-told-2
-enum-told-2 c = search needs
-
-enum-known-answer : tie.Need-enum-known-answer
-enum-known-answer c = search needs
-
-cast-refused : tie.Need-cast-refused
-cast-refused c =
-    let m = c .before .before .before .before in
-    let a = entry (told m) .args in
-    record {
-      fits = carry-number (a .shelf) (a .place) (now (a .items)) (now (a .out)) (accepted (told m)) _ _ (m .before .before .before .rows-at .ensures) (m .before .before .table-at .ensures) _ _
-          (m .carry .ensures .0) (m .carry .ensures .1) _ (c .before .answer .given .1);
-    }
-
-refused-requires : tie.Need-refused-requires
-refused-requires c κs = search needs
+    rw (c .before .before .rows-at .ensures, c .before .table-at .ensures)
+    (o .some, entry told .pre .held _ (o .small) .few, entry told .pre .held _ (o .small) .stored)
 
 same-length : tie.Need-same-length
 same-length c = search needs
 
 returns-2 : tie.Need-returns-2
 returns-2 c =
-    let m = c .before .before .before in
+    let m = c .before in
     let a = entry (told m) .args in
-    carry-done (a .shelf) (a .place) (now (a .items)) (now (a .out)) (accepted (told m)) _ _ (m .before .before .before .rows-at .ensures) (m .before .before .table-at .ensures) _ _
-    (m .carry .ensures .0) (m .carry .ensures .1) (c .enum-told2 .given .1)
-
-same-length-2 : tie.Need-same-length-2
-same-length-2 c = search needs
-
-returns-3 : tie.Need-returns-3
-returns-3 c =
-    let m = c .before .before .before .before .before in
-    let a = entry (told m) .args in
-    let d = carry-refused (a .shelf) (a .place) (now (a .items)) (now (a .out)) (accepted (told m)) _ _ (m .before .before .before .rows-at .ensures) (m .before .before .table-at .ensures) _ _
-    (m .carry .ensures .0) (m .carry .ensures .1) _ (c .before .before .answer .given .1) in
-    (c .refused .ensures ∙ d .0, d .1)
+    carry-done (a .shelf) (a .place) (now (a .items)) (now (a .out)) (accepted (told m)) _ _ (m .before .before .before .rows-at .ensures)
+    (m .before .before .table-at .ensures) _ _
+    (m .carry .ensures .0) (m .carry .ensures .1)
 
 pub carry-spec : {M : Type 1} → statement M
-carry-spec =
-    tie.close
-    (tie.spec
-    source-requires
-    enum-known-first
-    returns
-    enum-told
-    rows-at-requires
-    table-at-requires
-    carry-requires
-    enum-told-2
-    enum-known-answer
-    cast-refused
-    refused-requires
-    same-length
-    returns-2
-    same-length-2
-    returns-3)
+carry-spec = tie.close (tie.spec source-requires enum-known-first returns enum-told rows-at-requires table-at-requires carry-requires same-length returns-2)

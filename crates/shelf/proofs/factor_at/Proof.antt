@@ -1,3 +1,4 @@
+-- A factor of a place: zero where the place has none, else what its table holds there (laws in FactorReads).
 use Prim.Native.Nat.{_+_, _-_, _*_, _<_}
 use native.Mathlib.Omega.{arith}
 use mathlib.Core.Path.{_∙_}
@@ -12,11 +13,6 @@ use Rattle.shelf.proofs.FactorReads.{place-small, factor-below, factor-
 use borrow.Author.Needs.{needs}
 use Rattle.shelf.proofs.factor_at.Statement.{statement}
 use Rattle.shelf.proofs.factor_at.Tie as tie
-use Rattle.shelf.proofs.factor_at.Reads as reads
-use Rattle.shelf.proofs.factor_at.Lts as lts
-use Rattle.number.proofs.Number.exponent.Reads as exponent-reads
-use Rattle.places.proofs.rows_at.Reads as rows-at-reads
-use Rattle.places.proofs.table_at.Reads as table-at-reads
 
 -- entry, and the row and the column that the place has
 abbrev entry : tie.Else4 → tie.Start
@@ -47,11 +43,22 @@ returns-2 c = simp (le-leb 1 _ (c .before .if1 .left), lt-leb 1 _ (c .if2 .taken
 
 returns-3 : tie.Need-returns-3
 unfolding factorCall
-returns-3 c = simp (le-leb 1 _ (c .before .before .if1 .left), le-leb 1 _ (c .before .if2 .left), lt-leb _ _ (rw (c .before .before .before .rows-at .ensures) at (c .if3 .taken)))
+returns-3 c =
+    simp (
+      le-leb 1 _ (c .before .before .if1 .left),
+      le-leb 1 _ (c .before .if2 .left),
+      lt-leb _ _ (rw (c .before .before .before .rows-at .ensures) at (c .if3 .taken)),
+    )
 
 returns-4 : tie.Need-returns-4
 unfolding factorCall
-returns-4 c = simp (le-leb 1 _ (c .before .before .before .if1 .left), le-leb 1 _ (c .before .before .if2 .left), le-leb _ _ (rw (c .before .before .before .before .rows-at .ensures) at (c .before .if3 .left)), lt-leb _ _ (rw (c .before .before .before .before .rows-at .ensures) at (c .if4 .taken)))
+returns-4 c =
+    simp (
+      le-leb 1 _ (c .before .before .before .if1 .left),
+      le-leb 1 _ (c .before .before .if2 .left),
+      le-leb _ _ (rw (c .before .before .before .before .rows-at .ensures) at (c .before .if3 .left)),
+      lt-leb _ _ (rw (c .before .before .before .before .rows-at .ensures) at (c .if4 .taken)),
+    )
 
 table-at-requires : tie.Need-table-at-requires
 table-at-requires c κs = small c
@@ -77,7 +84,8 @@ returns-5 : tie.Need-returns-5
 returns-5 c =
     let q = c .before .before .before in
     let e : SFits w64 (c .exponent .result) = record { sfits = c .exponent .ok } in
-    factor-done _ (entry q .pre) _ _ _ (row q) (column q) _ _ (factor-is _ (entry q .pre) _ _ _ (row q) (column q) _ (c .before .before .table-at .ensures)) (toZ-ofZ e ∙ c .exponent .ensures)
+    factor-done _ (entry q .pre) _ _ _ (row q) (column q) _ _ (factor-is _ (entry q .pre) _ _ _ (row q) (column q) _ (c .before .before .table-at .ensures))
+    (toZ-ofZ e ∙ c .exponent .ensures)
 
 pub factor-at-spec : {M : Type 1} → statement M
 factor-at-spec =

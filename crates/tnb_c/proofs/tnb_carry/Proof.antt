@@ -1,15 +1,16 @@
 -- `tnb_carry` meets its contract.
 use mathlib.Core.Path.{refl, ap, _∙_}
-use Rattle.tnb_c.specs.Answers.{ofCarried}
-use Rattle.tnb_c.proofs.Answered.{answered, turned-away}
+use Rattle.places.specs.Outcome.{Outcome}
+use Rattle.shelf.specs.Run.{carry, run}
+use Rattle.tnb_c.specs.declared.Status.{Status}
+use Rattle.tnb_c.specs.Answers.{statusOf}
+use Rattle.tnb_c.proofs.Checked.{answered, turned-away}
 use borrow.Author.Needs.{needs}
 use Rattle.tnb_c.proofs.tnb_carry.Statement.{statement}
 use Rattle.tnb_c.proofs.tnb_carry.Tie as tie
-use Rattle.tnb_c.proofs.tnb_carry.Reads as reads
-use Rattle.tnb_c.proofs.tnb_carry.Lts as lts
-use Rattle.places.proofs.check.is_good.Reads as is-good-reads
-use Rattle.shelf.proofs.carry.Reads as carry-reads
-use Rattle.tnb_c.proofs.answers.carried.Reads as carried-reads
+
+abbrev answer : Outcome → Status
+answer x = statusOf (x .report)
 
 is-good-requires : tie.Need-is-good-requires
 is-good-requires c κs = search needs
@@ -24,16 +25,19 @@ same-length : tie.Need-same-length
 same-length c = search needs
 
 returns : tie.Need-returns
+unfolding run
 returns c =
     let wrote = c .before .before in
     let tested = wrote .before .before .before .is-good .ensures .0 in
-    let good = wrote .before .before .if1 .taken in
-    (answered _ tested _ _ good (c .carried .ensures ∙ ap ofCarried (wrote .carry .ensures .0)), answered _ tested _ _ good (wrote .carry .ensures .1))
+    let good = wrote .before .before .if1 .taken in (
+      answered _ (carry _ _ _) answer tested good (c .carried .ensures ∙ ap statusOf (wrote .carry .ensures .0)),
+      answered _ (carry _ _ _) (λ (x : Outcome). x .items) tested good (wrote .carry .ensures .1),
+    )
 
 returns-2 : tie.Need-returns-2
 returns-2 c =
     let tested = c .before .is-good .ensures .0 in
-    (turned-away _ tested _ _ (c .if1 .left) refl, turned-away _ tested _ _ (c .if1 .left) refl)
+    (turned-away _ (carry _ _ _) answer tested (c .if1 .left) refl, turned-away _ (carry _ _ _) (λ (x : Outcome). x .items) tested (c .if1 .left) refl)
 
 pub tnb-carry-spec : {M : Type 1} → statement M
 tnb-carry-spec =

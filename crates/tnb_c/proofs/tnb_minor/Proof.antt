@@ -1,15 +1,16 @@
 -- `tnb_minor` meets its contract.
-use mathlib.Core.Path.{refl, ap, _∙_}
-use Rattle.tnb_c.specs.Answers.{ofValued}
-use Rattle.tnb_c.proofs.Answered.{answered, turned-away}
+use mathlib.Core.Path.{ap, _∙_}
+use Rattle.places.specs.Outcome.{Outcome}
+use Rattle.shelf.specs.Run.{minor, run}
+use Rattle.tnb_c.specs.declared.Value.{Value}
+use Rattle.tnb_c.specs.Answers.{valueOf}
+use Rattle.tnb_c.proofs.Checked.{answered, turned-away}
 use borrow.Author.Needs.{needs}
 use Rattle.tnb_c.proofs.tnb_minor.Statement.{statement}
 use Rattle.tnb_c.proofs.tnb_minor.Tie as tie
-use Rattle.tnb_c.proofs.tnb_minor.Reads as reads
-use Rattle.tnb_c.proofs.tnb_minor.Lts as lts
-use Rattle.places.proofs.check.is_good.Reads as is-good-reads
-use Rattle.operations.proofs.minor.Reads as minor-reads
-use Rattle.tnb_c.proofs.answers.valued.Reads as valued-reads
+
+abbrev answer : Outcome → Value
+answer x = valueOf (x .report)
 
 is-good-requires : tie.Need-is-good-requires
 is-good-requires c κs = search needs
@@ -21,11 +22,25 @@ valued-requires : tie.Need-valued-requires
 valued-requires c κs = search needs
 
 returns : tie.Need-returns
-returns c = answered _ (c .before .before .before .is-good .ensures .0) _ _ (c .before .before .if1 .taken) (c .valued .ensures ∙ ap ofValued (c .before .minor .ensures))
+unfolding run
+returns c =
+    let tested = c .before .before .before .is-good .ensures .0 in
+    let good = c .before .before .if1 .taken in
+    answered _ (minor _ _ _) answer tested good (c .valued .ensures ∙ ap valueOf (c .before .minor .ensures))
+
+no-value-requires : tie.Need-no-value-requires
+no-value-requires c κs = search needs
 
 returns-2 : tie.Need-returns-2
-returns-2 c = turned-away _ (c .before .is-good .ensures .0) _ _ (c .if1 .left) refl
+returns-2 c = turned-away _ (minor _ _ _) answer (c .before .before .is-good .ensures .0) (c .before .if1 .left) (c .no-value .ensures)
 
 pub tnb-minor-spec : {M : Type 1} → statement M
 tnb-minor-spec =
-    tie.close (tie.spec is-good-requires minor-requires valued-requires returns returns-2)
+    tie.close
+    (tie.spec
+    is-good-requires
+    minor-requires
+    valued-requires
+    returns
+    no-value-requires
+    returns-2)

@@ -4,9 +4,6 @@ use lib.ListN.{length}
 use borrow.Author.Needs.{needs}
 use Rattle.tnb_c.proofs.tnb_rest.Statement.{statement}
 use Rattle.tnb_c.proofs.tnb_rest.Tie as tie
-use Rattle.tnb_c.proofs.tnb_rest.Reads as reads
-use Rattle.tnb_c.proofs.tnb_rest.Lts as lts
-use Rattle.reader.proofs.behind.Reads as behind-reads
 
 behind-requires : tie.Need-behind-requires
 behind-requires c κs = search needs

@@ -1,16 +1,11 @@
 -- `tnb_transpose` meets its contract.
 use mathlib.Core.Path.{ap, _∙_}
-use Rattle.tnb_c.specs.Answers.{ofOperated}
-use Rattle.tnb_c.proofs.Answered.{answered, turned-away}
+use Rattle.shelf.specs.Run.{transpose, run}
+use Rattle.tnb_c.specs.Answers.{answerOf}
+use Rattle.tnb_c.proofs.Checked.{answered, turned-away}
 use borrow.Author.Needs.{needs}
 use Rattle.tnb_c.proofs.tnb_transpose.Statement.{statement}
 use Rattle.tnb_c.proofs.tnb_transpose.Tie as tie
-use Rattle.tnb_c.proofs.tnb_transpose.Reads as reads
-use Rattle.tnb_c.proofs.tnb_transpose.Lts as lts
-use Rattle.places.proofs.check.is_good.Reads as is-good-reads
-use Rattle.operations.proofs.transpose.Reads as transpose-reads
-use Rattle.tnb_c.proofs.answers.foreign.Reads as foreign-reads
-use Rattle.tnb_c.proofs.answers.operated.Reads as operated-reads
 
 is-good-requires : tie.Need-is-good-requires
 is-good-requires c κs = search needs
@@ -22,13 +17,17 @@ operated-requires : tie.Need-operated-requires
 operated-requires c κs = search needs
 
 returns : tie.Need-returns
-returns c = answered _ (c .before .before .before .is-good .ensures .0) _ _ (c .before .before .if1 .taken) (c .operated .ensures ∙ ap ofOperated (c .before .transpose .ensures .0))
+unfolding run
+returns c =
+    let tested = c .before .before .before .is-good .ensures .0 in
+    let good = c .before .before .if1 .taken in
+    answered _ (transpose _ _) answerOf tested good (c .operated .ensures ∙ ap answerOf (c .before .transpose .ensures .0))
 
 foreign-requires : tie.Need-foreign-requires
 foreign-requires c κs = search needs
 
 returns-2 : tie.Need-returns-2
-returns-2 c = turned-away _ (c .before .before .is-good .ensures .0) _ _ (c .before .if1 .left) (c .foreign .ensures)
+returns-2 c = turned-away _ (transpose _ _) answerOf (c .before .before .is-good .ensures .0) (c .before .if1 .left) (c .foreign .ensures)
 
 pub tnb-transpose-spec : {M : Type 1} → statement M
 tnb-transpose-spec =

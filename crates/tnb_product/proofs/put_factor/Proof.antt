@@ -33,8 +33,12 @@ same-length c = search needs
 returns : tie.Need-returns
 unfolding factorLine
 returns c =
-    puts-behind (c .before .before .before .before .before .before .before .before .before .before .before .before .before .before .before .before .before .before .before .before .put-whole .ensures) (puts-behind {a = ascii " "} (c .before .before .before .before .before .before .before .before .before .before .before .before .before .before .before .put .ensures)
-    (puts-behind (c .before .before .before .before .before .before .before .before .before .before .before .put-whole2 .ensures) (puts-behind {b = ascii "\n"} (c .before .before .before .before .before .before .before .put-factor .ensures) (c .before .before .put2 .ensures))))
+    let factor = c .before .before .before .before .before .before .before in
+    let column = factor .before .before .before .before in
+    let space = column .before .before .before .before in
+    let row = space .before .before .before .before .before in
+    puts-behind (row .put-whole .ensures) (puts-behind {a = ascii " "} (space .put .ensures)
+    (puts-behind (column .put-whole2 .ensures) (puts-behind {b = ascii "\n"} (factor .put-factor .ensures) (c .before .before .put2 .ensures))))
 
 pub put-factor-spec : {M : Type 1} → statement M
 put-factor-spec =

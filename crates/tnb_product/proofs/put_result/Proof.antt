@@ -27,8 +27,11 @@ same-length c = search needs
 returns : tie.Need-returns
 unfolding resultText
 returns c =
-    let rows = c .before .before .before .before .before .before .before .before .before .before .before .before .before .rows-at .ensures in
-    puts-behind (rw rows at (c .before .before .before .before .before .before .before .before .before .before .before .put-whole .ensures)) (puts-behind {a = ascii "\n"} (c .before .before .before .before .before .before .put .ensures) (rw rows at (c .before .before .put-factors .ensures)))
+    let next = c .before .before .before .before .before .before in
+    let end = next .before .before .before .before .before in
+    let rows = end .before .before .rows-at .ensures in
+    puts-behind (rw rows at (end .put-whole .ensures))
+    (puts-behind {a = ascii "\n"} (next .put .ensures) (rw rows at (c .before .before .put-factors .ensures)))
 
 pub put-result-spec : {M : Type 1} → statement M
 put-result-spec =

@@ -30,7 +30,9 @@ loop-less : tie.Need-loop-less Inv-loop μ-loop
 loop-less c = search needs
 
 loop-again : tie.Need-loop-again Inv-loop μ-loop
-loop-again c = turns-more (c .before .before .before .before .before .before .loop .inv) (omega arith) (rw (c .before .before .before .factor-at .ensures) at (c .before .before .put-factor .ensures))
+loop-again c =
+    let factor = rw (c .before .before .before .factor-at .ensures) at (c .before .before .put-factor .ensures) in
+    turns-more (c .before .before .before .before .before .before .loop .inv) (omega arith) factor
 
 same-length : tie.Need-same-length Inv-loop μ-loop
 same-length c = c .before .loop .inv .left .kept

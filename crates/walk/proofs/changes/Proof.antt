@@ -1,4 +1,4 @@
--- `changes` meets its contract.
+-- `changes` meets its contract: by the table of counts, where fewer than two rows leave none for the others.
 use borrow.Author.Needs.{needs}
 use mathlib.Core.Path.{_≡_, sym, ap, _∙_}
 use Prim.Native.Nat.{ℕ, _-_, _^_}

@@ -1,4 +1,4 @@
--- `entry_row` meets its contract.
+-- `entry_row` meets its contract: the row counted from the other end, or itself, by the one test.
 use mathlib.Core.Path.{sym, ap}
 use mathlib.Core.Bool.{Bool, cond}
 use Prim.Native.Nat.{_-_}

@@ -1,4 +1,4 @@
--- `scale` meets its contract.
+-- `scale` meets its contract: a quotient or a product, by the one test.
 use borrow.Author.Needs.{needs}
 use mathlib.Core.Path.{sym, ap, _∙_}
 use mathlib.Core.Bool.{Bool}

@@ -5,14 +5,14 @@ use borrow.Author.Needs.{needs}
 use mathlib.Core.Path.{_≡_, sym, ap, _∙_}
 use lib.ListN.{length}
 use Rattle.number.specs.declared.Number.{Number}
-use Rattle.writer.specs.Encoding.{factorBytes, factorsOf}
-use Rattle.number.proofs.Arrays.{length-mapped}
+use Rattle.writer.specs.Encoding.{factorBytes, squareFactors}
+use Rattle.arrays.proofs.Structs.{length-mapped}
 use Rattle.writer.proofs.Writing.{Counted, counted-none, counted-more, counted-all, encoding-length, factors-length, factors-at}
 use Rattle.writer.proofs.matrix_length.Statement.{statement}
 use Rattle.writer.proofs.matrix_length.Tie as tie
 
 abbrev Inv-loop : tie.InvT-loop
-Inv-loop n numbers count total₀ k₀ total k = Counted (factorsOf n numbers) total₀ total k × (total ≤ 10 + 20 * k)
+Inv-loop n numbers count total₀ k₀ total k = Counted (squareFactors n numbers) total₀ total k × (total ≤ 10 + 20 * k)
 
 abbrev μ-loop : tie.MeasureT-loop
 μ-loop n numbers count total₀ k₀ total k = count - k

@@ -8,8 +8,8 @@ use lib.ListN.{length, length-append, length-drop}
 use lib.Seq.{sets, length-sets}
 use denote.Ref.{now}
 use Rattle.group.specs.Group.{bytesOf}
-use Rattle.writer.specs.Encoding.{codeOf, partOf, factorBytes}
-use Rattle.writer.proofs.Parts.{part-is}
+use Rattle.writer.specs.Encoding.{exponentCode, partOf, factorBytes}
+use Rattle.arrays.proofs.Runs.{part-is}
 use Rattle.writer.proofs.Writing.{factor-bytes-zero, factor-bytes-some, sets-two}
 use Rattle.writer.proofs.put_factor.Statement.{statement}
 use Rattle.writer.proofs.put_factor.Tie as tie
@@ -20,7 +20,7 @@ module _ (c : tie.Else1) where
   out = now (c .before .before .before .args .out)
 
   abbrev code : List ℕ
-  code = bytesOf (codeOf (c .before .before .before .args .a))
+  code = bytesOf (exponentCode (c .before .before .before .args .a))
 
   abbrev mantissa : List ℕ
   mantissa = bytesOf (partOf (c .before .before .before .args .a))
@@ -54,7 +54,9 @@ same-length c = search needs
 returns : tie.Need-returns
 returns c =
     let e = sym (factor-bytes-zero _ (c .before .before .before .before .if1 .taken)) in
-    (c .before .before .put .ensures .0 ∙ ap length e, c .before .before .put .ensures .1 ∙ ap (sets (now (c .before .before .before .before .before .before .before .args .out)) 0) e)
+    let put = c .before .before .put in
+    let a = c .before .before .before .before .before .before .before .args in
+    (put .ensures .0 ∙ ap length e, put .ensures .1 ∙ ap (sets (now (a .out)) 0) e)
 
 minus-requires : tie.Need-minus-requires
 minus-requires c κs = search needs
@@ -82,7 +84,8 @@ put-requires-3 c κs =
 
 add-result : tie.Need-add-result
 add-result c =
-    omega (arith, left (c .before .before .before .before .before .before .before), c .before .before .put3 .ensures .0 ∙ ap (λ (v : ℕ). length (bytesOf v)) (c .before .before .before .minus2 .ensures))
+    let p = c .before .before in
+    omega (arith, left (p .before .before .before .before .before), p .put3 .ensures .0 ∙ ap (λ (v : ℕ). length (bytesOf v)) (p .before .minus2 .ensures))
 
 same-length-2 : tie.Need-same-length-2
 same-length-2 c = search needs

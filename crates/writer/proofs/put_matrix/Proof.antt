@@ -9,15 +9,16 @@ use lib.Seq.{length-sets}
 use denote.Ref.{now}
 use Rattle.group.specs.Group.{bytesOf}
 use Rattle.number.specs.declared.Number.{Number}
-use Rattle.writer.specs.Encoding.{factorBytes, factorsOf}
-use Rattle.writer.proofs.Parts.{part-is}
-use Rattle.number.proofs.Arrays.{length-mapped}
-use Rattle.writer.proofs.Writing.{WrittenSoFar, written-none, written-more, written-room, written-all, counted-all, encoding-length, encoding-sets, factors-length, factors-at, unread}
+use Rattle.writer.specs.Encoding.{factorBytes, squareFactors}
+use Rattle.arrays.proofs.Runs.{part-is}
+use Rattle.arrays.proofs.Structs.{length-mapped}
+use Rattle.writer.proofs.Writing.{WrittenSoFar, written-none, written-more, written-room, written-all, counted-all, unread}
+use Rattle.writer.proofs.Writing.{encoding-length, encoding-sets, factors-length, factors-at}
 use Rattle.writer.proofs.put_matrix.Statement.{statement}
 use Rattle.writer.proofs.put_matrix.Tie as tie
 
 abbrev Inv-loop : tie.InvT-loop
-Inv-loop n out₀ numbers count at₀ k₀ out at k = WrittenSoFar (factorsOf n numbers) out₀ at₀ out at k
+Inv-loop n out₀ numbers count at₀ k₀ out at k = WrittenSoFar (squareFactors n numbers) out₀ at₀ out at k
 
 abbrev μ-loop : tie.MeasureT-loop
 μ-loop n out₀ numbers count at₀ k₀ out at k = count - k
@@ -26,7 +27,9 @@ long : (c : tie.Start Inv-loop μ-loop) → length (c .args .t1) ≡ 64
 long c = search (needs, length-mapped)
 
 kept : (c : tie.After-put Inv-loop μ-loop) → length (c .put .last .0) ≡ length (now (c .before .before .before .before .args .out))
-kept c = ap length (c .put .ensures .1) ∙ length-sets (now (c .before .before .before .before .args .out)) 0 (bytesOf (c .before .before .before .before .args .n))
+kept c =
+    let a = c .before .before .before .before .args in
+    ap length (c .put .ensures .1) ∙ length-sets (now (a .out)) 0 (bytesOf (a .n))
 
 -- the factor that is read, and room for it
 module _ (c : tie.After-a Inv-loop μ-loop) where
@@ -37,7 +40,7 @@ module _ (c : tie.After-a Inv-loop μ-loop) where
   start = c .before .before .before .before .before .before .before .before .before
 
   abbrev factors : List Number
-  factors = factorsOf (start .args .n) (start .args .t1)
+  factors = squareFactors (start .args .n) (start .args .t1)
 
   more : head .loop .k < length factors
   more = omega (arith, factors-length (start .args .n) (start .args .t1) (long start))
@@ -56,7 +59,7 @@ factor-count-requires c κs = search needs
 put-requires : tie.Need-put-requires Inv-loop μ-loop
 put-requires c κs =
     let a = c .before .before .before in
-    omega (arith, encoding-length (a .args .n) (factorsOf (a .args .n) (a .args .t1)), a .pre)
+    omega (arith, encoding-length (a .args .n) (squareFactors (a .args .n) (a .args .t1)), a .pre)
 
 loop-holds : tie.Need-loop-holds Inv-loop μ-loop
 loop-holds c = written-none _ _ _
@@ -104,10 +107,11 @@ returns : tie.Need-returns Inv-loop μ-loop
 returns c =
     let a = c .before .before .before .before .before .before .before .before in
     let p = c .before .before .before .before .put in
-    let f = factorsOf (a .args .n) (a .args .t1) in
+    let f = squareFactors (a .args .n) (a .args .t1) in
     let h = factors-length (a .args .n) (a .args .t1) (long a) in (
       counted-all f (c .before .loop .inv .counted) (omega arith) ∙ rw (encoding-length, p .ensures .0),
-      written-all f (c .before .loop .inv) (omega arith) ∙ encoding-sets (a .args .n) f (now (a .args .out)) (p .last .0) (p .result) (p .ensures .0) (p .ensures .1),
+      written-all f (c .before .loop .inv) (omega arith)
+          ∙ encoding-sets (a .args .n) f (now (a .args .out)) (p .last .0) (p .result) (p .ensures .0) (p .ensures .1),
     )
 
 pub put-matrix-spec : {M : Type 1} → statement M

@@ -34,9 +34,14 @@ same-length c = search needs
 returns : tie.Need-returns
 unfolding itemText
 returns c =
-    let f = c .before .before .before .before .before .before .before .before .before .before .before .before .before .before .before .before .before .before .before .before .before .before .before .fits in
-    puts-behind (rw (toZ-ofZ (f .sign)) at (c .before .before .before .before .before .before .before .before .before .before .before .before .before .before .before .before .before .before .before .before .put-integer .ensures)) (puts-behind {a = ascii ","} (c .before .before .before .before .before .before .before .before .before .before .before .before .before .before .before .put .ensures)
-    (puts-behind (rw (toZ-ofZ (f .mantissa)) at (c .before .before .before .before .before .before .before .before .before .before .before .put-integer2 .ensures)) (puts-behind {a = ascii ","} (c .before .before .before .before .before .before .put2 .ensures) (rw (toZ-ofZ (f .exponent)) at (c .before .before .put-integer3 .ensures)))))
+    let third = c .before .before .before .before .before .before in
+    let end = third .before .before .before .before .before in
+    let second = end .before .before .before .before in
+    let comma = second .before .before .before .before .before in
+    let f = comma .before .before .before .fits in
+    puts-behind (rw (toZ-ofZ (f .sign)) at (comma .put-integer .ensures)) (puts-behind {a = ascii ","} (second .put .ensures)
+    (puts-behind (rw (toZ-ofZ (f .mantissa)) at (end .put-integer2 .ensures)) (puts-behind {a = ascii ","} (third .put2 .ensures)
+    (rw (toZ-ofZ (f .exponent)) at (c .before .before .put-integer3 .ensures)))))
 
 pub put-item-spec : {M : Type 1} → statement M
 put-item-spec =

@@ -1,7 +1,7 @@
 -- `answers::put_item_at` meets its contract.
 use Prim.Native.Nat.{_+_}
 use denote.Ref.{now}
-use Rattle.lists.proofs.Wholes.{read-is}
+use Rattle.number.proofs.Integers.{read-is}
 use borrow.Author.Needs.{needs}
 use Rattle.answers.proofs.items.put_item_at.Statement.{statement}
 use Rattle.answers.proofs.items.put_item_at.Tie as tie
@@ -40,7 +40,11 @@ returns : tie.Need-returns
 returns c =
     let a = c .before .before .before .before .before .before .before .before .args in
     let z = now (a .list) in
-    rw (read-is z (a .k) (c .before .before .before .before .before .before .sign .given), read-is z (a .k + 1) (c .before .before .before .before .before .mantissa .given), read-is z (a .k + 2) (c .before .before .before .before .exponent .given)) at (c .before .before .put-item .ensures)
+    rw (
+      read-is z (a .k) (c .before .before .before .before .before .before .sign .given),
+      read-is z (a .k + 1) (c .before .before .before .before .before .mantissa .given),
+      read-is z (a .k + 2) (c .before .before .before .before .exponent .given),
+    ) at (c .before .before .put-item .ensures)
 
 pub put-item-at-spec : {M : Type 1} → statement M
 put-item-at-spec =

@@ -20,7 +20,9 @@ same-length : tie.Need-same-length
 same-length c = search needs
 
 returns : tie.Need-returns
-returns c = rw (items-none (now (c .before .before .before .before .before .before .before .args .list)) (c .before .before .before .before .before .if1 .taken)) (c .before .before .put .ensures)
+returns c =
+    rw (items-none (now (c .before .before .before .before .before .before .before .args .list)) (c .before .before .before .before .before .if1 .taken))
+    (c .before .before .put .ensures)
 
 put-item-at-requires : tie.Need-put-item-at-requires
 put-item-at-requires c κs = search needs

@@ -18,7 +18,9 @@ same-length : tie.Need-same-length
 same-length c = search needs
 
 returns : tie.Need-returns
-returns c = rw (place-empty _ _ (c .before .before .before .before .before .before .rows-at .ensures) (c .before .before .before .before .before .if1 .taken)) (c .before .before .put .ensures)
+returns c =
+    rw (place-empty _ _ (c .before .before .before .before .before .before .rows-at .ensures) (c .before .before .before .before .before .if1 .taken))
+    (c .before .before .put .ensures)
 
 slice-aggregate-put-count : tie.Need-slice-aggregate-put-count
 slice-aggregate-put-count c = search needs
@@ -34,7 +36,8 @@ same-length-2 c = search needs
 
 returns-2 : tie.Need-returns-2
 returns-2 c =
-    let e = place-held _ _ (c .before .before .before .before .before .before .before .before .before .before .rows-at .ensures) (c .before .before .before .before .before .before .before .before .before .if1 .left) in
+    let e = place-held _ _ (c .before .before .before .before .before .before .before .before .before .before .rows-at .ensures)
+    (c .before .before .before .before .before .before .before .before .before .if1 .left) in
     rw e (puts-behind (c .before .before .before .before .before .before .put-count .ensures) (c .before .before .put-factors .ensures))
 
 pub put-place-spec : {M : Type 1} → statement M

@@ -1,15 +1,16 @@
 -- `answers::put_row` meets its contract. The loop's invariant: j of the n factors are put.
 use Prim.Native.Nat.{_-_}
+use mathlib.Core.List.{[]}
 use native.Mathlib.Omega.{arith}
-use Rattle.shelf.specs.Calls.{factorCall}
 use Rattle.answers.specs.Matrix.{factorText, rowText}
+use Rattle.answers.proofs.Reports.{puts-report}
 use Rattle.answers.proofs.Turns.{Turns, turns-none, turns-more, turns-end}
 use borrow.Author.Needs.{needs}
 use Rattle.answers.proofs.matrix.put_row.Statement.{statement}
 use Rattle.answers.proofs.matrix.put_row.Tie as tie
 
 abbrev Inv-loop : tie.InvT-loop
-Inv-loop out₀ at shelf place n i to₀ j₀ out to j = Turns (λ j′. factorText (factorCall shelf place i j′)) n out₀ at out to j
+Inv-loop out₀ at shelf place n i to₀ j₀ out to j = Turns (λ j′. factorText shelf place i j′) n out₀ at out to j
 
 abbrev μ-loop : tie.MeasureT-loop
 μ-loop out₀ at shelf place n i to₀ j₀ out to j = n - j
@@ -30,7 +31,9 @@ loop-less : tie.Need-loop-less Inv-loop μ-loop
 loop-less c = search needs
 
 loop-again : tie.Need-loop-again Inv-loop μ-loop
-loop-again c = turns-more (c .before .before .before .before .before .before .loop .inv) (omega arith) (rw (c .before .before .before .factor-at .ensures) at (c .before .before .put-factor .ensures))
+loop-again c =
+    let factor = puts-report [] (c .before .before .before .factor-at .ensures) (c .before .before .put-factor .ensures) in
+    turns-more (c .before .before .before .before .before .before .loop .inv) (omega arith) factor
 
 same-length : tie.Need-same-length Inv-loop μ-loop
 same-length c = c .before .loop .inv .left .kept

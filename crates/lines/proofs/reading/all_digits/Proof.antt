@@ -30,7 +30,9 @@ is-letter-requires : tie.Need-is-letter-requires Inv-loop μ-loop
 is-letter-requires c κs = search needs
 
 returns : tie.Need-returns Inv-loop μ-loop
-returns c = checked-other (c .before .before .before .before .before .before .loop .inv) (omega arith) (sym (c .before .before .before .is-numeral .ensures) ∙ not-true _ (c .before .before .if1 .taken)) (sym (c .before .is-letter .ensures) ∙ not-true _ (c .if2 .taken))
+returns c =
+    checked-other (c .before .before .before .before .before .before .loop .inv) (omega arith) (sym (c .before .before .before .is-numeral .ensures)
+    ∙ not-true _ (c .before .before .if1 .taken)) (sym (c .before .is-letter .ensures) ∙ not-true _ (c .if2 .taken))
 
 add-i : tie.Need-add-i Inv-loop μ-loop
 add-i c = search needs

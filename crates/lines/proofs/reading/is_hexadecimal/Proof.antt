@@ -18,7 +18,8 @@ returns-2 c = hexadecimal-one (now (c .before .before .before .before .args .s))
 
 returns-3 : tie.Need-returns-3
 returns-3 c =
-    sym (hexadecimal-pairs (now (c .before .before .before .before .args .s)) (c .before .before .if1 .left) (c .before .if2 .left) ∙ rw (eq-eqb _ _ (c .if3 .taken)))
+    sym (hexadecimal-pairs (now (c .before .before .before .before .args .s)) (c .before .before .if1 .left) (c .before .if2 .left)
+    ∙ rw (eq-eqb _ _ (c .if3 .taken)))
 
 all-digits-requires : tie.Need-all-digits-requires
 all-digits-requires c κs = search needs
@@ -26,7 +27,8 @@ all-digits-requires c κs = search needs
 returns-4 : tie.Need-returns-4
 returns-4 c =
     c .all-digits .ensures
-    ∙ sym (hexadecimal-pairs (now (c .before .before .before .before .before .args .s)) (c .before .before .before .if1 .left) (c .before .before .if2 .left) ∙ rw (ne-eqb _ _ (c .before .if3 .left)))
+    ∙ sym (hexadecimal-pairs (now (c .before .before .before .before .before .args .s)) (c .before .before .before .if1 .left) (c .before .before .if2 .left)
+    ∙ rw (ne-eqb _ _ (c .before .if3 .left)))
 
 pub is-hexadecimal-spec : {M : Type 1} → statement M
 is-hexadecimal-spec =

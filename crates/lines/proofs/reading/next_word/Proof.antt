@@ -28,7 +28,12 @@ add-result-2 : tie.Need-add-result-2
 add-result-2 c = search needs
 
 returns-2 : tie.Need-returns-2
-returns-2 c = rw (le-ltb _ _ (c .before .before .if1 .left), c .before2 .ensures .0, part-from (now (c .before .before .before .before .args .s)) (c .before .before .before .before .args .at))
+returns-2 c =
+    rw (
+      le-ltb _ _ (c .before .before .if1 .left),
+      c .before2 .ensures .0,
+      part-from (now (c .before .before .before .before .args .s)) (c .before .before .before .before .args .at),
+    )
 
 pub next-word-spec : {M : Type 1} → statement M
 next-word-spec =

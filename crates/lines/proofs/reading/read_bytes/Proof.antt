@@ -27,7 +27,8 @@ same-length c = search needs
 
 returns-3 : tie.Need-returns-3
 returns-3 c =
-    let e = sym (c .before .before .before .before .before .before .is-hexadecimal .ensures) ∙ not-false _ (c .before .before .before .before .before .if1 .left) in
+    let e =
+    sym (c .before .before .before .before .before .before .is-hexadecimal .ensures) ∙ not-false _ (c .before .before .before .before .before .if1 .left) in
     let f = le-ltb _ _ (c .before .before .before .before .if2 .left) in
     (simp (e, f), c .before .before .put-pairs .ensures ∙ simp (e, f))
 

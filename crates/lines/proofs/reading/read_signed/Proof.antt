@@ -46,8 +46,12 @@ plus-requires c κs = search needs
 
 returns-3 : tie.Need-returns-3
 returns-3 c =
-    let e = c .before .read-whole2 .ensures in
-    (c .plus .ensures ∙ ap plus (e .0) ∙ sym (signed-plus (now (c .before .before .before .before .before .before .args .s)) (c .before .before .before .before .if1 .left) (c .before .before .if2 .left)), rw (c .plus .ensures) (plus-fits (c .before .read-whole2 .result) (e .1)))
+    let e = c .before .read-whole2 .ensures in (
+      c .plus .ensures ∙ ap plus (e .0)
+          ∙ sym (signed-plus (now (c .before .before .before .before .before .before .args .s)) (c .before .before .before .before .if1 .left)
+          (c .before .before .if2 .left)),
+      rw (c .plus .ensures) (plus-fits (c .before .read-whole2 .result) (e .1)),
+    )
 
 pub read-signed-spec : {M : Type 1} → statement M
 read-signed-spec =

@@ -40,7 +40,8 @@ is-numeral-requires : tie.Need-is-numeral-requires Inv-loop μ-loop
 is-numeral-requires c κs = search needs
 
 returns-2 : tie.Need-returns-2 Inv-loop μ-loop
-returns-2 c = (spelled-other (c .before .before .before .before .loop .inv) (omega arith) (sym (c .before .is-numeral .ensures) ∙ not-true _ (c .if2 .taken)), tt)
+returns-2 c =
+    (spelled-other (c .before .before .before .before .loop .inv) (omega arith) (sym (c .before .is-numeral .ensures) ∙ not-true _ (c .if2 .taken)), tt)
 
 sub-wide : tie.Need-sub-wide Inv-loop μ-loop
 sub-wide c = numeral c .0
@@ -52,7 +53,8 @@ returns-3 : tie.Need-returns-3 Inv-loop μ-loop
 returns-3 c = (spelled-large (c .before .before .before .before .before .before .loop .inv) (omega arith) (omega (arith, c .before .wide .ensures)), tt)
 
 returns-4 : tie.Need-returns-4 Inv-loop μ-loop
-returns-4 c = (spelled-large (c .before .before .before .before .before .before .before .loop .inv) (omega arith) (omega (arith, c .before .before .wide .ensures)), tt)
+returns-4 c =
+    (spelled-large (c .before .before .before .before .before .before .before .loop .inv) (omega arith) (omega (arith, c .before .before .wide .ensures)), tt)
 
 mul-value : tie.Need-mul-value Inv-loop μ-loop
 mul-value c = omega arith
@@ -67,7 +69,10 @@ loop-less : tie.Need-loop-less Inv-loop μ-loop
 loop-less c = omega arith
 
 loop-again : tie.Need-loop-again Inv-loop μ-loop
-loop-again c = rw (c .before .before .wide .ensures) (spelled-more (c .before .before .before .before .before .before .before .loop .inv) (omega arith) (is (c .before .before .before)) (omega (arith, c .before .before .wide .ensures)))
+loop-again c =
+    rw (c .before .before .wide .ensures)
+    (spelled-more (c .before .before .before .before .before .before .before .loop .inv) (omega arith) (is (c .before .before .before))
+    (omega (arith, c .before .before .wide .ensures)))
 
 returns-5 : tie.Need-returns-5 Inv-loop μ-loop
 returns-5 c = (spelled-end (c .before .loop .inv) (c .loop-test .left), c .before .loop .inv .small)

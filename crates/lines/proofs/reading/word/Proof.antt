@@ -39,7 +39,8 @@ part-result-end-2 : tie.Need-part-result-end-2
 part-result-end-2 c = search needs
 
 returns-2 : tie.Need-returns-2
-returns-2 c = word-is (now (c .before .before .before .before .before .args .s)) (c .before .before .before .before .before .args .at) _ (c .before .before2 .ensures .0)
+returns-2 c =
+    word-is (now (c .before .before .before .before .before .args .s)) (c .before .before .before .before .before .args .at) _ (c .before .before2 .ensures .0)
 
 pub word-spec : {M : Type 1} → statement M
 word-spec =

@@ -16,7 +16,8 @@ same-length c = search needs
 
 returns : tie.Need-returns
 returns c =
-    let e = bytes-none (now (c .before .before .before .before .before .before .before .before .args .s)) (c .before .before .before .before .before .if1 .taken) in
+    let e =
+    bytes-none (now (c .before .before .before .before .before .before .before .before .args .s)) (c .before .before .before .before .before .if1 .taken) in
     rw e (c .before .before .put .ensures)
 
 put-pairs-requires : tie.Need-put-pairs-requires

@@ -18,7 +18,9 @@ same-length : tie.Need-same-length
 same-length c = search needs
 
 returns : tie.Need-returns
-returns c = rw (c .before .before .before .before .before .before .before .before .before .if1 .taken) (puts-behind {a = ascii "-"} (c .before .before .before .before .before .before .put .ensures) (c .before .before .put-whole .ensures))
+returns c =
+    rw (c .before .before .before .before .before .before .before .before .before .if1 .taken)
+    (puts-behind {a = ascii "-"} (c .before .before .before .before .before .before .put .ensures) (c .before .before .put-whole .ensures))
 
 put-whole-requires-2 : tie.Need-put-whole-requires-2
 put-whole-requires-2 c κs = search needs

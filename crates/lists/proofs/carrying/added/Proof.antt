@@ -10,7 +10,8 @@ use Rattle.number.specs.declared.signed.Signed.{Signed}
 use Rattle.number.proofs.Reach.{ranged-more, ranged-stored}
 use Rattle.number.proofs.SignedReach.{signed-ranged-more, signed-ranged-plain}
 use Rattle.lists.specs.Lists.{vectorOf}
-use Rattle.lists.proofs.Fronts.{unset, read-any}
+use Rattle.arrays.proofs.Filled.{read-any}
+use Rattle.lists.proofs.Fronts.{unset}
 use Rattle.lists.proofs.LetterReach.{product-reach}
 use Rattle.lists.proofs.carrying.added.Statement.{statement}
 use Rattle.lists.proofs.carrying.added.Tie as tie
@@ -58,7 +59,8 @@ add-requires : tie.Need-add-requires
 add-requires c κs =
     let b = c .before .before .before in (
       subst (SignedRanged reach) (sym (to-is b)) (signed-ranged-more (omega arith) (b .pre .1 .0)),
-      subst (SignedRanged reach) (sym (product-is c)) (signed-ranged-more (omega arith) (product-reach (omega arith) (b .pre .1 .1) (signed-ranged-plain (ranged-stored (b .pre .1 .2))))),
+      subst (SignedRanged reach) (sym (product-is c))
+          (signed-ranged-more (omega arith) (product-reach (omega arith) (b .pre .1 .1) (signed-ranged-plain (ranged-stored (b .pre .1 .2))))),
     )
 
 sub-u : tie.Need-sub-u

@@ -10,7 +10,7 @@ use Rattle.number.specs.declared.Number.{Number}
 use Rattle.number.specs.declared.signed.Signed.{Signed}
 use Rattle.number.proofs.Reach.{ranged-more, ranged-stored}
 use Rattle.number.proofs.SignedReach.{signed-ranged-more}
-use Rattle.walk.specs.Table.{factorsOf, absent}
+use Rattle.table.specs.Table.{factorsOf, absent}
 use Rattle.lists.specs.Carrying.{Scaled}
 use Rattle.lists.proofs.Fronts.{unset}
 use Rattle.lists.proofs.Scaled.{entry-is, scaled-none, scaled-old, scaled-next}
@@ -55,8 +55,10 @@ times-requires c κs =
     let b = c .before .before .before in
     let h : b .loop .k < b .before .args .n = c .before .before .loop-test .taken in
     let p = b .before .pre in (
-      subst (SignedRanged reach) (sym (scaled-old (b .loop .inv .1) (omega arith) unset)) (signed-ranged-more (omega arith) (p .1 .0 .ranged (b .loop .k + 1) (omega arith, omega arith))),
-      subst (Ranged reach) (sym (entry c)) (ranged-more (omega arith) (ranged-stored (p .1 .1 (b .loop .k + 1) (b .loop .k + 1) (omega arith, omega arith) (omega arith, omega arith)))),
+      subst (SignedRanged reach) (sym (scaled-old (b .loop .inv .1) (omega arith) unset))
+          (signed-ranged-more (omega arith) (p .1 .0 .ranged (b .loop .k + 1) (omega arith, omega arith))),
+      subst (Ranged reach) (sym (entry c))
+          (ranged-more (omega arith) (ranged-stored (p .1 .1 (b .loop .k + 1) (b .loop .k + 1) (omega arith, omega arith) (omega arith, omega arith)))),
     )
 
 mul-u : tie.Need-mul-u Inv-loop μ-loop
@@ -77,7 +79,8 @@ loop-again c =
     let h : b .loop .k < b .before .args .n = c .before .before .before .loop-test .taken in (
       omega arith,
       scaled-next (b .loop .inv .1) (omega (arith, b .before .pre .0)) (c .times .result)
-          (c .times .ensures ∙ ap₂ (λ (x : Signed) (w : Number). signedProduct x (plain w)) (scaled-old (b .loop .inv .1) (omega (arith, b .before .pre .0)) unset) (entry (c .before))),
+          (c .times .ensures ∙ ap₂ (λ (x : Signed) (w : Number). signedProduct x (plain w))
+          (scaled-old (b .loop .inv .1) (omega (arith, b .before .pre .0)) unset) (entry (c .before))),
     )
 
 returns : tie.Need-returns Inv-loop μ-loop

@@ -7,10 +7,10 @@ use lib.ListN.{length, getD}
 use Rattle.number.specs.Number.{zeroNumber, Stored}
 use Rattle.number.specs.Signed.{SignedRanged}
 use Rattle.walk.specs.Letters.{middle}
-use Rattle.walk.specs.Table.{factorsOf, absent}
+use Rattle.table.specs.Table.{factorsOf, absent}
 use Rattle.walk.specs.declared.Way.the-variants.{Plain}
 use Rattle.walk.proofs.Acts.{letter-stored}
-use Rattle.walk.proofs.Lent.{read-default}
+use Rattle.table.proofs.Table.{read-default}
 use Rattle.lists.specs.Lists.{vectorOf}
 use Rattle.lists.specs.Carrying.{Carries, letterOf, workingReach}
 use Rattle.lists.proofs.Spelled.{carries-moved, carries-scaled}
@@ -28,7 +28,8 @@ returns c =
     let b = c .before .before .before in
     let a = b .args in
     let p = b .pre .0 in
-    carries-scaled (a .t2) (a .n) (p .0) (p .1) (a .t) (p .2) (c .before .if1 .taken ∙ c .before .before .middle .ensures .0) (a .v) (c .diagonal .result) (c .diagonal .ensures)
+    carries-scaled (a .t2) (a .n) (p .0) (p .1) (a .t) (p .2) (c .before .if1 .taken ∙ c .before .before .middle .ensures .0) (a .v) (c .diagonal .result)
+    (c .diagonal .ensures)
 
 move-at-requires : tie.Need-move-at-requires
 move-at-requires c κs = search needs
@@ -77,7 +78,8 @@ returns-2 c =
     let m = c .before .before .move-at in
     let p = b .pre .0 in
     subst (Carries (a .n) (letterOf (a .n) (factorsOf (a .t2)) (a .t) ∷ []) (a .v)) (sym (c .added .ensures))
-    (carries-moved (a .t2) (a .n) (p .0) (p .1) (a .t) (p .2) (a .v) (b .pre .1 .0 .eight) (apart (c .before .before .before)) (m .result) (m .ensures .0) (m .ensures .1) _ (factor (c .before)))
+    (carries-moved (a .t2) (a .n) (p .0) (p .1) (a .t) (p .2) (a .v) (b .pre .1 .0 .eight) (apart (c .before .before .before)) (m .result) (m .ensures .0)
+    (m .ensures .1) _ (factor (c .before)))
 
 pub letter-spec : {M : Type 1} → statement M
 letter-spec =

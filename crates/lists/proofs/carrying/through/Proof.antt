@@ -7,12 +7,12 @@ use lib.ListN.{drop}
 use Rattle.number.specs.Signed.{zeroSigned}
 use Rattle.words.specs.Word.{D}
 use Rattle.walk.specs.Letters.{middle}
-use Rattle.walk.specs.Table.{factorsOf}
+use Rattle.table.specs.Table.{factorsOf}
 use Rattle.lists.specs.Lists.{signedWord}
-use Rattle.lists.specs.Carrying.{Carries, Working, letterOf, workingReach}
-use Rattle.lists.proofs.Vectors.{working-more}
+use Rattle.lists.specs.Carrying.{Carries, ItemsRanged, letterOf, workingReach}
+use Rattle.lists.proofs.Vectors.{items-ranged-more}
 use Rattle.lists.proofs.LetterReach.{stored-letters, word-reach}
-use Rattle.lists.proofs.Carried.{carries-start, carries-letter, carries-working}
+use Rattle.lists.proofs.Carried.{carries-start, carries-letter, carries-ranged}
 use Rattle.lists.proofs.Spelled.{signed-length}
 use Rattle.lists.proofs.FirstItems.{carries-list}
 use Rattle.lists.proofs.carrying.through.Statement.{statement}
@@ -48,19 +48,20 @@ sub-t : tie.Need-sub-t Inv-loop μ-loop
 sub-t c = search needs
 
 -- how far the exponents are
-held : (c : tie.At-loop Inv-loop μ-loop) → Working workingReach (c .before .before .args .n) (c .loop .u)
+held : (c : tie.At-loop Inv-loop μ-loop) → ItemsRanged workingReach (c .before .before .args .n) (c .loop .u)
 held c =
     let a = c .before .before .args in
     let p = c .before .before .pre in
     let f = word-reach (a .n) (factorsOf (a .b)) (p .0) (p .1) in
-    working-more (omega arith)
-    (carries-working (a .n) (signedWord (a .n) (factorsOf (a .b))) (stored-letters (a .n) (factorsOf (a .b)) (p .3)) (c .loop .t) 1000 (omega arith) (p .2) (c .loop .inv .1))
+    items-ranged-more (omega arith)
+    (carries-ranged (a .n) (signedWord (a .n) (factorsOf (a .b))) (stored-letters (a .n) (factorsOf (a .b)) (p .3))
+    (c .loop .t) 1000 (omega arith) (p .2) (c .loop .inv .1))
 
 letter-requires : tie.Need-letter-requires Inv-loop μ-loop
 letter-requires c κs =
     let b = c .before in
     let p = b .before .before .pre in
-    ((p .0, p .1, omega (arith, b .loop .inv .0, c .loop-test .taken)), (working-more (omega arith) (held b), p .3))
+    ((p .0, p .1, omega (arith, b .loop .inv .0, c .loop-test .taken)), (items-ranged-more (omega arith) (held b), p .3))
 
 loop-less : tie.Need-loop-less Inv-loop μ-loop
 loop-less c = search needs
@@ -88,7 +89,7 @@ returns c =
     let e : b .loop .t ≡ 0 = omega (arith, c .loop-test .left) in (
       carries-list (factorsOf (a .b)) (a .v) (b .loop .u) (p .1) (stored-letters (a .n) (factorsOf (a .b)) (p .3))
           (subst (λ (k : ℕ). Carries (a .n) (drop k (signedWord (a .n) (factorsOf (a .b)))) (a .v) (b .loop .u)) e (b .loop .inv .1)),
-      working-more (omega arith) (held b),
+      items-ranged-more (omega arith) (held b),
     )
 
 pub through-spec : {M : Type 1} → statement M

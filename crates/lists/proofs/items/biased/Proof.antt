@@ -6,8 +6,8 @@ use native.Mathlib.Omega.{arith}
 use lib.IntN.{natAbs}
 use mir.Facts.{toZ-ofZ}
 use Rattle.number.specs.Number.{bias}
-use Rattle.lists.specs.Items.{isNegative}
-use Rattle.lists.proofs.Wholes.{biased-negative, biased-plain}
+use Rattle.number.specs.Integer.{isNegative}
+use Rattle.number.proofs.Integers.{biased-negative, biased-plain}
 use Rattle.lists.proofs.items.biased.Statement.{statement}
 use Rattle.lists.proofs.items.biased.Tie as tie
 

@@ -2,7 +2,7 @@
 use borrow.Author.Needs.{needs}
 use Prim.Native.Nat.{_+_, _*_}
 use denote.Ref.{now}
-use Rattle.lists.proofs.Wholes.{read-is}
+use Rattle.number.proofs.Integers.{read-is}
 use Rattle.lists.proofs.items.item_at.Statement.{statement}
 use Rattle.lists.proofs.items.item_at.Tie as tie
 
@@ -46,7 +46,11 @@ returns : tie.Need-returns
 returns c =
     let a = c .before .before .before .before .args in
     let z = now (a .items) in
-    rw (read-is z (3 * a .k) (c .before .before .before .s .given), read-is z (3 * a .k + 1) (c .before .before .m .given), read-is z (3 * a .k + 2) (c .before .e .given)) at (c .item-of .ensures)
+    rw (
+      read-is z (3 * a .k) (c .before .before .before .s .given),
+      read-is z (3 * a .k + 1) (c .before .before .m .given),
+      read-is z (3 * a .k + 2) (c .before .e .given),
+    ) at (c .item-of .ensures)
 
 pub item-at-spec : {M : Type 1} → statement M
 item-at-spec =

@@ -5,8 +5,8 @@ use mathlib.Core.Bool.{true≢false}
 use native.Mathlib.Omega.{arith}
 use lib.IntN.{natAbs}
 use mir.Facts.{toZ-ofZ}
-use Rattle.lists.specs.Items.{isNegative, biased}
-use Rattle.lists.specs.declared.items.Item.the-variants.{Value}
+use Rattle.number.specs.Integer.{isNegative, biased}
+use Rattle.lists.specs.declared.items.ListItem.the-variants.{Value}
 use Rattle.lists.proofs.ItemForms.{Storable, item-zero, item-value, item-malformed}
 use Rattle.lists.proofs.items.item_of.Statement.{statement}
 use Rattle.lists.proofs.items.item_of.Tie as tie
@@ -41,7 +41,10 @@ returns : tie.Need-returns
 returns c =
     let p = parts (c .before .before .before .before) in
     ap Value (c .zero .ensures)
-    ∙ sym (item-zero _ _ _ (omega (arith, p .sign, c .before .before .before .if1 .taken)) (omega (arith, p .size, c .before .before .if2 .taken)) (omega (arith, p .far, c .before .if3 .taken)))
+    ∙ sym (item-zero _ _ _
+    (omega (arith, p .sign, c .before .before .before .if1 .taken))
+    (omega (arith, p .size, c .before .before .if2 .taken))
+    (omega (arith, p .far, c .before .if3 .taken)))
 
 returns-2 : tie.Need-returns-2
 returns-2 c =
@@ -67,22 +70,26 @@ mantissa-sign c = rw (toZ-ofZ (c .before .before .before .before .before .before
 returns-5 : tie.Need-returns-5
 returns-5 c =
     let p = parts (c .before .before .before .before) in
-    sym (item-malformed _ _ _ (λ i j k. omega (arith, p .sign, c .before .before .before .if1 .left)) (λ h. true≢false (sym (c .if5 .taken) ∙ mantissa-sign (c .before) ∙ h .plain)))
+    sym (item-malformed _ _ _ (λ i j k. omega (arith, p .sign, c .before .before .before .if1 .left))
+    (λ h. true≢false (sym (c .if5 .taken) ∙ mantissa-sign (c .before) ∙ h .plain)))
 
 returns-6 : tie.Need-returns-6
 returns-6 c =
     let p = parts (c .before .before .before .before .before) in
-    sym (item-malformed _ _ _ (λ i j k. omega (arith, p .sign, c .before .before .before .before .if1 .left)) (λ h. omega (arith, p .size, h .low, c .if6 .taken)))
+    sym (item-malformed _ _ _ (λ i j k. omega (arith, p .sign, c .before .before .before .before .if1 .left))
+    (λ h. omega (arith, p .size, h .low, c .if6 .taken)))
 
 returns-7 : tie.Need-returns-7
 returns-7 c =
     let p = parts (c .before .before .before .before .before .before) in
-    sym (item-malformed _ _ _ (λ i j k. omega (arith, p .sign, c .before .before .before .before .before .if1 .left)) (λ h. omega (arith, p .size, h .high, c .if7 .taken)))
+    sym (item-malformed _ _ _ (λ i j k. omega (arith, p .sign, c .before .before .before .before .before .if1 .left))
+    (λ h. omega (arith, p .size, h .high, c .if7 .taken)))
 
 returns-8 : tie.Need-returns-8
 returns-8 c =
     let p = parts (c .before .before .before .before .before .before .before) in
-    sym (item-malformed _ _ _ (λ i j k. omega (arith, p .sign, c .before .before .before .before .before .before .if1 .left)) (λ h. omega (arith, p .far, h .near, c .if8 .taken)))
+    sym (item-malformed _ _ _ (λ i j k. omega (arith, p .sign, c .before .before .before .before .before .before .if1 .left))
+    (λ h. omega (arith, p .far, h .near, c .if8 .taken)))
 
 biased-requires : tie.Need-biased-requires
 biased-requires c κs = search needs

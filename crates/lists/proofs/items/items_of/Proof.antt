@@ -8,13 +8,13 @@ use native.Mathlib.Omega.{arith}
 use denote.Ref.{now}
 use lib.ListN.{length, drop}
 use Rattle.number.specs.declared.signed.Signed.{Signed}
-use Rattle.lists.specs.Items.{blank, listOf, listedFrom}
+use Rattle.lists.specs.Items.{blankItems, listOf, listedFrom}
 use Rattle.lists.proofs.Reading.{listed-value, listed-malformed, listed-end}
 use Rattle.lists.proofs.items.items_of.Statement.{statement}
 use Rattle.lists.proofs.items.items_of.Tie as tie
 
 abbrev Inv-loop : tie.InvT-loop
-Inv-loop items n v₀ k₀ v k = (k ≤ n) × (listedFrom blank 0 (listOf items) ≡ listedFrom v k (listOf (drop (3 * k) items)))
+Inv-loop items n v₀ k₀ v k = (k ≤ n) × (listedFrom blankItems 0 (listOf items) ≡ listedFrom v k (listOf (drop (3 * k) items)))
 
 abbrev μ-loop : tie.MeasureT-loop
 μ-loop items n v₀ k₀ v k = n - k
@@ -64,15 +64,16 @@ loop-again : tie.Need-loop-again Inv-loop μ-loop
 loop-again c =
     let b = c .before .before .before .before .before in (
       omega (arith, c .before .before .before .before .loop-test .taken),
-      b .loop .inv .1 ∙ listed-value (now (b .before .before .args .items)) (b .loop .v) (b .loop .k) (c .before .item .given .0 .0) (more (c .before .before .before .before))
-          (sym (c .before .before .before .item-at .ensures) ∙ c .before .item .given .1),
+      b .loop .inv .1 ∙ listed-value (now (b .before .before .args .items)) (b .loop .v) (b .loop .k) (c .before .item .given .0 .0)
+          (more (c .before .before .before .before)) (sym (c .before .before .before .item-at .ensures) ∙ c .before .item .given .1),
     )
 
 returns-2 : tie.Need-returns-2 Inv-loop μ-loop
 returns-2 c =
     let b = c .before in
     let e : b .loop .k ≡ b .before .before .args .n = omega (arith, b .loop .inv .0, c .loop-test .left) in
-    sym (b .loop .inv .1 ∙ listed-end (now (b .before .before .args .items)) (b .loop .v) (b .loop .k) (omega (arith, b .before .before .pre .1, c .loop-test .left))
+    sym (b .loop .inv .1 ∙ listed-end (now (b .before .before .args .items)) (b .loop .v) (b .loop .k)
+    (omega (arith, b .before .before .pre .1, c .loop-test .left))
     ∙ ap (λ (n : ℕ). record { proper = true; count = n; items = b .loop .v }) e)
 
 pub items-of-spec : {M : Type 1} → statement M

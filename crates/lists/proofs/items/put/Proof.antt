@@ -3,7 +3,7 @@ use borrow.Author.Needs.{needs}
 use native.Mathlib.Omega.{arith}
 use denote.Ref.{now}
 use lib.ListN.{length-set}
-use Rattle.lists.proofs.Wholes.{held-is}
+use Rattle.number.proofs.Integers.{held-is}
 use Rattle.lists.proofs.ItemForms.{put-is}
 use Rattle.lists.proofs.items.put.Statement.{statement}
 use Rattle.lists.proofs.items.put.Tie as tie

@@ -2,7 +2,7 @@
 use borrow.Author.Tests.{eq-eqb, ne-eqb}
 use borrow.Author.Needs.{needs}
 use mathlib.Core.Path.{_∙_}
-use Rattle.lists.proofs.Wholes.{held-is}
+use Rattle.number.proofs.Integers.{held-is}
 use Rattle.lists.proofs.items.sign.Statement.{statement}
 use Rattle.lists.proofs.items.sign.Tie as tie
 

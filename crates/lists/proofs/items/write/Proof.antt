@@ -62,7 +62,8 @@ returns : tie.Need-returns Inv-loop μ-loop
 unfolding listNumbers
 returns c =
     let b = c .before in
-    sym (b .loop .inv .2 ∙ ap (λ (L : List Signed). sets (b .loop .out) (3 * b .loop .k) (listNumbers L)) (front-end (b .before .args .t1) (b .before .args .n) (b .loop .k) (c .loop-test .left)))
+    sym (b .loop .inv .2 ∙ ap (λ (L : List Signed). sets (b .loop .out) (3 * b .loop .k) (listNumbers L))
+    (front-end (b .before .args .t1) (b .before .args .n) (b .loop .k) (c .loop-test .left)))
 
 pub write-spec : {M : Type 1} → statement M
 write-spec =

@@ -1,4 +1,4 @@
--- `Number::in_range` meets its contract.
+-- `Number::in_range` meets its contract: its two tests are the definition's, the lower one with 1000 on the other side.
 use Prim.Native.Nat.{_+_}
 use native.Mathlib.Omega.{arith}
 use borrow.Author.Tests.{le-leb, lt-leb}

@@ -19,7 +19,8 @@ sub-requires c κs =
 returns : tie.Need-returns
 returns c =
     let b = c .before .before .before in
-    ap (λ (n : Number). record { negative = true; size = n }) (c .sub .ensures) ∙ sym (signed-difference-below (b .args .a) (b .args .b) (sym (c .before .before .below .ensures) ∙ c .before .if1 .taken))
+    ap (λ (n : Number). record { negative = true; size = n }) (c .sub .ensures)
+    ∙ sym (signed-difference-below (b .args .a) (b .args .b) (sym (c .before .before .below .ensures) ∙ c .before .if1 .taken))
 
 sub-requires-2 : tie.Need-sub-requires-2
 sub-requires-2 c κs =

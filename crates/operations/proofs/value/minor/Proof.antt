@@ -1,15 +1,10 @@
 -- `value::minor` meets its contract: the word of one plain step is that of the matrix.
-use mathlib.Core.Path.{sym, ap, subst, _∙_}
-use mathlib.Core.List.{List}
+use mathlib.Core.Path.{_∙_}
 use native.Mathlib.Omega.{arith}
-use Rattle.number.specs.Number.{rounded}
-use Rattle.number.specs.declared.Number.{Number}
-use Rattle.words.specs.RowSet.{ofMask}
-use Rattle.words.specs.Walk.{minor}
-use Rattle.words.specs.Operation.{Step, joinedWord}
-use Rattle.words.specs.Sources.{StoredSteps}
+use Rattle.words.specs.Operation.{joinedWord}
+use Rattle.walk.specs.Steps.{stepOf}
 use Rattle.walk.specs.declared.Way.the-variants.{Plain}
-use Rattle.walk.proofs.Steps.{one-step, one-spelled}
+use Rattle.operations.proofs.Made.{made-none, made-ready, made-next, made-asked, made-minor}
 use borrow.Author.Needs.{needs}
 use Rattle.operations.proofs.value.minor.Statement.{statement}
 use Rattle.operations.proofs.value.minor.Tie as tie
@@ -17,34 +12,33 @@ use Rattle.operations.proofs.value.minor.Tie as tie
 tables-requires : tie.Need-tables-requires
 tables-requires c κs = search needs
 
-spell-requires : tie.Need-spell-requires
-spell-requires c κs = search needs
+no-steps-requires : tie.Need-no-steps-requires
+no-steps-requires c κs = search needs
 
-put-factors-requires : tie.Need-put-factors-requires
-put-factors-requires c κs = search needs
+put-step-requires : tie.Need-put-step-requires
+put-step-requires c κs =
+    let empty = c .before .before in
+    let p = empty .before .before .pre .0 in
+    made-ready (made-none (empty .no-steps .ensures)) (p .0) (p .1) (omega arith)
 
 minor-requires : tie.Need-minor-requires
 minor-requires c κs =
     let put = c .before .before .before in
-    let spelled = put .before .before in
-    let made = spelled .before .before in
-    let b = made .before in
-    let n = b .args .n in
-    let p = b .pre .0 in
-    let e = one-step Plain n _ (put .put-factors .ensures .0) in (
-      (p .0, p .1, omega arith),
-      (b .pre .1, (subst (StoredSteps n) (sym e) (p .2, tt), (made .tables .ensures, one-spelled Plain n (spelled .spell .ensures .0)))),
-    )
+    let empty = put .before .before .before in
+    let lent = empty .before in
+    let begin = lent .before in
+    let p = begin .pre .0 in
+    let made = made-next (stepOf Plain (begin .args .factors)) (made-none (empty .no-steps .ensures)) (put .put-step .ensures) in
+    made-asked made (begin .args .i) (begin .args .j) (p .0) (p .1) (omega arith) (begin .pre .1) (p .2, tt) (lent .tables .ensures)
 
 returns : tie.Need-returns
 unfolding joinedWord
 returns c =
     let put = c .before .before .before .before in
-    let a = put .before .before .before .before .before .args in
-    c .minor .ensures
-    ∙ ap (λ (L : List (Step Number)). minor rounded (joinedWord (a .n) L) (ofMask (a .n) (a .i)) (ofMask (a .n) (a .j)))
-    (one-step Plain (a .n) _ (put .put-factors .ensures .0))
+    let empty = put .before .before .before in
+    let a = empty .before .before .args in
+    let made = made-next (stepOf Plain (a .factors)) (made-none (empty .no-steps .ensures)) (put .put-step .ensures) in
+    c .minor .ensures ∙ made-minor made (a .i) (a .j)
 
 pub minor-spec : {M : Type 1} → statement M
-minor-spec =
-    tie.close (tie.spec tables-requires spell-requires put-factors-requires minor-requires returns)
+minor-spec = tie.close (tie.spec tables-requires no-steps-requires put-step-requires minor-requires returns)

@@ -1,3 +1,4 @@
+-- A result kept, by cases on its answer (`kept-by`); what can be kept fits its place.
 use Rattle.operations.specs.declared.Operated.{Operated}
 use Rattle.places.specs.declared.Shelf.{Shelf}
 use Rattle.operations.specs.declared.Bounded.the-variants.{Bound}
@@ -6,9 +7,6 @@ use mathlib.Core.Path.{refl, ap}
 use borrow.Author.Needs.{needs}
 use Rattle.operations.proofs.work.keep.Statement.{statement}
 use Rattle.operations.proofs.work.keep.Tie as tie
-use Rattle.operations.proofs.work.keep.Reads as reads
-use Rattle.operations.proofs.work.keep.Lts as lts
-use Rattle.places.proofs.with_table.Reads as with-table-reads
 
 enum-known-answer : tie.Need-enum-known-answer
 enum-known-answer c = search needs

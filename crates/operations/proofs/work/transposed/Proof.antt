@@ -1,21 +1,18 @@
+-- The transpose before it is kept: turned down, or the factors exchanged (laws in Proposals).
 use Prim.Native.Nat.{_<_}
 use mathlib.Core.Path.{_≡_, sym, _∙_}
-use Rattle.places.specs.declared.Verdict.the-variants.{Accepted}
-use Rattle.places.specs.Refusal.{firstOf, oneSource}
+use Rattle.verdict.specs.declared.Verdict.the-variants.{Accepted}
+use Rattle.verdict.specs.Verdict.{firstOf}
+use Rattle.places.specs.Tests.{oneSource}
 use Rattle.places.proofs.Verdicts.{one-accepted}
 use Rattle.operations.proofs.Proposals.{transpose-turned, transpose-done, transpose-answered}
 use borrow.Author.Needs.{needs}
 use Rattle.operations.proofs.work.transposed.Statement.{statement}
 use Rattle.operations.proofs.work.transposed.Tie as tie
-use Rattle.operations.proofs.work.transposed.Reads as reads
-use Rattle.operations.proofs.work.transposed.Lts as lts
-use Rattle.places.proofs.judge.one_source.Reads as one-source-reads
-use Rattle.operations.proofs.work.refusal.Reads as refusal-reads
-use Rattle.places.proofs.rows_at.Reads as rows-at-reads
-use Rattle.places.proofs.table_at.Reads as table-at-reads
-use Rattle.places.proofs.tables.exchanged.Reads as exchanged-reads
 
-accepted : (c : tie.After-enum-told) → firstOf (oneSource (c .before .before .before .args .shelf) (c .before .before .before .args .source) (c .before .before .before .args .target)) ≡ Accepted
+accepted : (c : tie.After-enum-told)
+    → firstOf (oneSource (c .before .before .before .args .shelf) (c .before .before .before .args .source) (c .before .before .before .args .target))
+    ≡ Accepted
 accepted c = sym (c .before .before .one-source .ensures) ∙ c .enum-told .given .1
 
 source-small : (c : tie.After-enum-told) → c .before .before .before .args .source < 8
@@ -27,14 +24,17 @@ one-source-requires c κs = search needs
 enum-known-first : tie.Need-enum-known-first
 enum-known-first c = search needs
 
-refusal-requires : tie.Need-refusal-requires
-refusal-requires c κs = search needs
+turned-down-requires : tie.Need-turned-down-requires
+turned-down-requires c κs = search needs
 
 returns : tie.Need-returns
 returns c =
     let first = c .before .before in
     let entry = first .before .before .before in
-    transpose-answered _ _ _ (entry .pre) _ (c .refusal .ensures ∙ transpose-turned _ _ _ _ (sym (first .before .before .one-source .ensures) ∙ first .first .given .1))
+    let a = entry .args in
+    transpose-answered (a .shelf) (a .source) (a .target) (entry .pre) _
+    (c .turned-down .ensures
+    ∙ transpose-turned (a .shelf) (a .source) (a .target) _ (sym (first .before .before .one-source .ensures) ∙ first .first .given .1))
 
 enum-told : tie.Need-enum-told
 enum-told c = search needs
@@ -52,8 +52,10 @@ returns-2 : tie.Need-returns-2
 returns-2 c =
     let told = c .before .before .before in
     let entry = told .before .before .before in
-    transpose-answered _ _ _ (entry .pre) _
-    (transpose-done _ _ _ (entry .pre) _ _ _ (accepted told) (c .before .before .rows-at .ensures) (c .before .table-at .ensures) (c .exchanged .ensures))
+    let a = entry .args in
+    transpose-answered (a .shelf) (a .source) (a .target) (entry .pre) _
+    (transpose-done (a .shelf) (a .source) (a .target) (entry .pre) _ _ _ (accepted told) (c .before .before .rows-at .ensures) (c .before .table-at .ensures)
+    (c .exchanged .ensures))
 
 pub transposed-spec : {M : Type 1} → statement M
 transposed-spec =
@@ -61,7 +63,7 @@ transposed-spec =
     (tie.spec
     one-source-requires
     enum-known-first
-    refusal-requires
+    turned-down-requires
     returns
     enum-told
     rows-at-requires

@@ -5,7 +5,7 @@ use native.Mathlib.Omega.{arith}
 use mathlib.Core.Path.{sym, subst, _∙_}
 use mathlib.Core.Bool.{false≢true}
 use borrow.Author.Tests.{not-true, not-false}
-use Rattle.number.proofs.Arrays.{length-mapped}
+use Rattle.arrays.proofs.Structs.{length-mapped}
 use Rattle.places.specs.Shelf.{rowsAt}
 use Rattle.places.proofs.Checking.{seen-none, tested-good}
 use Rattle.places.proofs.Passing.{Passed, Gathered, all-passed, rows-failed, place-passed, number-failed, number-passed, gathered-none, gathered-more}

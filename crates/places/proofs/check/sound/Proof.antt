@@ -10,10 +10,6 @@ use Rattle.places.specs.Check.{sound}
 use borrow.Author.Needs.{needs}
 use Rattle.places.proofs.check.sound.Statement.{statement}
 use Rattle.places.proofs.check.sound.Tie as tie
-use Rattle.places.proofs.check.sound.Reads as reads
-use Rattle.places.proofs.check.sound.Lts as lts
-use Rattle.places.proofs.check.stored.Reads as stored-reads
-use Rattle.places.proofs.check.zero.Reads as zero-reads
 
 zero-requires : tie.Need-zero-requires
 zero-requires c κs = search needs

@@ -6,9 +6,6 @@ use Rattle.places.specs.Check.{isStored}
 use borrow.Author.Needs.{needs}
 use Rattle.places.proofs.check.stored.Statement.{statement}
 use Rattle.places.proofs.check.stored.Tie as tie
-use Rattle.places.proofs.check.stored.Reads as reads
-use Rattle.places.proofs.check.stored.Lts as lts
-use Rattle.number.proofs.Number.in_range.Reads as in-range-reads
 
 returns : tie.Need-returns
 unfolding isStored

@@ -1,64 +1,39 @@
-use mathlib.Core.Path.{sym, _∙_}
-use borrow.Author.Tests.{lt-ltb, le-ltb, eq-eqb, ne-eqb}
-use Rattle.places.specs.Refusal.{firstOf}
+-- The tests of one source and a target are those of the list: each line adds one verdict behind those before it, and the list is folded the same way.
+use Rattle.verdict.specs.Verdict.{firstBehind}
 use borrow.Author.Needs.{needs}
 use Rattle.places.proofs.judge.one_source.Statement.{statement}
 use Rattle.places.proofs.judge.one_source.Tie as tie
-use Rattle.places.proofs.judge.one_source.Reads as reads
-use Rattle.places.proofs.judge.one_source.Lts as lts
-use Rattle.places.proofs.judge.refused.Reads as refused-reads
-use Rattle.places.proofs.rows_at.Reads as rows-at-reads
-
-refused-requires : tie.Need-refused-requires
-refused-requires c κs = search needs
-
-returns : tie.Need-returns
-unfolding firstOf
-returns c = c .refused .ensures ∙ simp (lt-ltb _ _ (c .before .if1 .taken))
-
-refused-requires-2 : tie.Need-refused-requires-2
-refused-requires-2 c κs = search needs
-
-returns-2 : tie.Need-returns-2
-unfolding firstOf
-returns-2 c = c .refused2 .ensures ∙ simp (le-ltb _ _ (c .before .before .if1 .left), lt-ltb _ _ (c .before .if2 .taken))
 
 rows-at-requires : tie.Need-rows-at-requires
 rows-at-requires c κs = search needs
 
-refused-requires-3 : tie.Need-refused-requires-3
-refused-requires-3 c κs = search needs
-
-returns-3 : tie.Need-returns-3
-unfolding firstOf
-returns-3 c = c .refused3 .ensures ∙ simp (le-ltb _ _ (c .before .before .before .before .if1 .left), le-ltb _ _ (c .before .before .before .if2 .left), eq-eqb _ _ (sym (c .before .before .rows-at .ensures) ∙ c .before .if3 .taken))
-
 rows-at-requires-2 : tie.Need-rows-at-requires-2
 rows-at-requires-2 c κs = search needs
 
-refused-requires-4 : tie.Need-refused-requires-4
-refused-requires-4 c κs = search needs
+test-requires : tie.Need-test-requires
+test-requires c κs = search needs
 
-returns-4 : tie.Need-returns-4
-unfolding firstOf
-returns-4 c = c .refused4 .ensures ∙ simp (le-ltb _ _ (c .before .before .before .before .before .before .if1 .left), le-ltb _ _ (c .before .before .before .before .before .if2 .left), ne-eqb _ _ (λ e. c .before .before .before .if3 .left (c .before .before .before .before .rows-at .ensures ∙ e)), ne-eqb _ _ (λ e. c .before .if4 .taken (c .before .before .rows-at2 .ensures ∙ e)))
+test-requires-2 : tie.Need-test-requires-2
+test-requires-2 c κs = search needs
 
-returns-5 : tie.Need-returns-5
-unfolding firstOf
-returns-5 c = simp (le-ltb _ _ (c .before .before .before .before .before .if1 .left), le-ltb _ _ (c .before .before .before .before .if2 .left), ne-eqb _ _ (λ e. c .before .before .if3 .left (c .before .before .before .rows-at .ensures ∙ e)), eq-eqb _ _ (sym (c .before .rows-at2 .ensures) ∙ c .if4 .left))
+test-requires-3 : tie.Need-test-requires-3
+test-requires-3 c κs = search needs
+
+test-requires-4 : tie.Need-test-requires-4
+test-requires-4 c κs = search needs
+
+returns : tie.Need-returns
+unfolding firstBehind
+returns c = cc
 
 pub one-source-spec : {M : Type 1} → statement M
 one-source-spec =
     tie.close
     (tie.spec
-    refused-requires
-    returns
-    refused-requires-2
-    returns-2
     rows-at-requires
-    refused-requires-3
-    returns-3
     rows-at-requires-2
-    refused-requires-4
-    returns-4
-    returns-5)
+    test-requires
+    test-requires-2
+    test-requires-3
+    test-requires-4
+    returns)

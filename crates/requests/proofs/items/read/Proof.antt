@@ -26,8 +26,8 @@ returns c = passed-many (c .before .before .loop .inv) (omega arith) (c .if1 .ta
 word-requires : tie.Need-word-requires Inv-loop μ-loop
 word-requires c κs = search needs
 
-item-of-requires : tie.Need-item-of-requires Inv-loop μ-loop
-item-of-requires c κs = search needs
+spelled-item-requires : tie.Need-spelled-item-requires Inv-loop μ-loop
+spelled-item-requires c κs = search needs
 
 enum-known-item : tie.Need-enum-known-item Inv-loop μ-loop
 enum-known-item c = search needs
@@ -72,7 +72,9 @@ same-length-2 : tie.Need-same-length-2 Inv-loop μ-loop
 same-length-2 c = search needs
 
 returns-2 : tie.Need-returns-2 Inv-loop μ-loop
-returns-2 c = passed-other (c .before .before .before .before .before .before .loop .inv) (omega arith) (omega arith) (sym (rw (c .before .before .before .word .ensures) at (c .before .before .item-of .ensures)) ∙ c .enum-told .given .1)
+returns-2 c =
+    passed-other (c .before .before .before .before .before .before .loop .inv) (omega arith) (omega arith)
+    (sym (rw (c .before .before .before .word .ensures) at (c .before .before .spelled-item .ensures)) ∙ c .enum-told .given .1)
 
 next-word-requires : tie.Need-next-word-requires Inv-loop μ-loop
 next-word-requires c κs = search needs
@@ -86,8 +88,11 @@ loop-less c = search needs
 loop-again : tie.Need-loop-again Inv-loop μ-loop
 loop-again c =
     let told = c .before .known-told .given in
-    let is = sym (rw (c .before .before .before .before .before .word .ensures) at (c .before .before .before .before .item-of .ensures)) ∙ c .before .before .item .given .1 in
-    rw (c .next-word .ensures) (passed-more (c .before .before .before .before .before .before .before .before .loop .inv) (omega arith) (omega arith) _ _ _ (rw (held (told .0 .1), held (told .1 .0 .1), held (told .1 .1 .0 .1)) is))
+    let is = sym (rw (c .before .before .before .before .before .word .ensures) at (c .before .before .before .before .spelled-item .ensures))
+    ∙ c .before .before .item .given .1 in
+    rw (c .next-word .ensures)
+    (passed-more (c .before .before .before .before .before .before .before .before .loop .inv) (omega arith) (omega arith) _ _ _
+    (rw (held (told .0 .1), held (told .1 .0 .1), held (told .1 .1 .0 .1)) is))
 
 same-length-3 : tie.Need-same-length-3 Inv-loop μ-loop
 same-length-3 c = search needs
@@ -105,7 +110,7 @@ read-spec =
     same-length
     returns
     word-requires
-    item-of-requires
+    spelled-item-requires
     enum-known-item
     mul-sign
     mul-sign-2

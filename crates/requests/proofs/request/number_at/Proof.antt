@@ -17,7 +17,8 @@ read-whole-requires : tie.Need-read-whole-requires
 read-whole-requires c κs = search needs
 
 returns-2 : tie.Need-returns-2
-returns-2 c = rw (ne-eqb _ _ (c .before .before .before .if1 .left)) (rw (c .before .before .word .ensures, c .before .most .ensures) at (c .read-whole .ensures .0))
+returns-2 c =
+    rw (ne-eqb _ _ (c .before .before .before .if1 .left)) (rw (c .before .before .word .ensures, c .before .most .ensures) at (c .read-whole .ensures .0))
 
 pub number-at-spec : {M : Type 1} → statement M
 number-at-spec =

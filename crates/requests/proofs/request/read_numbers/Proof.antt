@@ -47,7 +47,10 @@ loop-less : tie.Need-loop-less Inv-loop μ-loop
 loop-less c = search needs
 
 loop-again : tie.Need-loop-again Inv-loop μ-loop
-loop-again c = rw (c .behind .ensures) (numbered-more (c .before .before .before .before .before .before .loop .inv) (omega arith) _ (sym (c .before .before .before .before .number-at .ensures) ∙ c .before .before .number .given .1))
+loop-again c =
+    rw (c .behind .ensures)
+    (numbered-more (c .before .before .before .before .before .before .loop .inv) (omega arith) _
+    (sym (c .before .before .before .before .number-at .ensures) ∙ c .before .before .number .given .1))
 
 returns-2 : tie.Need-returns-2 Inv-loop μ-loop
 returns-2 c = numbered-end (c .before .loop .inv) (omega arith)

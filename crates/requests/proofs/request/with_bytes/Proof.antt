@@ -13,7 +13,10 @@ bad-requires : tie.Need-bad-requires
 bad-requires c κs = search needs
 
 returns : tie.Need-returns
-returns c = let a = c .before .before .before .before .before .args in λ list. c .bad .ensures _ list ∙ bytes-more (a .call) (a .values) (now (a .line)) (a .at) (rw (c .before .before .next-word .ensures) at (c .before .if1 .taken))
+returns c =
+    let a = c .before .before .before .before .before .args in
+    let more = rw (c .before .before .next-word .ensures) at (c .before .if1 .taken) in
+    λ list. c .bad .ensures _ list ∙ bytes-more (a .command) (a .values) (now (a .line)) (a .at) more
 
 word-requires : tie.Need-word-requires
 word-requires c κs = search needs
@@ -37,9 +40,12 @@ returns-2 : tie.Need-returns-2
 returns-2 c =
     let a = c .before .before .before .before .before .before .before .before .before .before .before .before .args in
     let w = c .before .before .before .before .before .before .before .word .ensures in
-    let past = rw (c .before .before .before .before .before .before .before .before .before .next-word .ensures) at (c .before .before .before .before .before .before .before .before .if1 .left) in
+    let test = c .before .before .before .before .before .before .before .before in
+    let past = rw (test .before .next-word .ensures) at (test .if1 .left) in
     let is = sym (rw w at (c .before .before .before .before .before .read-bytes .ensures .0)) ∙ c .before .read .given .1 in
-    λ list. rw (rw w at (c .before .before .before .before .before .read-bytes .ensures .1)) (bytes-read (a .call) (a .values) (now (a .line)) (a .at) past (now (a .bytes)) (c .before .before .before .before .before .before .before .before .before .before .before .before .pre) _ is)
+    λ list. rw (rw w at (c .before .before .before .before .before .read-bytes .ensures .1))
+    (bytes-read (a .command) (a .values) (now (a .line)) (a .at) past (now (a .bytes))
+    (c .before .before .before .before .before .before .before .before .before .before .before .before .pre) _ is)
 
 same-length-2 : tie.Need-same-length-2
 same-length-2 c = search needs
@@ -48,9 +54,11 @@ returns-3 : tie.Need-returns-3
 returns-3 c =
     let a = c .before .before .before .before .before .before .before .before .before .before .before .before .args in
     let w = c .before .before .before .before .before .before .before .word .ensures in
-    let past = rw (c .before .before .before .before .before .before .before .before .before .next-word .ensures) at (c .before .before .before .before .before .before .before .before .if1 .left) in
+    let test = c .before .before .before .before .before .before .before .before in
+    let past = rw (test .before .next-word .ensures) at (test .if1 .left) in
     let is = sym (rw w at (c .before .before .before .before .before .read-bytes .ensures .0)) ∙ c .before .enum-told .given .1 in
-    λ list. c .bad2 .ensures _ list ∙ bytes-other (a .call) (a .values) (now (a .line)) (a .at) past (now (a .bytes)) (c .before .before .before .before .before .before .before .before .before .before .before .before .pre) is
+    λ list. c .bad2 .ensures _ list ∙ bytes-other (a .command) (a .values) (now (a .line)) (a .at) past (now (a .bytes))
+    (c .before .before .before .before .before .before .before .before .before .before .before .before .pre) is
 
 pub with-bytes-spec : {M : Type 1} → statement M
 with-bytes-spec =

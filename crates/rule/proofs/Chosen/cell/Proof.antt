@@ -5,9 +5,8 @@ use Prim.Native.Nat.{ℕ, _+_, _/_, _%_}
 use native.Mathlib.Omega.{arith}
 use borrow.Author.Tests.{le-leb, lt-leb}
 use lib.Dec.{leb}
-use Rattle.number.specs.Number.{rounded, zeroNumber}
-use Rattle.words.specs.Formula.{newFactor}
-use Rattle.rule.specs.Chosen.{chosenMinor}
+use Rattle.number.specs.Number.{zeroNumber}
+use Rattle.rule.specs.Chosen.{chosenFactors}
 use borrow.Author.Needs.{needs}
 use Rattle.rule.proofs.Chosen.cell.Statement.{statement}
 use Rattle.rule.proofs.Chosen.cell.Tie as tie
@@ -26,7 +25,7 @@ returns c =
     let a = c .before .before .args in
     let i : ℕ = a .t / 8 + 1 in
     let j : ℕ = a .t % 8 + 1 in
-    let b = newFactor rounded (a .k) (chosenMinor (a .self) (a .sources .now)) in
+    let b = chosenFactors (a .self) (a .sources .now) in
     c .zero .ensures ∙ ap (λ (x : Bool). cond (x && leb j (a .k)) (b i j) zeroNumber) (sym (lt-leb i (a .k) (c .before .if1 .taken)))
 
 zero-requires-2 : tie.Need-zero-requires-2
@@ -37,7 +36,7 @@ returns-2 c =
     let a = c .before .before .before .args in
     let i : ℕ = a .t / 8 + 1 in
     let j : ℕ = a .t % 8 + 1 in
-    let b = newFactor rounded (a .k) (chosenMinor (a .self) (a .sources .now)) in
+    let b = chosenFactors (a .self) (a .sources .now) in
     c .zero2 .ensures
     ∙ ap₂ (λ (x y : Bool). cond (x && y) (b i j) zeroNumber)
     (sym (le-leb i (a .k) (c .before .before .if1 .left))) (sym (lt-leb j (a .k) (c .before .if2 .taken)))
@@ -49,12 +48,11 @@ factor-requires c κs =
 
 returns-3 : tie.Need-returns-3
 returns-3 c =
-    let b = c .before .before .before in
-    let a = b .args in
+    let a = c .before .before .before .args in
     let i : ℕ = a .t / 8 + 1 in
     let j : ℕ = a .t % 8 + 1 in
-    c .factor .ensures ∙ ap (λ (k : ℕ). newFactor rounded k (chosenMinor (a .self) (a .sources .now)) i j) (sym (b .pre .0 .1))
-    ∙ ap₂ (λ (x y : Bool). cond (x && y) (newFactor rounded (a .k) (chosenMinor (a .self) (a .sources .now)) i j) zeroNumber)
+    c .factor .ensures
+    ∙ ap₂ (λ (x y : Bool). cond (x && y) (chosenFactors (a .self) (a .sources .now) i j) zeroNumber)
     (sym (le-leb i (a .k) (c .before .before .if1 .left))) (sym (le-leb j (a .k) (c .before .if2 .left)))
 
 pub cell-spec : {M : Type 1} → statement M

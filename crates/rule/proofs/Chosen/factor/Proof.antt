@@ -4,7 +4,7 @@ use mathlib.Core.Bool.{Bool}
 use borrow.Author.Tests.{eq-eqb, ne-eqb, lt-ltb, le-ltb}
 use lib.Dec.{ltb}
 use Rattle.number.specs.Number.{rounded}
-use Rattle.words.specs.Formula.{factorBy, newFactor}
+use Rattle.words.specs.Formula.{justBefore, factorBy, newFactor}
 use Rattle.rule.specs.Chosen.{sizeOf, chosenMinor}
 use borrow.Author.Needs.{needs}
 use Rattle.rule.proofs.Chosen.factor.Statement.{statement}
@@ -18,7 +18,8 @@ unfolding newFactor
 returns c =
     let a = c .before .before .args in
     c .on-diagonal .ensures
-    ∙ ap (λ (x : Bool). factorBy rounded (sizeOf (a .self)) x (ltb (a .j) (a .i)) (chosenMinor (a .self) (a .sources .now)) (a .i) (a .j))
+    ∙ ap (λ (x : Bool). factorBy rounded (sizeOf (a .self)) x (ltb (a .j) (a .i)) (justBefore (sizeOf (a .self))) (chosenMinor (a .self) (a .sources .now))
+    (a .i) (a .j))
     (sym (eq-eqb (a .i) (a .j) (c .before .if1 .taken)))
 
 off-diagonal-requires : tie.Need-off-diagonal-requires
@@ -29,7 +30,7 @@ unfolding newFactor
 returns-2 c =
     let a = c .before .before .before .args in
     c .off-diagonal .ensures
-    ∙ ap₂ (λ (x y : Bool). factorBy rounded (sizeOf (a .self)) x y (chosenMinor (a .self) (a .sources .now)) (a .i) (a .j))
+    ∙ ap₂ (λ (x y : Bool). factorBy rounded (sizeOf (a .self)) x y (justBefore (sizeOf (a .self))) (chosenMinor (a .self) (a .sources .now)) (a .i) (a .j))
     (sym (ne-eqb (a .i) (a .j) (c .before .before .if1 .left))) (sym (lt-ltb (a .j) (a .i) (c .before .if2 .taken)))
 
 off-diagonal-requires-2 : tie.Need-off-diagonal-requires-2
@@ -40,7 +41,7 @@ unfolding newFactor
 returns-3 c =
     let a = c .before .before .before .args in
     c .off-diagonal2 .ensures
-    ∙ ap₂ (λ (x y : Bool). factorBy rounded (sizeOf (a .self)) x y (chosenMinor (a .self) (a .sources .now)) (a .i) (a .j))
+    ∙ ap₂ (λ (x y : Bool). factorBy rounded (sizeOf (a .self)) x y (justBefore (sizeOf (a .self))) (chosenMinor (a .self) (a .sources .now)) (a .i) (a .j))
     (sym (ne-eqb (a .i) (a .j) (c .before .before .if1 .left))) (sym (le-ltb (a .j) (a .i) (c .before .if2 .left)))
 
 pub factor-spec : {M : Type 1} → statement M

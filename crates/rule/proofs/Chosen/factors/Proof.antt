@@ -1,19 +1,19 @@
 -- `Chosen::factors` meets its contract. The invariant: the first t numbers of the table.
 use borrow.Author.Needs.{needs}
-use mathlib.Core.Path.{refl, _∙_}
-use Prim.Native.Nat.{_-_, _≤_}
+use mathlib.Core.Path.{ap, _∙_}
+use Prim.Native.Nat.{ℕ, _-_}
 use native.Mathlib.Omega.{arith}
-use Rattle.number.specs.Number.{rounded}
-use Rattle.words.specs.Formula.{newFactor}
+use Rattle.arrays.proofs.Filled.{Filled, filled-none, filled-more}
+use Rattle.number.specs.Number.{zeroNumber}
+use Rattle.table.specs.Table.{cellAt, tableOf}
+use Rattle.table.proofs.Table.{table-filled}
 use Rattle.walk.proofs.Sweep.{below-256}
-use Rattle.rule.specs.Chosen.{chosenMinor}
-use Rattle.rule.proofs.Asked.{refactored-is}
-use Rattle.rule.proofs.Tables.{Tabled, tabled-none, tabled-next, tabled-all}
+use Rattle.rule.specs.Chosen.{chosenFactors}
 use Rattle.rule.proofs.Chosen.factors.Statement.{statement}
 use Rattle.rule.proofs.Chosen.factors.Tie as tie
 
 abbrev Inv-loop : tie.InvT-loop
-Inv-loop self letters sources n tables k b₀ t₀ b t = (t ≤ 64) × Tabled k (newFactor rounded k (chosenMinor self sources)) b t
+Inv-loop self letters sources n tables k b₀ t₀ b t = Filled zeroNumber (cellAt k (chosenFactors self sources)) 64 t b
 
 abbrev μ-loop : tie.MeasureT-loop
 μ-loop self letters sources n tables k b₀ t₀ b t = 64 - t
@@ -27,7 +27,7 @@ count-requires c κs =
     below-256 (b .args .self .word .n) (b .args .self .rows) (b .pre .0 .few) (b .pre .0 .rows)
 
 loop-holds : tie.Need-loop-holds Inv-loop μ-loop
-loop-holds c = (search needs, tabled-none (search needs))
+loop-holds c = filled-none zeroNumber _ 64 _ (search needs)
 
 cell-requires : tie.Need-cell-requires Inv-loop μ-loop
 cell-requires c κs =
@@ -48,13 +48,13 @@ loop-less : tie.Need-loop-less Inv-loop μ-loop
 loop-less c = search needs
 
 loop-again : tie.Need-loop-again Inv-loop μ-loop
-loop-again c = (omega arith, tabled-next (c .before .before .before .loop .inv .1) (search needs) _ _ (c .cell .ensures) refl)
+loop-again c = filled-more zeroNumber _ 64 (c .before .before .before .loop .inv) (search needs) _ (c .cell .ensures)
 
 returns : tie.Need-returns Inv-loop μ-loop
 returns c =
     let b = c .before .before .before .before .before in
-    tabled-all (c .before .loop .inv .1) (omega arith)
-    ∙ refactored-is (b .args .self) (b .pre .0) (c .before .before .count .result) (c .before .before .count .ensures .0)
+    table-filled _ _ (c .before .loop .inv) (c .loop-test .left)
+    ∙ ap (λ (k : ℕ). tableOf k (chosenFactors (b .args .self) (b .args .sources .now))) (c .before .before .count .ensures .0)
 
 pub factors-spec : {M : Type 1} → statement M
 factors-spec =

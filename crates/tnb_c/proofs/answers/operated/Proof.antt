@@ -1,11 +1,17 @@
--- `operated` meets its contract.
+-- `operated` meets its contract: by the variant.
 use mathlib.Core.Path.{sym, ap}
-use Rattle.tnb_c.specs.Answers.{ofBounded}
+use Rattle.tnb_c.specs.Answers.{answerOf}
+use Rattle.places.specs.declared.Shelf.{Shelf}
+use Rattle.tnb_c.specs.declared.Answer.{Answer}
+use Rattle.places.specs.Outcome.{outcome}
+use Rattle.operations.specs.Reports.{boundedReport}
+use Rattle.operations.specs.declared.Bounded.{Bounded}
 use borrow.Author.Needs.{needs}
 use Rattle.tnb_c.proofs.answers.operated.Statement.{statement}
 use Rattle.tnb_c.proofs.answers.operated.Tie as tie
-use Rattle.tnb_c.proofs.answers.operated.Reads as reads
-use Rattle.tnb_c.proofs.answers.operated.Lts as lts
+
+abbrev answer : Shelf → Bounded → Answer
+answer s b = answerOf (outcome s (boundedReport b))
 
 enum-known-answer : tie.Need-enum-known-answer
 enum-known-answer c = search needs
@@ -14,10 +20,10 @@ enum-known-answer-2 : tie.Need-enum-known-answer-2
 enum-known-answer-2 c = search needs
 
 returns : tie.Need-returns
-returns c = sym (ap (ofBounded _) (c .before .answer .given .1))
+returns c = sym (ap (answer _) (c .before .answer .given .1))
 
 returns-2 : tie.Need-returns-2
-returns-2 c = sym (ap (ofBounded _) (c .before .answer2 .given .1))
+returns-2 c = sym (ap (answer _) (c .before .answer2 .given .1))
 
 pub operated-spec : {M : Type 1} → statement M
 operated-spec = tie.close (tie.spec enum-known-answer enum-known-answer-2 returns returns-2)

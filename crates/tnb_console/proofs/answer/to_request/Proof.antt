@@ -10,8 +10,8 @@ some-bytes-requires c κs = search needs
 some-items-requires : tie.Need-some-items-requires
 some-items-requires c κs = search needs
 
-to-call-requires : tie.Need-to-call-requires
-to-call-requires c κs = search needs
+to-command-requires : tie.Need-to-command-requires
+to-command-requires c κs = search needs
 
 same-length : tie.Need-same-length
 same-length c = search needs
@@ -19,10 +19,10 @@ same-length c = search needs
 returns : tie.Need-returns
 unfolding replyTo
 returns c =
-    let call = c .before .before .to-call .ensures in
+    let call = c .before .before .to-command .ensures in
     (call .0, rw (c .before .before .before .before .before .before .some-bytes .ensures, c .before .before .before .before .some-items .ensures) at (call .1))
 
 pub to-request-spec : {M : Type 1} → statement M
 to-request-spec =
     tie.close
-    (tie.spec some-bytes-requires some-items-requires to-call-requires same-length returns)
+    (tie.spec some-bytes-requires some-items-requires to-command-requires same-length returns)

@@ -38,11 +38,13 @@ same-length c = search needs
 
 returns : tie.Need-returns
 returns c =
-    let n = c .before .before .before .before .before .before .lent .result in
+    let lent = c .before .before .before .before .before .before in
+    let n = lent .lent .result in
     let e : n * 3 - 0 ≡ n * 3 = omega arith in
-    let few : n ≤ 512 = omega (arith, c .before .before .before .before .before .before .lent .ensures) in
+    let few : n ≤ 512 = omega (arith, lent .lent .ensures) in
     let items = items-lent (replicate 1536 (pos 0)) n 512 (length-replicate 1536 (pos 0)) few in
-    rw (e, c .before .before .before .before .before .before .before .before .fill .ensures, items, c .before .before .before .before .before .before .lent .ensures) at (c .before .before .before .carry-to .ensures)
+    let call = c .before .before .before .carry-to .ensures in
+    (call .0, rw (e, lent .before .before .fill .ensures, items, lent .lent .ensures) at (call .1))
 
 pub carry-spec : {M : Type 1} → statement M
 carry-spec =

@@ -1,7 +1,9 @@
 -- `tnb_console::calls::carry_to` meets its contract.
 use Rattle.lines.specs.Ascii.{ascii}
 use Rattle.lines.proofs.Text.{puts-behind}
-use Rattle.tnb_console.specs.Calls.{carryText}
+use Rattle.shelf.specs.Run.{run}
+use Rattle.answers.proofs.Reports.{puts-report}
+use Rattle.tnb_console.proofs.Replies.{replied, carry-keeps}
 use borrow.Author.Needs.{needs}
 use Rattle.tnb_console.proofs.calls.carry_to.Statement.{statement}
 use Rattle.tnb_console.proofs.calls.carry_to.Tie as tie
@@ -24,6 +26,9 @@ put-requires c κs = search needs
 put-items-requires : tie.Need-put-items-requires
 put-items-requires c κs = search needs
 
+after-requires : tie.Need-after-requires
+after-requires c κs = search needs
+
 same-length : tie.Need-same-length
 same-length c = search needs
 
@@ -31,10 +36,15 @@ same-length-2 : tie.Need-same-length-2
 same-length-2 c = search needs
 
 returns : tie.Need-returns
-unfolding carryText
+unfolding run
 returns c =
-    let carry = c .before .before .before .before .before .before .before .before .before .before .before .before .before .before .before .before .carry .ensures in
-    puts-behind (rw (carry .0) at (c .before .before .before .before .before .before .before .before .before .before .before .before .put-verdict .ensures)) (puts-behind {a = ascii " "} (c .before .before .before .before .before .before .before .put .ensures) (rw (carry .1) at (c .before .before .put-items .ensures)))
+    let last = c .before .before .before in
+    let space = last .before .before .before .before .before in
+    let answer = space .before .before .before .before .before in
+    let call = answer .before .before .before .before .carry .ensures in
+    let report = puts-report (ascii "carried") (call .0) (answer .put-verdict .ensures) in
+    let text = puts-behind report (puts-behind {a = ascii " "} (space .put .ensures) (rw (call .1) at (last .put-items .ensures))) in
+    (c .after .ensures .0, replied (carry-keeps _ _ _ _) (c .after .ensures .1) text)
 
 pub carry-to-spec : {M : Type 1} → statement M
 carry-to-spec =
@@ -46,6 +56,7 @@ carry-to-spec =
     slice-aggregate-put
     put-requires
     put-items-requires
+    after-requires
     same-length
     same-length-2
     returns)

@@ -1,4 +1,7 @@
 -- `tnb_console::calls::rest` meets its contract.
+use mathlib.Core.Path.{refl}
+use Rattle.shelf.specs.Run.{run}
+use Rattle.tnb_console.proofs.Replies.{replied}
 use borrow.Author.Needs.{needs}
 use Rattle.tnb_console.proofs.calls.rest.Statement.{statement}
 use Rattle.tnb_console.proofs.calls.rest.Tie as tie
@@ -9,11 +12,17 @@ behind-requires c κs = search needs
 put-rest-requires : tie.Need-put-rest-requires
 put-rest-requires c κs = search needs
 
+after-requires : tie.Need-after-requires
+after-requires c κs = search needs
+
 same-length : tie.Need-same-length
 same-length c = search needs
 
 returns : tie.Need-returns
-returns c = rw (c .before .before .before .behind .ensures) at (c .before .before .put-rest .ensures)
+unfolding run
+returns c =
+    let put = c .before .before .before in
+    (c .after .ensures .0, replied refl (c .after .ensures .1) (rw (put .before .behind .ensures) at (put .put-rest .ensures)))
 
 pub rest-spec : {M : Type 1} → statement M
-rest-spec = tie.close (tie.spec behind-requires put-rest-requires same-length returns)
+rest-spec = tie.close (tie.spec behind-requires put-rest-requires after-requires same-length returns)

@@ -1,31 +1,21 @@
--- `tnb_console::calls::show` meets its contract.
-use borrow.Author.Tests.{lt-ltb, le-ltb}
-use Rattle.tnb_console.specs.Calls.{showText}
+-- `tnb_console::calls::show` meets its contract: the shelf stays.
+use mathlib.Core.Path.{refl}
+use Rattle.tnb_console.proofs.Replies.{replied}
 use borrow.Author.Needs.{needs}
 use Rattle.tnb_console.proofs.calls.show.Statement.{statement}
 use Rattle.tnb_console.proofs.calls.show.Tie as tie
 
-put-refusal-requires : tie.Need-put-refusal-requires
-put-refusal-requires c κs = search needs
+put-shown-requires : tie.Need-put-shown-requires
+put-shown-requires c κs = search needs
+
+after-requires : tie.Need-after-requires
+after-requires c κs = search needs
 
 same-length : tie.Need-same-length
 same-length c = search needs
 
 returns : tie.Need-returns
-unfolding showText
-returns c = rw (lt-ltb 7 _ (c .before .before .before .before .if1 .taken)) (c .before .before .put-refusal .ensures)
-
-put-place-requires : tie.Need-put-place-requires
-put-place-requires c κs = search needs
-
-same-length-2 : tie.Need-same-length-2
-same-length-2 c = search needs
-
-returns-2 : tie.Need-returns-2
-unfolding showText
-returns-2 c = rw (le-ltb 7 _ (c .before .before .before .before .if1 .left)) (c .before .before .put-place .ensures)
+returns c = (c .after .ensures .0, replied refl (c .after .ensures .1) (c .before .before .before .put-shown .ensures))
 
 pub show-spec : {M : Type 1} → statement M
-show-spec =
-    tie.close
-    (tie.spec put-refusal-requires same-length returns put-place-requires same-length-2 returns-2)
+show-spec = tie.close (tie.spec put-shown-requires after-requires same-length returns)

@@ -33,7 +33,8 @@ returns c =
     let n = c .before .before .before .before .before .before .lent .result in
     let e : n - 0 ≡ n = omega arith in
     let few : n ≤ 512 = omega (arith, c .before .before .before .before .before .before .lent .ensures) in
-    rw (e, take-replicate n 512 0xa5 few, c .before .before .before .before .before .before .lent .ensures) at (c .before .before .before .write-to .ensures)
+    let call = c .before .before .before .write-to .ensures in
+    (call .0, rw (e, take-replicate n 512 0xa5 few, c .before .before .before .before .before .before .lent .ensures) at (call .1))
 
 pub write-spec : {M : Type 1} → statement M
 write-spec =

@@ -1,7 +1,9 @@
 -- `tnb_console::calls::write_to` meets its contract.
 use Rattle.lines.specs.Ascii.{ascii}
 use Rattle.lines.proofs.Text.{puts-behind}
-use Rattle.tnb_console.specs.Calls.{writeText}
+use Rattle.shelf.specs.Run.{run}
+use Rattle.answers.proofs.Reports.{puts-report}
+use Rattle.tnb_console.proofs.Replies.{replied, write-keeps}
 use borrow.Author.Needs.{needs}
 use Rattle.tnb_console.proofs.calls.write_to.Statement.{statement}
 use Rattle.tnb_console.proofs.calls.write_to.Tie as tie
@@ -21,6 +23,9 @@ put-requires c κs = search needs
 put-bytes-requires : tie.Need-put-bytes-requires
 put-bytes-requires c κs = search needs
 
+after-requires : tie.Need-after-requires
+after-requires c κs = search needs
+
 same-length : tie.Need-same-length
 same-length c = search needs
 
@@ -28,10 +33,15 @@ same-length-2 : tie.Need-same-length-2
 same-length-2 c = search needs
 
 returns : tie.Need-returns
-unfolding writeText
+unfolding run
 returns c =
-    let write = c .before .before .before .before .before .before .before .before .before .before .before .before .before .before .before .before .write .ensures in
-    puts-behind (rw (write .0) at (c .before .before .before .before .before .before .before .before .before .before .before .before .put-written .ensures)) (puts-behind {a = ascii " "} (c .before .before .before .before .before .before .before .put .ensures) (rw (write .1) at (c .before .before .put-bytes .ensures)))
+    let last = c .before .before .before in
+    let space = last .before .before .before .before .before in
+    let answer = space .before .before .before .before .before in
+    let call = answer .before .before .before .before .write .ensures in
+    let report = puts-report (ascii "wrote") (call .0) (answer .put-written .ensures) in
+    let text = puts-behind report (puts-behind {a = ascii " "} (space .put .ensures) (rw (call .1) at (last .put-bytes .ensures))) in
+    (c .after .ensures .0, replied (write-keeps _ _ _) (c .after .ensures .1) text)
 
 pub write-to-spec : {M : Type 1} → statement M
 write-to-spec =
@@ -42,6 +52,7 @@ write-to-spec =
     slice-aggregate-put
     put-requires
     put-bytes-requires
+    after-requires
     same-length
     same-length-2
     returns)

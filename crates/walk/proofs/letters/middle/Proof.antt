@@ -1,4 +1,4 @@
--- `middle` meets its contract.
+-- `middle` meets its contract: n (n - 1) / 2, at most 28 for eight rows (middle-few).
 use mathlib.Core.Path.{refl}
 use native.Mathlib.Omega.{arith}
 use Rattle.walk.proofs.Spelling.{middle-few}

@@ -98,7 +98,8 @@ returns-4 c =
     let a = b .args in
     let q = ap (λ (h : ℕ). moveAt (a .n) Plain (2 * h - a .t)) (c .before .before .before .before .middle .ensures .0) in
     answered (a .n) (a .way) (a .t) _ (search needs) (search needs) (search needs) (b .pre .3)
-    (ap₂ crossed (c .before .plain-at4 .ensures) (c .plain-at5 .ensures ∙ q) ∙ sym (transpose-move (a .n) (search needs) (search needs) (a .t) (search needs) (b .pre .3))
+    (ap₂ crossed (c .before .plain-at4 .ensures) (c .plain-at5 .ensures ∙ q)
+    ∙ sym (transpose-move (a .n) (search needs) (search needs) (a .t) (search needs) (b .pre .3))
     ∙ ap (λ (w : Way). moveAt (a .n) w (a .t)) (sym (c .before .before .enum-told4 .given .1)))
 
 pub move-at-spec : {M : Type 1} → statement M

@@ -1,4 +1,4 @@
--- `code` meets its contract.
+-- `code` meets its contract: the three parts of a move lie in digits of their own, and fit 16 bits.
 use borrow.Author.Needs.{needs}
 use Rattle.walk.specs.Lent.{codeOf}
 use Rattle.walk.proofs.source.code.Statement.{statement}

@@ -1,4 +1,4 @@
--- `letter_in` meets its contract.
+-- `letter_in` meets its contract: the code that was spelled there gives its move back (decoded), since that lies within the rows (move-within).
 use borrow.Author.Needs.{needs}
 use mathlib.Core.Path.{sym, _∙_, subst}
 use native.Mathlib.Omega.{arith}

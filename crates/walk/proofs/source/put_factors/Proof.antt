@@ -4,7 +4,7 @@ use mathlib.Core.Path.{_≡_, refl}
 use Prim.Native.Nat.{_-_, _≤_}
 use native.Mathlib.Omega.{arith}
 use lib.ListN.{length}
-use Rattle.number.proofs.Arrays.{length-mapped}
+use Rattle.arrays.proofs.Structs.{length-mapped}
 use Rattle.walk.proofs.Lent.{Putting, put-none, put-next, put-all}
 use Rattle.walk.proofs.source.put_factors.Statement.{statement}
 use Rattle.walk.proofs.source.put_factors.Tie as tie

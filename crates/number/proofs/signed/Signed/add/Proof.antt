@@ -15,7 +15,8 @@ returns : tie.Need-returns
 returns c =
     let b = c .before .before .before .before .before in
     let s = c .before .before .if1 .taken in
-    ap (λ (n : Number). record { negative = true; size = n }) (c .add .ensures) ∙ sym (signed-sum-negative (b .args .self) (b .args .other) s (c .before .if2 .taken) (negative-positive (b .args .self) (b .pre .0) s))
+    ap (λ (n : Number). record { negative = true; size = n }) (c .add .ensures)
+    ∙ sym (signed-sum-negative (b .args .self) (b .args .other) s (c .before .if2 .taken) (negative-positive (b .args .self) (b .pre .0) s))
 
 difference-requires : tie.Need-difference-requires
 difference-requires c κs = search needs

@@ -20,7 +20,8 @@ returns-2 : tie.Need-returns-2
 returns-2 c =
     let b = c .before .before .before .before in
     let e = c .before .before .mul .ensures in
-    ap (λ (n : Number). record { negative = b .args .self .negative; size = n }) e ∙ sym (signed-product-sign (b .args .self) (b .args .w) (λ f. c .if1 .left (ap (λ (n : Number). n .m) e ∙ f)))
+    ap (λ (n : Number). record { negative = b .args .self .negative; size = n }) e
+    ∙ sym (signed-product-sign (b .args .self) (b .args .w) (λ f. c .if1 .left (ap (λ (n : Number). n .m) e ∙ f)))
 
 pub times-spec : {M : Type 1} → statement M
 times-spec = tie.close (tie.spec mul-requires returns returns-2)

@@ -1,4 +1,4 @@
--- `Signed::zero` meets its contract.
+-- `Signed::zero` meets its contract: the number zero, and no sign.
 use mathlib.Core.Path.{ap}
 use borrow.Author.Needs.{needs}
 use Rattle.number.specs.Signed.{plain}

@@ -1,0 +1,27 @@
+-- The text of a report that has no value, one, or a mantissa and an exponent, and the same text for equal reports (`puts-report`).
+use Prim.Native.Nat.{ℕ}
+use mathlib.Core.Path.{_≡_, refl}
+use mathlib.Core.List.{List, [], _∷_, _++_, append-nil}
+use lib.IntN.{ℤ, pos}
+use Rattle.lines.specs.Ascii.{ascii}
+use Rattle.lines.specs.Text.{Puts, decimal}
+use Rattle.verdict.specs.Report.{Report, accepted}
+use Rattle.answers.specs.Answers.{integerText, valuesText, reportText}
+
+whole-text : (n : ℕ) → integerText (pos n) ≡ decimal n
+unfolding integerText
+whole-text n = refl
+
+pub word-text : (word : List ℕ) → reportText word (accepted []) ≡ word
+word-text word = append-nil word
+
+pub count-text : (n : ℕ) → valuesText (pos n ∷ []) ≡ ascii " " ++ decimal n
+count-text n = rw (whole-text n, append-nil)
+
+pub number-text : (m : ℕ) (e : ℤ) → valuesText (pos m ∷ e ∷ []) ≡ (ascii " " ++ decimal m) ++ (ascii " " ++ integerText e)
+number-text m e = rw (whole-text m, append-nil)
+
+-- one text was put for both of two equal reports
+module _ (word : List ℕ) {a b : Report} {out out′ : List ℕ} {at to : ℕ} (e : a ≡ b) where
+  pub puts-report : Puts out at (reportText word a) out′ to → Puts out at (reportText word b) out′ to
+  puts-report p = rw e at p

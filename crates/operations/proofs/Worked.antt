@@ -1,0 +1,134 @@
+-- THE RULE RUN FOR AN OPERATION. A joined word has the operation's steps, and two masks its rows and columns (`Sets`: all of them, `all-sets`, or the chosen
+-- ones of a submatrix, `chosen-sets`). Then the rule can be run (`run-proper`), and what it hands back is the operation's result (`run-result`).
+use mathlib.Core.Path.{_≡_, refl, sym, ap, ap₂, _∙_, subst}
+use mathlib.Core.List.{List}
+use Prim.Native.Nat.{ℕ, _^_, _≤_, _<_}
+use native.Mathlib.Omega.{arith}
+use lib.ListN.{length}
+use Rattle.number.specs.declared.Number.{Number}
+use Rattle.number.specs.Number.{rounded}
+use Rattle.rowset.specs.Mask.{maskCount, maskRun}
+use Rattle.rowset.proofs.Counts.{mask-count, mask-run, run-below}
+use Rattle.words.specs.RowSet.{RowSet, rows, count, among, ofMask}
+use Rattle.words.specs.Word.{Factors}
+use Rattle.words.specs.Walk.{minor}
+use Rattle.words.specs.Formula.{justBefore, newFactor}
+use Rattle.words.specs.Operation.{Step, joinedWord, Operation, joined, submatrix, steps, rowsOf, columnsOf, size, boundOf, askedMinor, result}
+use Rattle.words.specs.Sources.{StoredSteps}
+use Rattle.words.proofs.Chosen.{count-all, among-all}
+use Rattle.words.proofs.Formulas.{newFactor-equal}
+use Rattle.walk.specs.declared.Joined.{Joined}
+use Rattle.walk.specs.Lent.{stepsOf, stepAt, numbered, AllSpelled}
+use Rattle.table.specs.Table.{tableOf}
+use Rattle.walk.proofs.Minors.{steps-length}
+use Rattle.rule.specs.declared.Refactored.{Refactored}
+use Rattle.rule.specs.Chosen.{chosenOf, chosenMinor, chosenFactors, Workable}
+use Rattle.rule.specs.Result.{workOf}
+use Rattle.table.proofs.Table.{table-same}
+use Rattle.operations.proofs.Made.{Made}
+use Rattle.operations.proofs.Results.{Ready, ready-demand, resultOf}
+
+-- the masks p and q give the rows and the columns of an operation on sources of n rows
+pub record Sets (n : ℕ) (o : Operation Number) (p q : ℕ) : Type 0 where
+  pub rows-below : p < 2 ^ n
+  pub columns-below : q < 2 ^ n
+  pub rows-many : maskCount p ≡ size n o
+  pub columns-many : maskCount q ≡ size n o
+  pub rows-are : (I : RowSet) → length I ≡ size n o → among (ofMask n p) I ≡ rowsOf o I
+  pub columns-are : (J : RowSet) → length J ≡ size n o → among (ofMask n q) J ≡ columnsOf o J
+
+-- all of them
+pub all-sets : (n p : ℕ) (L : List (Step Number)) → n ≤ 8 → p ≡ maskRun 1 n → Sets n (joined L) p p
+all-sets n p L few e = record {
+  rows-below = below;
+  columns-below = below;
+  rows-many = many;
+  columns-many = many;
+  rows-are = are;
+  columns-are = are;
+}
+  where
+    below : p < 2 ^ n
+    below = subst (λ (s : ℕ). s < 2 ^ n) (sym e) (run-below n 1 n (omega arith))
+
+    all : ofMask n p ≡ rows n 1 n
+    all = ap (ofMask n) e ∙ mask-run n 1 n few (omega arith) few
+
+    many : maskCount p ≡ n
+    many = sym (mask-count n p few below) ∙ ap count all ∙ count-all n
+
+    are : (I : RowSet) → length I ≡ n → among (ofMask n p) I ≡ I
+    are I i = ap (λ (P : RowSet). among P I) all ∙ among-all n I i
+
+-- the chosen ones
+pub chosen-sets : (n p q : ℕ) (b : Factors Number) → n ≤ 8 → p < 2 ^ n → q < 2 ^ n → maskCount p ≡ maskCount q
+    → Sets n (submatrix b (ofMask n p) (ofMask n q)) p q
+chosen-sets n p q b few r c e = record {
+  rows-below = r;
+  columns-below = c;
+  rows-many = sym (mask-count n p few r);
+  columns-many = sym e ∙ sym (mask-count n p few r);
+  rows-are = λ I i. refl;
+  columns-are = λ J j. refl;
+}
+
+-- THE WORD w with the factors s
+module _ (t : ℕ) (o : Operation Number) (w : Joined) (s : List ℕ) (p q : ℕ) (six : w .count ≤ 6) (same : stepsOf w s ≡ steps o) (sets : Sets (w .n) o p q)
+    (ready : Ready t (w .n) o) where
+  abbrev n : ℕ
+  n = w .n
+
+  asked : (I J : RowSet) → length I ≡ size n o → length J ≡ size n o → chosenMinor (chosenOf w p q) s I J ≡ askedMinor rounded n o I J
+  unfolding chosenMinor
+  asked I J i j =
+      ap (λ (L : List (Step Number)). minor rounded (joinedWord n L) (among (ofMask n p) I) (among (ofMask n q) J)) same
+      ∙ ap₂ (minor rounded (joinedWord n (steps o))) (sets .rows-are I i) (sets .columns-are J j)
+
+  own-proper : Workable (chosenOf w p q) s
+  own-proper = record {
+    some = ready .some;
+    few = ready .few;
+    six = six;
+    rows = sets .rows-below;
+    columns = sets .columns-below;
+    equal = sets .rows-many ∙ sym (sets .columns-many);
+    stored = subst (StoredSteps n) (sym same) (ready .proper .sources);
+    regular = record {
+      nonzero = λ I J i j e.
+          let x = i ∙ sets .rows-many in
+          let y = j ∙ sets .rows-many in
+          subst (λ (a : Number). 0 < a .m) (sym (asked I J x y)) (ready-demand ready .divisors I J (record { rows = x; columns = y; counts = e }));
+    };
+  }
+
+  own-factors : tableOf (maskCount p) (chosenFactors (chosenOf w p q) s) ≡ tableOf (size n o) (result rounded n o)
+  unfolding result
+  own-factors =
+      ap (λ (k : ℕ). tableOf k (newFactor rounded k (justBefore k) (chosenMinor (chosenOf w p q) s))) (sets .rows-many)
+      ∙ table-same (size n o) _ _ (newFactor-equal rounded (size n o) (chosenMinor (chosenOf w p q) s) (askedMinor rounded n o) (λ I J i j e. asked I J i j))
+
+  own-count : w .count ≡ length (steps o)
+  own-count = sym (steps-length (stepAt w s) numbered (w .count) six) ∙ ap length same
+
+  own-result : workOf (chosenOf w p q) s ≡ resultOf n o
+  own-result =
+      ap₂ (λ (f : List Number) (k : ℕ). let r : Refactored = record { factors = f; rows = k; bound = boundOf (w .count) n } in r) own-factors (sets .rows-many)
+      ∙ ap (λ (m : ℕ). let r : Refactored = record { factors = tableOf (size n o) (result rounded n o); rows = size n o; bound = boundOf m n } in r) own-count
+
+-- A WORD MADE of the operation's steps, with its letters l
+module _ (t n : ℕ) (o : Operation Number) {w : Joined} {l s : List ℕ} {p q : ℕ} (made : Made n (steps o) w l s) (sets : Sets n o p q)
+    (ready : Ready t n o) where
+  six : w .count ≤ 6
+  six = omega (arith, made .many, ready .six)
+
+  there : Sets (w .n) o p q
+  there = subst (λ (m : ℕ). Sets m o p q) (sym (made .rows-are)) sets
+
+  ready-there : Ready t (w .n) o
+  ready-there = subst (λ (m : ℕ). Ready t m o) (sym (made .rows-are)) ready
+
+  pub run-proper : Workable (chosenOf w p q) s × AllSpelled w l
+  run-proper = (own-proper t o w s p q six (made .steps-are) there ready-there, made .prepared .spelled)
+
+  pub run-result : workOf (chosenOf w p q) s ≡ resultOf n o
+  run-result = own-result t o w s p q six (made .steps-are) there ready-there ∙ ap (λ (m : ℕ). resultOf m o) (made .rows-are)

@@ -1,0 +1,54 @@
+-- The code's own step between working a result and keeping it (`Proposed`): k rows with factors and a bound, or a refusal and no rows. Nothing that a caller
+-- sees.
+use Prim.Native.Nat.{ℕ, _<_}
+use mathlib.Core.Path.{_≡_}
+use mathlib.Core.Bool.{cond}
+use mathlib.Core.List.{List}
+use lib.ListN.{replicate}
+use Rattle.number.specs.declared.Number.{Number}
+use Rattle.number.specs.Number.{zeroNumber, rounded}
+use Rattle.words.specs.Word.{Factors}
+use Rattle.words.specs.Operation.{Operation, size, bound, result}
+use Rattle.rule.specs.declared.Refactored.{Refactored}
+use Rattle.table.specs.Table.{tableOf}
+use Rattle.verdict.specs.declared.Refusal.{Refusal}
+use Rattle.verdict.specs.declared.Verdict.{Verdict}
+use Rattle.verdict.specs.declared.Verdict.the-variants.{Accepted, Refused}
+use Rattle.places.specs.declared.Shelf.{Shelf}
+use Rattle.table.specs.Table.{outside}
+use Rattle.places.specs.Shelf.{withTable, Fits}
+use Rattle.operations.specs.Operations.{operationVerdict}
+use Rattle.operations.specs.declared.Bounded.{Bounded}
+use Rattle.operations.specs.declared.Bounded.the-variants as answer
+use Rattle.operations.specs.declared.Proposed.{Proposed}
+use Rattle.operations.specs.declared.Operated.{Operated}
+
+abbrev pub turnedDown : Refusal → Proposed
+turnedDown w = record { answer = answer.Refused w; rows = 0; factors = replicate 64 zeroNumber }
+
+-- k rows with factors b, and the bound e, by a verdict
+abbrev pub proposal : Verdict → ℕ → ℕ → Factors Number → Proposed
+proposal Accepted k e b = record { answer = answer.Bound e; rows = k; factors = tableOf k b }
+proposal (Refused w) k e b = turnedDown w
+
+-- a result of the rule
+unfoldable pub proposed : List Verdict → ℕ → Operation Number → Proposed
+proposed L n o = proposal (operationVerdict L n o) (size n o) (bound n o) (result rounded n o)
+
+-- what the rule's code handed back, put to the test of its exponents
+unfoldable pub rangedOf : Refactored → Proposed
+rangedOf x =
+    cond (outside (x .factors)) (turnedDown (record { number = 14; offset = 0 }))
+    (record { answer = answer.Bound (x .bound); rows = x .rows; factors = x .factors })
+
+-- a result kept at place t
+abbrev pub keptBy : Shelf → ℕ → Proposed → Bounded → Operated
+keptBy s t x (answer.Bound e) = record { shelf = withTable s t (x .rows) (x .factors); answer = answer.Bound e }
+keptBy s t x (answer.Refused w) = record { shelf = s; answer = answer.Refused w }
+
+unfoldable pub kept : Shelf → ℕ → Proposed → Operated
+kept s t x = keptBy s t x (x .answer)
+
+-- what can be kept: where it was not turned down, it fits a place of the shelf
+abbrev pub Keepable : ℕ → Proposed → Type 0
+Keepable t x = (e : ℕ) → x .answer ≡ answer.Bound e → (t < 8) × Fits (x .rows) (x .factors)

@@ -1,0 +1,54 @@
+-- Document 01's marked examples, P1 to P12, as rows of one table (`markedTable`): P1 to P4 of the arithmetic beneath the calls, the others as calls on a shelf,
+-- with what is returned and what is then held.
+use Prim.Native.Nat.{ℕ, _+_, _-_, _^_}
+use mathlib.Core.List.{List, [], _∷_, _++_}
+use lib.IntN.{pos, negsuc}
+use Rattle.number.specs.declared.Number.{Number}
+use Rattle.number.specs.Number.{oneNumber, sumOf, productOf}
+use Rattle.number.specs.Examples.{Row, row, up, down}
+use Rattle.words.specs.Operation.{rowByRow}
+use Rattle.words.specs.Examples.{ones, higher, half, threeHalves, two, fiveHalves, three, large}
+use Rattle.lists.specs.Examples.{plusOneItem, minusOneItem, zeroItem, lentSeven}
+use Rattle.verdict.specs.Report.{accepted, refused}
+use Rattle.places.specs.declared.Shelf.{Shelf}
+use Rattle.places.specs.Shelf.{factorsAt, holding, emptyShelf}
+use Rattle.places.specs.Outcome.{Outcome}
+use Rattle.shelf.specs.Run.{product, inverse, converse, submatrix, minor, carry, run}
+
+-- place 0 holds n rows with all factors one
+abbrev onesOf : ℕ → Shelf
+onesOf n = holding emptyShelf 0 n ones
+
+-- and place 1 the source with two above the diagonal
+abbrev unlike : Shelf
+unlike = holding (onesOf 2) 1 2 higher
+
+-- one row: a number at place 0, one at place 1, two at place 2
+abbrev singles : Number → Shelf
+singles a = holding (holding (holding emptyShelf 0 1 (λ i j. a)) 1 1 ones) 2 1 (λ i j. two)
+
+-- the factors that place 7 holds after a call, k rows
+abbrev held : ℕ → Outcome → List Number
+held k x = rowByRow k (factorsAt (x .shelf) 7)
+
+unfoldable pub markedTable : List Row
+markedTable =
+    row (sumOf (down (2 ^ 31) 31) (down (2 ^ 31) 63)) (down (2 ^ 31) 31)  -- P1: 1 + 2 ^ -32 is 1
+    ∷ row (sumOf (down (2 ^ 31 + 1) 31) (down (2 ^ 31) 63)) (down 2147483650 31)  -- P2: (2 ^ 31 + 1) × 2 ^ -31 plus 2 ^ -32
+    ∷ row (sumOf (up (2 ^ 32 - 1) 0) (down (2 ^ 31) 32)) (up (2 ^ 31) 1)  -- P3: (2 ^ 32 - 1) + 1 / 2
+    ∷ row (productOf (up (2 ^ 32 - 1) 0) (up (2 ^ 32 - 1) 0)) (up 4294967294 32)  -- P4: (2 ^ 32 - 1) squared
+    ∷ row (run (onesOf 2) (product 0 0 7) .report) (accepted (pos 51 ∷ []))  -- P5: all ones, times itself
+    ∷ row (held 2 (run (onesOf 2) (product 0 0 7))) (two ∷ threeHalves ∷ threeHalves ∷ half ∷ [])
+    ∷ row (held 2 (run unlike (product 0 1 7))) (two ∷ fiveHalves ∷ threeHalves ∷ half ∷ [])  -- beside it: the left word, then the right word
+    ∷ row (held 2 (run (onesOf 2) (inverse 0 7))) (two ∷ half ∷ half ∷ half ∷ [])  -- P6
+    ∷ row (held 2 (run (onesOf 2) (converse 0 7))) (two ∷ half ∷ half ∷ half ∷ [])  -- P7
+    ∷ row (run (onesOf 3) (submatrix 0 6 3 7) .report) (accepted (pos 63 ∷ []))  -- P8: rows 2 and 3, columns 1 and 2; the bound goes by the source's rows
+    ∷ row (held 2 (run (onesOf 3) (submatrix 0 6 3 7))) (oneNumber ∷ two ∷ oneNumber ∷ oneNumber ∷ [])
+    ∷ row (run (onesOf 3) (minor 0 5 5) .report) (accepted (pos 2684354560 ∷ negsuc 28 ∷ []))  -- P9: rows and columns 1 and 3: 5
+    ∷ row (held 1 (run (singles three) (inverse 0 7))) (down 2863311531 33 ∷ [])  -- P10: the inverse of 3
+    ∷ row (run (singles large) (product 0 1 7) .report) (accepted (pos 11 ∷ []))  -- P11: times one
+    ∷ row (run (singles large) (product 0 2 7) .report) (refused 14 0)  -- times two
+    ∷ row (run (singles large) (inverse 0 7) .report) (refused 14 0)  -- its inverse
+    ∷ row (run (onesOf 2) (carry 0 (plusOneItem ++ minusOneItem) lentSeven) .report) (accepted [])  -- P12: the list 1, -1
+    ∷ row (run (onesOf 2) (carry 0 (plusOneItem ++ minusOneItem) lentSeven) .items) (zeroItem ++ (minusOneItem ++ (pos 7 ∷ [])))
+    ∷ []

@@ -1,0 +1,77 @@
+-- ONE LIST OF CALLS (document 01, "Shelf calls"): a call as data (`Call`), what it leaves and returns (`run`), and the shelf after a list of calls
+-- (`afterCalls`). Sequences, the C interface and the
+-- console cite this list.
+use Prim.Native.Nat.{ℕ}
+use mathlib.Core.List.{List, [], _∷_}
+use lib.IntN.{ℤ}
+use Rattle.group.specs.Group.{Bytes}
+use Rattle.reader.specs.Matrix.{behindOf}
+use Rattle.lists.specs.Lists.{reversalsCall}
+use Rattle.verdict.specs.Report.{accepted}
+use Rattle.places.specs.declared.Shelf.{Shelf}
+use Rattle.places.specs.Outcome.{Outcome, outcome}
+use Rattle.operations.specs.Operations.{transposeCall, productCall, inverseCall, converseCall, submatrixCall, minorCall}
+use Rattle.shelf.specs.Calls.{loadCall, dropCall, writeCall, carryCall, rowsCall, factorCall}
+
+-- a call with what it is given: places, masks, bytes, items, and last the bytes or items that it is lent to write to
+pub data Call : Type 0 where
+  load : ℕ → List ℕ → Call
+  write : ℕ → List ℕ → Call
+  drop : ℕ → Call
+  product : ℕ → ℕ → ℕ → Call
+  inverse : ℕ → ℕ → Call
+  converse : ℕ → ℕ → Call
+  submatrix : ℕ → ℕ → ℕ → ℕ → Call
+  transpose : ℕ → ℕ → Call
+  minor : ℕ → ℕ → ℕ → Call
+  carry : ℕ → List ℤ → List ℤ → Call
+  reversals : List ℤ → Call
+  rest : List ℕ → Call
+  rows : ℕ → Call
+  factor : ℕ → ℕ → ℕ → Call
+
+-- WHAT A CALL DOES; `rest` returns bytes: the part of those it is given behind the first matrix
+unfoldable pub run : Shelf → Call → Outcome
+run s (load p bytes) = loadCall s p bytes
+run s (write p out) = writeCall s p out
+run s (drop p) = dropCall s p
+run s (product l r t) = productCall s l r t
+run s (inverse p t) = inverseCall s p t
+run s (converse p t) = converseCall s p t
+run s (submatrix p I J t) = submatrixCall s p I J t
+run s (transpose p t) = transposeCall s p t
+run s (minor p I J) = outcome s (minorCall s p I J)
+run s (carry p items out) = carryCall s p items out
+run s (reversals items) = outcome s (reversalsCall items)
+run s (rest bytes) = record { shelf = s; report = accepted []; bytes = behindOf bytes; items = [] }
+run s (rows p) = outcome s (rowsCall s p)
+run s (factor p i j) = outcome s (factorCall s p i j)
+
+-- the bytes of a load are bytes
+abbrev pub Given : Call → Type 0
+Given (load p bytes) = Bytes bytes
+Given (write p out) = Unit {0}
+Given (drop p) = Unit {0}
+Given (product l r t) = Unit {0}
+Given (inverse p t) = Unit {0}
+Given (converse p t) = Unit {0}
+Given (submatrix p I J t) = Unit {0}
+Given (transpose p t) = Unit {0}
+Given (minor p I J) = Unit {0}
+Given (carry p items out) = Unit {0}
+Given (reversals items) = Unit {0}
+Given (rest bytes) = Unit {0}
+Given (rows p) = Unit {0}
+Given (factor p i j) = Unit {0}
+
+-- the shelf after a list of calls, where f gives that after one
+unfoldable pub afterEach : (Shelf → Call → Outcome) → Shelf → List Call → Shelf
+afterEach f s [] = s
+afterEach f s (c ∷ L) = afterEach f (f s c .shelf) L
+
+abbrev pub afterCalls : Shelf → List Call → Shelf
+afterCalls = afterEach run
+
+abbrev pub AllGiven : List Call → Type 0
+AllGiven [] = Unit {0}
+AllGiven (c ∷ L) = Given c × AllGiven L
