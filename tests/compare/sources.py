@@ -175,6 +175,11 @@ def random_item(rng):
     return ITEM_ZERO if rng.random() < 0.25 else (rng.choice((-1, 1)),) + spread_number(rng, rng.choice((1, 30, EDGE)))
 
 
+def still_or_moving(rng):
+    """An item of a list with standstills: zero as often as not."""
+    return ITEM_ZERO if rng.random() < 0.5 else (rng.choice((-1, 1)),) + whole_number(rng, 4)
+
+
 def bad_item(rng):
     """An item not of the stated form, in a form that the console passes on."""
     m, e = spread_number(rng, 20)
