@@ -1,5 +1,4 @@
--- The first n items of a row, one after the other, and what loops over them come to: items outside found (`outside-here`, `outside-later`), items written
--- (`write-next`).
+-- What loops over the first n items of a row come to: items outside found (`outside-here`, `outside-later`), items written (`write-next`).
 use mathlib.Core.Path.{_≡_, sym, ap, ap₂, _∙_}
 use mathlib.Core.Bool.{Bool, true, false, _||_}
 use mathlib.Core.List.{List}

@@ -1,16 +1,14 @@
 -- A LIST CARRIED, AS ROUNDED, HAS NO MORE REVERSALS THAN IT HAD (`carried-steady`): any number of rows, any factors, any list, since the letters of the signed
 -- word are not negative (`word-steady`). So an accepted carry keeps its promise (`carry-steady`): what it wrote reads back as the carried list.
-use mathlib.Core.Path.{_≡_, refl, sym, ap, _∙_, subst}
-use mathlib.Core.Bool.{Bool, not, _&&_}
+use mathlib.Core.Path.{_≡_, refl, ap, _∙_, subst}
+use mathlib.Core.Bool.{not}
 use mathlib.Core.List.{List, [], _∷_}
 use mathlib.Core.Option.{Option, some, Option·getD}
 use Prim.Native.Nat.{ℕ, _*_, _≤_}
 use native.Mathlib.Omega.{arith}
 use borrow.Author.Tests.{le-leb}
-use lib.Dec.{leb}
 use lib.IntN.{ℤ, pos}
 use lib.ListN.{length, take}
-use Rattle.verdict.specs.declared.Verdict.{Verdict}
 use Rattle.verdict.specs.declared.Verdict.the-variants.{Accepted}
 use Rattle.verdict.specs.Verdict.{when, firstBehind, firstOf}
 use Rattle.verdict.specs.Report.{accepted, reportOf}

@@ -52,6 +52,6 @@ listTable =
     ∷ row (reversalsCall (plusOneItem ++ zeroItem ++ plusOneItem)) (accepted (pos 0 ∷ []))
     ∷ row (reversalsCall (zeroItem ++ zeroItem)) (accepted (pos 0 ∷ []))
     ∷ row (reversalsCall (zeroItem ++ plusOneItem ++ zeroItem ++ zeroItem ++ minusOneItem ++ zeroItem ++ plusOneItem)) (accepted (pos 2 ∷ []))
-    ∷ row (reversalsCall (plusOneItem ++ minusOneItem ++ (pos 0 ∷ pos 0 ∷ pos 1 ∷ []))) (refused 9 0)  -- the last item is none: nothing is counted
+    ∷ row (reversalsCall (plusOneItem ++ minusOneItem ++ (pos 0 ∷ pos 0 ∷ pos 1 ∷ []))) (refused 9 0)  -- the last is no item, so nothing is counted
     ∷ row (reversalsCall []) (refused 9 0)
     ∷ []

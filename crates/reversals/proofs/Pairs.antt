@@ -1,7 +1,7 @@
 -- THE COUNT IS THAT OF THE PAPER'S PAIRS (`reversals-pairs`). By the items before k: the one pair that ends at item k, if there is one, starts at the last item
 -- before it that is not zero (`ending`), which is what the one pass keeps.
 use mathlib.Core.Path.{_≡_, refl, sym, ap, ap₂, _∙_}
-use mathlib.Core.Bool.{Bool, true, false, not, cond, xor, _&&_}
+use mathlib.Core.Bool.{Bool, true, false, not, cond, xor, _&&_, and-true, and-false, and-assoc}
 use mathlib.Core.List.{List, [], _∷_, _++_}
 use Prim.Native.Nat.{ℕ, zero, suc, _+_, _≤_, _<_}
 use native.Mathlib.Omega.{arith}
@@ -26,19 +26,11 @@ unfolding countBelow
 count-none zero f h = refl
 count-none (suc k) f h = omega (arith, count-none k f (λ i l. h i (omega arith)), ap counted (h k (omega arith)))
 
--- ---- tests joined
-and-true : (t : Bool) → (t && true) ≡ t
-and-true true = refl
-and-true false = refl
-
-and-assoc : (s t u : Bool) → (s && (t && u)) ≡ ((s && t) && u)
-and-assoc true t u = refl
-and-assoc false t u = refl
-
+-- ---- zeros
 all-zero-last : (L : List Signed) (a : Signed) → allZero (L ++ (a ∷ [])) ≡ (allZero L && isZeroItem a)
 unfolding allZero
 all-zero-last [] a = and-true (isZeroItem a)
-all-zero-last (b ∷ L) a = ap (λ t. isZeroItem b && t) (all-zero-last L a) ∙ and-assoc (isZeroItem b) (allZero L) (isZeroItem a)
+all-zero-last (b ∷ L) a = ap (λ t. isZeroItem b && t) (all-zero-last L a) ∙ sym (and-assoc (isZeroItem b) (allZero L) (isZeroItem a))
 
 -- zero is opposite to nothing
 opposite-zero : (a b : Signed) → isZeroItem a ≡ true → opposite a b ≡ false
@@ -65,7 +57,7 @@ module _ (L : List Signed) where
       (ap allZero
       (ap (drop (suc i)) (take-suc L k zeroSigned g) ∙ drop-append-le (suc i) (take k L) (item k ∷ []) (omega (arith, length-take k L)))
       ∙ all-zero-last (between L i k) (item k))
-      ∙ and-assoc (opposite (item i) b) (allZero (between L i k)) (isZeroItem (item k))
+      ∙ sym (and-assoc (opposite (item i) b) (allZero (between L i k)) (isZeroItem (item k)))
 
   pair-nearest : (b : Signed) (k : ℕ) → pairWith b (suc k) k ≡ opposite (item k) b
   unfolding allZero
@@ -81,10 +73,6 @@ module _ (L : List Signed) where
     where
       next : (z : Bool) → isZeroItem (item k) ≡ z → (i : ℕ) → i < k → pairWith b (suc k) i ≡ (pairWith b k i && z)
       next z e i l = pair-next b i k l (omega arith) ∙ ap (λ t. pairWith b k i && t) e
-
-      and-false : (t : Bool) → (t && false) ≡ false
-      and-false true = refl
-      and-false false = refl
 
       by : countBelow k (pairWith b k) ≡ turn (lastBefore k) b → (z : Bool) → isZeroItem (item k) ≡ z
           → countBelow k (pairWith b (suc k)) + counted (pairWith b (suc k) k) ≡ turn (latest (lastBefore k) (item k)) b

@@ -2,7 +2,7 @@
 -- number that is not negative, or a quotient by one, keeps the sign or has none (`product-own`, `quotient-own`). Nothing is asked of exponents. Rounding enters
 -- by one law alone: zero rounds to zero.
 use mathlib.Core.Path.{_≡_, refl, sym, ap, ap₂, _∙_, subst}
-use mathlib.Core.Bool.{Bool, true, false, not, cond, xor, _&&_}
+use mathlib.Core.Bool.{Bool, true, false, not, cond, xor, _&&_, and-true}
 use Prim.Native.Nat.{ℕ, zero, suc, _+_, _-_, _*_, _^_, _<_, min}
 use native.Mathlib.Omega.{arith}
 use borrow.Author.Tests.{eq-eqb, ne-eqb, eqb-false, ltb-true}
@@ -91,15 +91,11 @@ own-sign a s p e h = by (p .m) refl
     marked : Bool → Sign
     marked z = signBy z (s && not z)
 
-    as-marked : (s : Bool) → signBy false s ≡ signBy false (s && true)
-    as-marked true = refl
-    as-marked false = refl
-
     by : (m : ℕ) → p .m ≡ m → Between none (signBy (isZeroItem a) (a .negative)) (marked (eqb (p .m) 0))
     by zero f = between-other (sym (ap marked (eq-eqb (p .m) 0 f)))
     by (suc m) f =
         let z : isZeroItem a ≡ false = ne-eqb (a .size .m) 0 (λ g. omega (arith, h g)) in
-        between-own (ap₂ signBy z (sym e) ∙ as-marked s ∙ sym (ap marked (ne-eqb (p .m) 0 (λ g. omega arith))))
+        between-own (ap₂ signBy z (sym e) ∙ ap (signBy false) (sym (and-true s)) ∙ sym (ap marked (ne-eqb (p .m) 0 (λ g. omega arith))))
 
 -- w is not negative
 module _ (a w : Signed) (plus-w : w .negative ≡ false) where

@@ -14,7 +14,7 @@ use Rattle.words.specs.Word.{Letter, E, Et, D, Dinv, Word, forUp}
 use Rattle.words.specs.Walk.{carry, carryLetter}
 use Rattle.words.proofs.Walks.{All, Rows}
 use Rattle.reversals.specs.Reversals.{reversals}
-use Rattle.reversals.proofs.Signs.{none, sign, turns, signs, Pair, first, second, pair-fewer, thinned, reversals-turns}
+use Rattle.reversals.proofs.Signs.{none, sign, turns, signs, first, second, pair-fewer, thinned, reversals-turns}
 use Rattle.reversals.proofs.Rounded.{product-own, quotient-own, added-between}
 
 -- the numbers of a letter are not negative

@@ -53,7 +53,7 @@ module _ (s : Shelf) (p : ℕ) (items out : List ℤ) where
   unfolding carryCall itemsAfterCarry
   call-steady good h =
       let u = or-else-both (firstOf (sourceTests s p)) listVerdict
-          (sym (first-append (sourceTests s p) (carryTests (rowsAt s p) (factorsAt s p) items out)) ∙ h) in
+      (sym (first-append (sourceTests s p) (carryTests (rowsAt s p) (factorsAt s p) items out)) ∙ h) in
       let held = source-accepted s p (u .0) in
       let fits = good .held p (held .small) in
       subst (λ (z : List ℤ). NoMoreReversals items (take (length items) z))

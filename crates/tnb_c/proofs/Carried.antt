@@ -11,7 +11,7 @@ use lib.ListN.{length}
 use Rattle.verdict.specs.declared.Verdict.the-variants.{Accepted}
 use Rattle.verdict.specs.Verdict.{firstOf}
 use Rattle.lists.specs.Items.{listOf, proper}
-use Rattle.lists.specs.Lists.{itemsOf, carriedList, anyOutside}
+use Rattle.lists.specs.Lists.{itemsOf, carriedList, anyOutside, carryTests}
 use Rattle.places.specs.declared.Shelf.{Shelf}
 use Rattle.places.specs.Shelf.{rowsAt, factorsAt, Good}
 use Rattle.places.specs.Check.{isGood}
@@ -31,29 +31,30 @@ module _ (s : Shelf) (p : ℕ) (given out : List ℤ) where
   tests-numbered =
       let n = rowsAt s p in
       let outside = anyOutside (carriedList n (factorsAt s p) (itemsOf given)) in
-      (numbered (above p) 0, (numbered (empty s p) 10,
-      (numbered (not (proper n n (listOf given))) 8, (numbered outside 13, (numbered (ltb (length out) (3 * n)) 9, tt)))))
+      let lists : AllNumbered (carryTests n (factorsAt s p) given out) =
+      (numbered (not (proper n n (listOf given))) 8, (numbered outside 13, (numbered (ltb (length out) (3 * n)) 9, tt))) in
+      (numbered (above p) 0, (numbered (empty s p) 10, lists))
 
   -- what an outcome promises of the list that it leaves
-  abbrev Kept : Outcome → Type 0
-  Kept x = SteadyStatus (statusOf (x .report)) given (x .items)
+  abbrev SteadyOutcome : Outcome → Type 0
+  SteadyOutcome x = SteadyStatus (statusOf (x .report)) given (x .items)
 
-  own : Good s → Kept (carryCall s p given out)
+  own : Good s → SteadyOutcome (carryCall s p given out)
   unfolding carryCall
   own good z =
       let v = firstOf (placeCarryTests s p given out) in
       call-steady s p given out good (numbered-accepted v (behind-numbered Accepted (placeCarryTests s p given out) tt tests-numbered) z)
 
-  pub carry-answered : Good s → Kept (checked s (carry p given out))
+  pub carry-answered : Good s → SteadyOutcome (checked s (carry p given out))
   unfolding run
-  carry-answered good = subst Kept (run-checked s (carry p given out) (good-tested s good)) (own good)
+  carry-answered good = subst SteadyOutcome (run-checked s (carry p given out) (good-tested s good)) (own good)
 
   -- 255 is not 0
-  pub carry-away : isGood s ≡ false → Kept (checked s (carry p given out))
-  carry-away e = subst Kept (foreign-checked s (carry p given out) e) (λ z. absurd (omega arith))
+  pub carry-away : isGood s ≡ false → SteadyOutcome (checked s (carry p given out))
+  carry-away e = subst SteadyOutcome (foreign-checked s (carry p given out) e) (λ z. absurd (omega arith))
 
   -- what a call answered and left is known to equal: the contract's three clauses
-  pub with-steady : (a : Status) (last : List ℤ) → Kept (checked s (carry p given out)) → a ≡ statusOf (checked s (carry p given out) .report)
+  pub with-steady : (a : Status) (last : List ℤ) → SteadyOutcome (checked s (carry p given out)) → a ≡ statusOf (checked s (carry p given out) .report)
       → last ≡ checked s (carry p given out) .items
       → (a ≡ statusOf (checked s (carry p given out) .report)) × ((last ≡ checked s (carry p given out) .items) × SteadyStatus a given last)
   with-steady a last k e f = (e, (f, rw (e, f) k))
