@@ -1,7 +1,7 @@
 -- THE COUNT IS THAT OF THE PAPER'S PAIRS (`reversals-pairs`). By the items before k: the one pair that ends at item k, if there is one, starts at the last item
 -- before it that is not zero (`ending`), which is what the one pass keeps.
 use mathlib.Core.Path.{_≡_, refl, sym, ap, ap₂, _∙_}
-use mathlib.Core.Bool.{Bool, true, false, not, cond, xor, _&&_, and-true, and-false, and-assoc}
+use mathlib.Core.Bool.{Bool, true, false, cond, _&&_, and-true, and-false, and-assoc}
 use mathlib.Core.List.{List, [], _∷_, _++_}
 use Prim.Native.Nat.{ℕ, zero, suc, _+_, _≤_, _<_}
 use native.Mathlib.Omega.{arith}
@@ -35,7 +35,7 @@ all-zero-last (b ∷ L) a = ap (λ t. isZeroItem b && t) (all-zero-last L a) ∙
 -- zero is opposite to nothing
 opposite-zero : (a b : Signed) → isZeroItem a ≡ true → opposite a b ≡ false
 unfolding opposite
-opposite-zero a b e = ap (λ z. not z && (not (isZeroItem b) && xor (a .negative) (b .negative))) e
+opposite-zero a b e = simp e
 
 module _ (L : List Signed) where
   abbrev item : ℕ → Signed

@@ -32,21 +32,21 @@ sized l a h = by (a .size .m) refl
     by zero e = absurd (omega (arith, ap (λ (m : ℕ). m * 2 ^ (a .size .x - l)) e))
     by (suc m) e = ne-eqb (a .size .m) 0 (λ f. omega arith)
 
-in-negative : (l : ℕ) (a : Signed) → 0 < negativePart l a → sign a ≡ minus
-unfolding sign
-in-negative l a = by (a .negative) refl
-  where
-    by : (t : Bool) → a .negative ≡ t → 0 < cond t (integerAt l (a .size)) 0 → signBy (isZeroItem a) (a .negative) ≡ minus
-    by true e h = ap₂ signBy (sized l a h) e
-    by false e h = absurd (omega arith)
+-- what a number adds to the negative part of a sum (t is true), or to the positive part
+abbrev part : Bool → ℕ → Signed → ℕ
+part t l a = cond (a .negative) (cond t (integerAt l (a .size)) 0) (cond t 0 (integerAt l (a .size)))
 
-in-positive : (l : ℕ) (a : Signed) → 0 < positivePart l a → sign a ≡ plus
+-- where that is not zero, it has that sign
+in-part : (t : Bool) (l : ℕ) (a : Signed) → 0 < part t l a → sign a ≡ signBy false t
 unfolding sign
-in-positive l a = by (a .negative) refl
+in-part t l a = by (a .negative) t refl
   where
-    by : (t : Bool) → a .negative ≡ t → 0 < cond t 0 (integerAt l (a .size)) → signBy (isZeroItem a) (a .negative) ≡ plus
-    by false e h = ap₂ signBy (sized l a h) e
-    by true e h = absurd (omega arith)
+    by : (s t : Bool) → a .negative ≡ s → 0 < cond s (cond t (integerAt l (a .size)) 0) (cond t 0 (integerAt l (a .size)))
+        → signBy (isZeroItem a) (a .negative) ≡ signBy false t
+    by true true e h = ap₂ signBy (sized l a h) e
+    by true false e h = absurd (omega arith)
+    by false true e h = absurd (omega arith)
+    by false false e h = ap₂ signBy (sized l a h) e
 
 -- a rounded p - q has no sign, or is negative and q is not zero, or positive and p is not
 rounded-sign : (p q x : ℕ) (S : Sign → Type 0) → S none → (0 < q → S minus) → (0 < p → S plus) → S (sign (signedRound p q x))
@@ -71,16 +71,17 @@ rounded-sign p q x S n m u = by (ltb p q) refl
 pub sum-between : (a b : Signed) → Between (sign b) (sign a) (sign (signedSum a b))
 unfolding signedSum
 sum-between a b =
-    rounded-sign (positivePart l a + positivePart l b) (negativePart l a + negativePart l b) l (Between (sign b) (sign a)) neither
-    (λ h. either (negativePart l a) (negativePart l b) h (λ g. between-own (in-negative l a g)) (λ g. between-other (in-negative l b g)))
-    (λ h. either (positivePart l a) (positivePart l b) h (λ g. between-own (in-positive l a g)) (λ g. between-other (in-positive l b g)))
+    rounded-sign (positivePart l a + positivePart l b) (negativePart l a + negativePart l b) l (Between (sign b) (sign a)) neither (shown true) (shown false)
   where
     l : ℕ
     l = min (a .size .x) (b .size .x)
 
-    either : {A : Type 0} (i j : ℕ) → 0 < i + j → (0 < i → A) → (0 < j → A) → A
-    either zero j h f g = g (omega arith)
-    either (suc i) j h f g = f (omega arith)
+    shown : (t : Bool) → 0 < part t l a + part t l b → Between (sign b) (sign a) (signBy false t)
+    shown t = either (part t l a) (part t l b) (λ h. between-own (in-part t l a h)) (λ h. between-other (in-part t l b h))
+      where
+        either : {A : Type 0} (i j : ℕ) → (0 < i → A) → (0 < j → A) → 0 < i + j → A
+        either zero j f g h = g (omega arith)
+        either (suc i) j f g h = f (omega arith)
 
 -- ---- products and quotients
 -- the sign of a, on a number that is zero where a is
