@@ -10,19 +10,19 @@ use lib.Seq.{take-suc, drop-cons, drop-append-le, drop-length}
 use Rattle.number.specs.Signed.{zeroSigned}
 use Rattle.number.specs.declared.signed.Signed.{Signed}
 use Rattle.reversals.specs.Reversals.{isZeroItem, opposite, turn, latest, reversalsBehind, reversals}
-use Rattle.reversals.specs.Reversals.{between, allZero, isReversal, countBelow, pairsBelow, reversalPairs}
+use Rattle.reversals.specs.Reversals.{between, allZero, isReversal, howManyBelow, pairsBelow, reversalPairs}
 
 -- ---- counting
 abbrev counted : Bool → ℕ
 counted t = cond t 1 0
 
-count-same : (k : ℕ) (f g : ℕ → Bool) → ((i : ℕ) → i < k → f i ≡ g i) → countBelow k f ≡ countBelow k g
-unfolding countBelow
+count-same : (k : ℕ) (f g : ℕ → Bool) → ((i : ℕ) → i < k → f i ≡ g i) → howManyBelow k f ≡ howManyBelow k g
+unfolding howManyBelow
 count-same zero f g h = refl
 count-same (suc k) f g h = ap₂ _+_ (count-same k f g (λ i l. h i (omega arith))) (ap counted (h k (omega arith)))
 
-count-none : (k : ℕ) (f : ℕ → Bool) → ((i : ℕ) → i < k → f i ≡ false) → countBelow k f ≡ 0
-unfolding countBelow
+count-none : (k : ℕ) (f : ℕ → Bool) → ((i : ℕ) → i < k → f i ≡ false) → howManyBelow k f ≡ 0
+unfolding howManyBelow
 count-none zero f h = refl
 count-none (suc k) f h = omega (arith, count-none k f (λ i l. h i (omega arith)), ap counted (h k (omega arith)))
 
@@ -66,16 +66,16 @@ module _ (L : List Signed) where
       ∙ and-true (opposite (item k) b)
 
   -- of the first k items only the last that is not zero can make one with b
-  ending : (b : Signed) (k : ℕ) → k ≤ length L → countBelow k (pairWith b k) ≡ turn (lastBefore k) b
-  unfolding countBelow lastBefore
+  ending : (b : Signed) (k : ℕ) → k ≤ length L → howManyBelow k (pairWith b k) ≡ turn (lastBefore k) b
+  unfolding howManyBelow lastBefore
   ending b zero h = sym (ap counted (opposite-zero zeroSigned b refl))
   ending b (suc k) h = by (ending b k (omega arith)) (isZeroItem (item k)) refl
     where
       next : (z : Bool) → isZeroItem (item k) ≡ z → (i : ℕ) → i < k → pairWith b (suc k) i ≡ (pairWith b k i && z)
       next z e i l = pair-next b i k l (omega arith) ∙ ap (λ t. pairWith b k i && t) e
 
-      by : countBelow k (pairWith b k) ≡ turn (lastBefore k) b → (z : Bool) → isZeroItem (item k) ≡ z
-          → countBelow k (pairWith b (suc k)) + counted (pairWith b (suc k) k) ≡ turn (latest (lastBefore k) (item k)) b
+      by : howManyBelow k (pairWith b k) ≡ turn (lastBefore k) b → (z : Bool) → isZeroItem (item k) ≡ z
+          → howManyBelow k (pairWith b (suc k)) + counted (pairWith b (suc k) k) ≡ turn (latest (lastBefore k) (item k)) b
       by before true e =
           omega (
             arith,

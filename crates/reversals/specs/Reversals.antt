@@ -48,13 +48,13 @@ abbrev pub isReversal : List Signed → ℕ → ℕ → Bool
 isReversal L i k = opposite (getD L i zeroSigned) (getD L k zeroSigned) && allZero (between L i k)
 
 -- how many i below k have a property, and how many pairs i < k below n
-unfoldable pub countBelow : ℕ → (ℕ → Bool) → ℕ
-countBelow zero f = 0
-countBelow (suc k) f = countBelow k f + cond (f k) 1 0
+unfoldable pub howManyBelow : ℕ → (ℕ → Bool) → ℕ
+howManyBelow zero f = 0
+howManyBelow (suc k) f = howManyBelow k f + cond (f k) 1 0
 
 unfoldable pub pairsBelow : ℕ → (ℕ → ℕ → Bool) → ℕ
 pairsBelow zero f = 0
-pairsBelow (suc k) f = pairsBelow k f + countBelow k (λ i. f i k)
+pairsBelow (suc k) f = pairsBelow k f + howManyBelow k (λ i. f i k)
 
 -- how many pairs of items are reversals
 abbrev pub reversalPairs : List Signed → ℕ
