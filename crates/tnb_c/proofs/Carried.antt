@@ -1,5 +1,5 @@
--- THE PROMISE OF A CARRY in C (`carry-answered`; `carry-away` of a shelf that is turned away): a status with number 0 is that of an accepted carry, since 255 is
--- not 0 and every test of a carry has a number above 0; and an accepted carry adds no reversal (`call-steady`).
+-- THE PROMISE OF A CARRY in C (`carry-answered`; `carry-away` of a shelf that is turned away): a status with number 0 is that of an accepted carry, since 255
+-- is not 0 and every test of a carry has a number above 0; and an accepted carry adds no reversal (`call-steady`).
 use Prim.Native.Nat.{ℕ, _*_}
 use native.Mathlib.Omega.{arith}
 use mathlib.Core.Path.{_≡_, subst}

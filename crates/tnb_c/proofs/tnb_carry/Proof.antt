@@ -1,4 +1,4 @@
--- `tnb_carry` meets its contract: on a good shelf it answers as the shelf's own carry does, else 255; the promise holds of both (`carry-answered`, `carry-away`).
+-- `tnb_carry` meets its contract: on a good shelf it answers as the shelf's own carry does, else 255; the promise holds of both (laws in Carried).
 use mathlib.Core.Path.{refl, sym, ap, _∙_}
 use Rattle.places.specs.Outcome.{Outcome}
 use Rattle.shelf.specs.Run.{carry, run}
