@@ -8,6 +8,7 @@ from encoding import encode, read_matrix, read_single
 from exact import exact_run
 from model import Shelf, shown
 from number import HIGH, ITEM_ZERO, LOW, ONE, add, multiply, round_fraction, value
+from sources import unit_items
 from words import POSITION, Matrix, Walker, bound, carry, count, minor, operate, reversals
 
 
@@ -68,17 +69,13 @@ def marked_calls(rng, rounds):
     same([str(x) for x in exact_run("product", [ones(2), ones(2)])], ["2", "3/2", "3/2", "1/2"])
 
 
-def signed(*signs):
-    return [(sign,) + ONE if sign else ITEM_ZERO for sign in signs]
-
-
 @check
 def standstills(rng, rounds):
     """Document 02, (b): zeros are passed over."""
     cases = [((1, 0, -1), 1), ((1, -1), 1), ((1, 0, 1), 0), ((0, 0), 0), ((0,), 0), ((-1,), 0), ((0, -1), 0), ((-1, 0), 0), ((1, -1, 1), 2),
              ((0, 1, 0, 0, -1, 0, 1), 2), ((-1, 0, 0, 0, 0, 0, 0, 1), 1), ((1, -1, 1, -1, 1, -1, 1, -1), 7)]
-    same([reversals(signed(*signs)) for signs, _ in cases], [wanted for _, wanted in cases])
-    same(refused(Shelf.reversals, signed(1, -1) + [(0, 0, 1)]), (9, 0))
+    same([reversals(unit_items(signs)) for signs, _ in cases], [wanted for _, wanted in cases])
+    same(refused(Shelf.reversals, unit_items((1, -1)) + [(0, 0, 1)]), (9, 0))
     points = [(1,) + number(5), ITEM_ZERO, (-1,) + number(3), (1,) + ONE]
     same(carry(ones(4), points), [(1,) + number(3), ITEM_ZERO, (-1,) + number(3), (-1,) + number(5)])
     same([reversals(points), reversals(carry(ones(4), points))], [2, 1])
