@@ -1,7 +1,7 @@
 -- Reversals by signs alone. A list of signs has no more turns where a sign is left out (`fewer`), where one beside a neighbour takes that neighbour's sign or
 -- none (`pair-fewer`), or where signs become none (`thinned`); and the reversals of items are the turns of their signs (`reversals-turns`).
 use mathlib.Core.Path.{_≡_, refl, sym, ap, ap₂, _∙_, subst}
-use mathlib.Core.Bool.{Bool, true, false, not, cond, xor, _&&_}
+use mathlib.Core.Bool.{Bool, true, false, cond, xor}
 use mathlib.Core.List.{List, [], _∷_}
 use Prim.Native.Nat.{ℕ, zero, suc, _+_, _≤_, _<_}
 use native.Mathlib.Nat.{le-refl}
@@ -157,16 +157,16 @@ module _ (s t : ℕ → Sign) where
 -- ---- reversals are turns
 turn-signs : (a b : Signed) → turn a b ≡ turning (sign a) (sign b)
 unfolding opposite sign xor
-turn-signs a b = by (isZeroItem a) (isZeroItem b) (a .negative) (b .negative)
+turn-signs a b = by (isZeroItem a) (isZeroItem b) (a .negative) (b .negative) refl refl refl refl
   where
-    by : (y z s t : Bool) → cond (not y && (not z && xor s t)) 1 0 ≡ turning (signBy y s) (signBy z t)
-    by true z s t = refl
-    by false true true t = refl
-    by false true false t = refl
-    by false false true true = refl
-    by false false true false = refl
-    by false false false true = refl
-    by false false false false = refl
+    by : (y z s t : Bool) → isZeroItem a ≡ y → isZeroItem b ≡ z → a .negative ≡ s → b .negative ≡ t → turn a b ≡ turning (sign a) (sign b)
+    by true z s t e f g h = simp e
+    by false true true t e f g h = simp (e, f, g)
+    by false true false t e f g h = simp (e, f, g)
+    by false false true true e f g h = simp (e, f, g, h)
+    by false false true false e f g h = simp (e, f, g, h)
+    by false false false true e f g h = simp (e, f, g, h)
+    by false false false false e f g h = simp (e, f, g, h)
 
 latest-sign : (a b : Signed) → sign (latest a b) ≡ later (sign a) (sign b)
 unfolding sign
