@@ -22,10 +22,11 @@
 extern "C" {
 #endif
 
-/* The version of this header and of the archive built beside it. It rises whenever a struct changes its size or a call or a number is added. A
- * program that uses only what stands here, and not the inside of a shelf, compiles again with every later version; it is compiled again for
- * each, since structs go by value. Later versions may refuse with numbers that are not listed yet: test for TNB_ACCEPTED. */
-#define TNB_VERSION 1
+/* The version of this header and of the archive built beside it. It rises whenever a struct changes its size, a call or a number is added, or a call
+ * answers otherwise than before (2: tnb_reversals passes over zeros). A program that uses only what stands here, and not the inside of a shelf,
+ * compiles again with every later version; it is compiled again for each, since structs go by value. Later versions may refuse with numbers that are
+ * not listed yet: test for TNB_ACCEPTED. */
+#define TNB_VERSION 2
 
 /* The numbers of answers. */
 enum {
@@ -126,10 +127,13 @@ size_t tnb_rest(const uint8_t *bytes, size_t count);
 
 /* Carries n items through the matrix of a place, n being its rows, into a second list. An item is three numbers: sign (-1, 0 or 1),
  * mantissa and exponent; zero is 0, 0, 0. count and room count numbers, three to an item. Nothing past the first 3 n numbers of out is
- * changed. Refusals 1, 11, 9, 14, 10. */
+ * changed. Refusals 1, 11, 9, 14, 10.
+ * The list that an accepted carry wrote never has more reversals than the list that it was given: tnb_reversals(out, count) answers at most what
+ * tnb_reversals(items, count) answers. That is part of the proved contract, for the numbers as they are rounded. */
 tnb_status tnb_carry(tnb_shelf shelf, size_t place, const int64_t *items, size_t count, int64_t *out, size_t room);
 
-/* Counts the reversals of a list of 1 to 8 items, three numbers each: neighbours of which one is positive and one negative. Refusal 9. */
+/* Counts the reversals of a list of 1 to 8 items, three numbers each: pairs of nonzero items of opposite sign with only zeros between. A standstill is
+ * passed over: 1, 0, -1 has one reversal. All items are judged before any is counted. Refusal 9. */
 tnb_length tnb_reversals(const int64_t *items, size_t count);
 
 #ifdef __cplusplus

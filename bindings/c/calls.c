@@ -1,4 +1,4 @@
-/* Every call once, with the values that document 01 gives, and NULL with length 0. Prints the first call that answers otherwise; exit status 1 then. */
+/* Every call once, with the values that documents 01 and 02 give, and NULL with length 0. Prints the first call that answers otherwise; exit status 1 then. */
 #include "beechcrib.h"
 #include <stdio.h>
 #include <stdlib.h>
@@ -7,6 +7,7 @@
 static const uint8_t two[] = {2, 0xca, 7, 0, 0xca, 7, 0, 0xca, 7, 0, 0xca, 7, 0, 0xff};
 static const uint8_t three[] = {3, 0xca, 7, 0, 0xca, 7, 0, 0xca, 7, 0, 0xca, 7, 0, 0xca, 7, 0, 0xca, 7, 0, 0xca, 7, 0, 0xca, 7, 0, 0xca, 7, 0};
 static const int64_t list[] = {1, 2147483648, -31, -1, 2147483648, -31};
+static const int64_t standstill[] = {1, 2147483648, -31, 0, 0, 0, -1, 2147483648, -31};
 
 static void want(int right, const char *call)
 {
@@ -70,9 +71,11 @@ static void lists(tnb_shelf s)
 {
     int64_t out[7] = {7, 7, 7, 7, 7, 7, 7};
     want(tnb_reversals(list, 6).length == 1 && tnb_reversals(list, 5).number == TNB_BAD_LIST, "reversals");
+    want(tnb_reversals(standstill, 9).length == 1 && tnb_reversals(standstill, 6).length == 0, "reversals, a standstill");
     want(tnb_carry(s, 0, list, 6, out, 5).number == TNB_OUTPUT_TOO_SHORT && out[0] == 7, "carry, no room");
     want(tnb_carry(s, 0, list, 6, out, 7).number == TNB_ACCEPTED, "carry");
     want(out[0] == 0 && out[1] == 0 && out[2] == 0 && out[3] == -1 && out[4] == 2147483648 && out[5] == -31 && out[6] == 7, "carry");
+    want(tnb_reversals(out, 6).number == TNB_ACCEPTED && tnb_reversals(out, 6).length == 0, "reversals of what was carried");
 }
 
 static void writing(tnb_shelf s)
@@ -122,6 +125,6 @@ int main(void)
     writing(s);
     null(s);
     foreign();
-    printf("calls: all as in document 01\n");
+    printf("calls: all as in documents 01 and 02\n");
     return 0;
 }

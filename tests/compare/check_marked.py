@@ -8,7 +8,8 @@ from encoding import encode, read_matrix, read_single
 from exact import exact_run
 from model import Shelf, shown
 from number import HIGH, ITEM_ZERO, LOW, ONE, add, multiply, round_fraction, value
-from words import POSITION, Matrix, Walker, bound, carry, count, minor, operate
+from sources import unit_items
+from words import POSITION, Matrix, Walker, bound, carry, count, minor, operate, reversals
 
 
 def number(x):
@@ -66,6 +67,18 @@ def marked_calls(rng, rounds):
     same(carry(ones(2), [(1,) + ONE, (-1,) + ONE]), [ITEM_ZERO, (-1,) + ONE])
     same([shown(b"", b""), shown(encode(ones(2)), encode(ones(3)))], ["refused 2 at 0\n", "refused 13 at 0\n"])
     same([str(x) for x in exact_run("product", [ones(2), ones(2)])], ["2", "3/2", "3/2", "1/2"])
+
+
+@check
+def standstills(rng, rounds):
+    """Document 02, (b): zeros are passed over."""
+    cases = [((1, 0, -1), 1), ((1, -1), 1), ((1, 0, 1), 0), ((0, 0), 0), ((0,), 0), ((-1,), 0), ((0, -1), 0), ((-1, 0), 0), ((1, -1, 1), 2),
+             ((0, 1, 0, 0, -1, 0, 1), 2), ((-1, 0, 0, 0, 0, 0, 0, 1), 1), ((1, -1, 1, -1, 1, -1, 1, -1), 7)]
+    same([reversals(unit_items(signs)) for signs, _ in cases], [wanted for _, wanted in cases])
+    same(refused(Shelf.reversals, unit_items((1, -1)) + [(0, 0, 1)]), (9, 0))
+    points = [(1,) + number(5), ITEM_ZERO, (-1,) + number(3), (1,) + ONE]
+    same(carry(ones(4), points), [(1,) + number(3), ITEM_ZERO, (-1,) + number(3), (-1,) + number(5)])
+    same([reversals(points), reversals(carry(ones(4), points))], [2, 1])
 
 
 @check

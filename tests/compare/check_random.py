@@ -10,7 +10,7 @@ from model import ORDER, conditions
 from number import (HIGH, ITEM_ZERO, LOW, ONE, ZERO, add, divide, multiply, round_fraction, round_whole, signed_add, slow_add,
                     slow_divide, slow_multiply, slow_signed_add, value)
 from requests import stream
-from words import Matrix, Walker, bound, carry, minor, operate, operation_word, plain_minor, rows_of, transpose
+from words import Matrix, Walker, bound, carry, minor, operate, operation_word, plain_minor, reversals, rows_of, transpose
 
 
 def random_number(rng, spread):
@@ -136,6 +136,21 @@ def carried(rng, rounds):
         wanted = matrix_product(entries_of(powers), [[x[0] * value(x[1:])] for x in signed])
         if n < 4:
             same([x[0] * value(x[1:]) for x in carry(powers, signed)], [exact for [exact] in wanted])
+
+
+@check
+def steady(rng, rounds):
+    """Document 02, (b): a carried list has no more reversals than before, also where sums cancel or round to zero; the count said again without zeros."""
+    for _ in range(2 * rounds):
+        n = rng.randint(1, 8)
+        source = random_matrix(rng, n, rng.choice((0, 3, 40)))
+        spread = rng.choice((0, 3, 40))
+        items = [random_item(rng, spread) for _ in range(n)]
+        carried = carry(source, items)
+        assert reversals(carried) <= reversals(items), (source, items)
+        for listed in (items, carried):
+            moving = [x[0] for x in listed if x[0]]
+            same(reversals(listed), sum(x != y for x, y in zip(moving, moving[1:])))
 
 
 @check

@@ -20,7 +20,7 @@ from garbage import ODD_LINES
 from model import ORDER, conditions
 from number import HIGH, LOW, ONE
 from requests import Stream, stream
-from sources import far_apart, good_masks, spread_number
+from sources import far_apart, good_masks, spread_number, unit_items
 from words import Matrix
 
 HERE = os.path.dirname(os.path.abspath(__file__))
@@ -85,6 +85,19 @@ def sums(maker):
         yield from (f"drop {place}" for place in range(5))
 
 
+def standstills(maker):
+    """Every list of up to four signs counted, the longest lists with one pair, and lists carried between two counts."""
+    for length in range(1, 5):
+        for signs in product((-1, 0, 1), repeat=length):
+            yield f"reversals {text_of_items(unit_items(signs))}"
+    for signs in ((0, 1, 0, 0, -1, 0, 1), (1, 0, 0, 0, 0, 0, 0, -1), (-1, 0, 1, 0, 0, -1, 0, 1), (0,) * 8):
+        yield f"reversals {text_of_items(unit_items(signs))}"
+    for n in range(1, 9):
+        yield load(0, n, [spread_number(maker.rng, 2) for _ in range(n * n)])
+        yield from (line for _ in range(4) for line in maker.counted_carry())
+        yield "drop 0"
+
+
 def borders():
     """Places above 7, lists about the longest and about the most that a call takes, numbers of an item at the ends and one beyond."""
     yield from (f"show {place}" for place in (7, 8, MOST_PLACE))
@@ -102,7 +115,7 @@ def borders():
 def lines(seed, shelf):
     maker = Stream(random.Random(f"frozen {seed}"), shelf)
     yield from marked()
-    for part in (tour, limits, sums):
+    for part in (tour, limits, sums, standstills):
         yield from part(maker)
     yield from borders()
     yield from sweeps.every_order(maker)

@@ -7,10 +7,11 @@ import random
 
 import sweeps
 from console_model import text_of_bytes, text_of_items
-from encoding import encode, rest
+from encoding import Refusal, encode, rest
 from garbage import garbled
 from model import ONE_SOURCE, PLACES
-from sources import aimed, faulty, good_masks, listed, masks, matrix, odd_item, overflowing, random_item
+from sources import aimed, faulty, good_masks, listed, masks, matrix, odd_item, overflowing, random_item, still_or_moving
+from words import reversals
 
 SIZE_WEIGHTS = (12, 20, 20, 16, 11, 8, 6, 6)
 # How readily a matrix of each size is taken for an operation: large ones cost the model a twentieth of a second.
@@ -176,6 +177,26 @@ class Stream:
             items[rng.randrange(length)] = odd_item(rng)
         yield f"reversals {text_of_items(items)}"
 
+    def standstills(self):
+        """Reversals of a list with many zeros."""
+        rng = self.rng
+        yield f"reversals {text_of_items([still_or_moving(rng) for _ in range(rng.randint(1, 8))])}"
+
+    def counted_carry(self):
+        """A list carried between two counts of its reversals: there are never more of them afterwards."""
+        yield from self.filled_source()
+        rng, place = self.rng, self.rng.choice(self.full())
+        n = self.n(place)
+        items = listed(rng, self.shelf.places[place]) if rng.random() < 0.5 else [still_or_moving(rng) for _ in range(n)]
+        yield f"reversals {text_of_items(items)}"
+        yield f"carry {place} {n} {text_of_items(items)}"
+        try:
+            carried = self.shelf.carry(place, items, n)
+        except Refusal:
+            return
+        assert reversals(carried) <= reversals(items), f"{carried} from {items}"
+        yield f"reversals {text_of_items(carried)}"
+
     def bytes_judged(self, data):
         """A load, undone if it is accepted, and the same bytes as a bundle."""
         target = self.rng.choice(self.free())
@@ -222,7 +243,8 @@ class Stream:
 SCENARIOS = (
     (Stream.fill, 30), (Stream.operate, 80), (Stream.chain, 14), (Stream.edge, 24), (Stream.faults, 60), (Stream.drop, 14),
     (Stream.minor, 14), (sweeps.every_minor, 0.1), (Stream.write, 12), (sweeps.every_length, 0.5), (Stream.carry, 25),
-    (Stream.no_items, 1), (Stream.reversals, 8), (Stream.byte_faults, 12), (Stream.load_anywhere, 12), (Stream.random_bytes, 4),
+    (Stream.counted_carry, 8), (Stream.no_items, 1), (Stream.reversals, 4), (Stream.standstills, 4), (Stream.byte_faults, 12),
+    (Stream.load_anywhere, 12), (Stream.random_bytes, 4),
     (sweeps.every_cut, 0.3), (sweeps.every_flip, 0.1), (sweeps.every_order, 0.1), (sweeps.every_gap, 0.1), (Stream.bundle, 4), (Stream.garbage, 12),
 )
 

@@ -7,7 +7,7 @@ good and bad sets.
 from fractions import Fraction
 
 from encoding import encode, group
-from number import HIGH, ITEM_ZERO, LOW, divide, round_fraction, signed_add, signed_multiply, stored
+from number import HIGH, ITEM_ZERO, LOW, ONE, divide, round_fraction, signed_add, signed_multiply, stored
 from words import Matrix, interval, operate, rows_of, word
 
 EDGE = 1000
@@ -173,6 +173,16 @@ def far_neighbours(rng, source):
 
 def random_item(rng):
     return ITEM_ZERO if rng.random() < 0.25 else (rng.choice((-1, 1)),) + spread_number(rng, rng.choice((1, 30, EDGE)))
+
+
+def unit_items(signs):
+    """A list of ones, minus ones and zeros."""
+    return [(sign,) + ONE if sign else ITEM_ZERO for sign in signs]
+
+
+def still_or_moving(rng):
+    """An item of a list with standstills: zero as often as not."""
+    return ITEM_ZERO if rng.random() < 0.5 else (rng.choice((-1, 1)),) + whole_number(rng, 4)
 
 
 def bad_item(rng):

@@ -7,6 +7,7 @@ letter for any arithmetic, one minor at a time. Row sets are masks, bit 0 for ro
 """
 from collections import namedtuple
 from functools import lru_cache
+from itertools import combinations
 
 from number import ITEM_ZERO, ONE, ZERO, add, divide, multiply, signed_add, signed_multiply
 
@@ -202,8 +203,9 @@ def carry(matrix, items):
 
 
 def reversals(items):
-    """Pairs of neighbours, one positive and one negative."""
-    return sum(x[0] * y[0] < 0 for x, y in zip(items, items[1:]))
+    """Pairs of nonzero items of opposite sign with only zeros between: document 02, (b)."""
+    signs = [item[0] for item in items]
+    return sum(signs[i] * signs[k] < 0 and not any(signs[i + 1:k]) for i, k in combinations(range(len(signs)), 2))
 
 
 def bound(kind, n):

@@ -9,11 +9,12 @@ use Rattle.number.specs.Signed.{signedRound, signedSum, signedProduct, withSign
 use Rattle.words.specs.Word.{ascending, descending, word}
 use Rattle.words.specs.Walk.{carry, carryLetter}
 use Rattle.lists.specs.Items.{storable, signedItem, listOf, listNumbers}
-use Rattle.lists.specs.Lists.{opposite, reversalsBehind, carriedVector, anyOutside, itemsAfterCarry, reversalsCall}
+use Rattle.reversals.specs.Reversals.{opposite, reversalsBehind}
+use Rattle.lists.specs.Lists.{carriedVector, anyOutside, itemsAfterCarry, reversalsCall}
 use Rattle.lists.specs.Examples.{listTable}
 
 pub examples : AllHold listTable
 unfolding listTable storable signedItem listOf listNumbers opposite reversalsBehind carriedVector anyOutside itemsAfterCarry reversalsCall firstBehind
     ascending descending word carry carryLetter signedRound signedSum signedProduct withSign
     round renormalised sumOf productOf inRange xor size lib.Ieee.span lib.Ieee.climb
-examples = (refl, (refl, (refl, (refl, (refl, (refl, (refl, (refl, (refl, tt)))))))))
+examples = (refl, (refl, (refl, (refl, (refl, (refl, (refl, (refl, (refl, (refl, (refl, (refl, (refl, tt)))))))))))))

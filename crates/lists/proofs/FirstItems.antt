@@ -1,4 +1,5 @@
--- The first n items of a vector as a list (`first-length`, `first-at`), and so a row that is carried as a vector is carried as a list (`carries-list`).
+-- The first n items of a vector as a list (`first-length`, `first-at`), those of a list of n being that list (`first-back`); and so a row that is carried as a
+-- vector is carried as a list (`carries-list`).
 use mathlib.Core.Path.{_≡_, refl, sym, ap, _∙_}
 use mathlib.Core.List.{List, [], _∷_}
 use Prim.Native.Nat.{ℕ, zero, suc, _+_, _-_, _≤_, _<_}
@@ -32,6 +33,13 @@ first-length n v = ascending-length v 1 (suc n - 1) ∙ (omega arith)
 
 pub first-at : (n : ℕ) (v : ℕ → Signed) (k : ℕ) → k < n → getD (firstItems n v) k zeroSigned ≡ v (k + 1)
 first-at n v k h = ascending-at v 1 (suc n - 1) k zeroSigned (omega arith) ∙ ap v (omega arith)
+
+pub first-back : (n : ℕ) (L : List Signed) → length L ≡ n → firstItems n (vectorOf L) ≡ L
+first-back n L e =
+    ext-getD zeroSigned (firstItems n (vectorOf L)) L (first-length n (vectorOf L) ∙ sym e)
+    (λ k h.
+    let i : k + 1 - 1 ≡ k = omega arith in
+    first-at n (vectorOf L) k (omega (arith, first-length n (vectorOf L))) ∙ ap (λ i. getD L i zeroSigned) i)
 
 pub carries-list : {n : ℕ} (b : Factors Number) (v u : List Signed) → n ≤ 8 → All (StoredLetter n) (signedWord n b) → Carries n (signedWord n b) v u →
     take n u ≡ carriedList n b (take n v)

@@ -9,4 +9,5 @@ pub mod Scaled
 pub mod Spelled
 pub mod FirstItems
 pub mod RoundTrip
+pub mod Steady
 pub mod Examples

@@ -12,6 +12,7 @@ use lib.Dec.{leb, ltb}
 use lib.IntN.{ℤ, pos}
 use lib.ListN.{length, take, getD, set, replicate}
 use lib.Seq.{sets, length-sets}
+use Rattle.arrays.proofs.Runs.{take-sets-front}
 use Rattle.verdict.specs.declared.Refusal.{Refusal}
 use Rattle.verdict.specs.declared.Verdict.{Verdict}
 use Rattle.verdict.specs.declared.Verdict.the-variants.{Accepted, Refused}
@@ -25,10 +26,10 @@ use Rattle.number.proofs.SignedReach.{signed-ranged-zero}
 use Rattle.number.proofs.Tests.{both}
 use Rattle.words.specs.Word.{Factors}
 use Rattle.lists.specs.Items.{blankItems, listOf, listNumbers, proper, listedWithin, listedFrom}
-use Rattle.lists.specs.Lists.{reversals, itemsOf, carriedList, anyOutside, carryTests, itemsAfterCarry, reversalsCall}
+use Rattle.reversals.specs.Reversals.{reversals}
+use Rattle.lists.specs.Lists.{itemsOf, carriedList, anyOutside, carryTests, itemsAfterCarry, reversalsCall}
 use Rattle.lists.specs.Carrying.{ItemsRanged}
 use Rattle.lists.specs.declared.items.ItemList.{ItemList}
-use Rattle.lists.proofs.Fronts.{front-written}
 use Rattle.lists.proofs.Reading.{RangedList, list-ranged}
 
 -- ---- a list as it was read
@@ -92,7 +93,7 @@ read-is least most z r m e = subst (Read least most (listOf z)) (sym e) (go (lis
           ranged = ranged-sets L blankItems 0 u ranged-blank;
           low = λ h. omega (arith, leb-true least (length L) (p .0));
           high = λ h. omega arith;
-          front = λ h. ap (λ (k : ℕ). take k (sets blankItems 0 L)) e ∙ front-written blankItems L (length L) refl (omega arith);
+          front = λ h. ap (λ (k : ℕ). take k (sets blankItems 0 L)) e ∙ take-sets-front (length L) blankItems L refl (omega arith);
         }
 
 pub read-ranged : {least most : ℕ} {o : Option (List Signed)} {r : ItemList} (n : ℕ) → Read least most o r → ItemsRanged 1000 n (r .items)

@@ -10,6 +10,7 @@ use borrow.Author.Tests.{ne-eqb, not-false}
 use lib.IntN.{ℤ, pos, negsuc, natAbs}
 use lib.ListN.{length, getD, take}
 use lib.Seq.{sets}
+use Rattle.arrays.proofs.Runs.{take-sets-front}
 use Rattle.verdict.specs.declared.Verdict.{Verdict}
 use Rattle.verdict.specs.declared.Verdict.the-variants.{Accepted}
 use Rattle.verdict.specs.Verdict.{firstOf, after}
@@ -28,7 +29,6 @@ use Rattle.lists.specs.declared.items.ListItem.{ListItem}
 use Rattle.lists.specs.declared.items.ListItem.the-variants.{Value}
 use Rattle.number.proofs.Integers.{biased-exponent, exponent-near}
 use Rattle.lists.proofs.ItemForms.{item-zero, item-value}
-use Rattle.lists.proofs.Fronts.{front-written}
 use Rattle.lists.proofs.Reading.{RangedList, list-ranged}
 use Rattle.lists.proofs.FirstItems.{first-length, first-at}
 use Rattle.lists.proofs.LetterReach.{carried-reach}
@@ -124,5 +124,5 @@ module _ (n : ℕ) (b : Factors Number) (low : 1 ≤ n) (high : n ≤ 8) (s : Ea
       let L : List Signed = carriedList n b (itemsOf z) in
       let m : length (listNumbers L) ≡ 3 * n = numbers-length L ∙ ap (λ k. 3 * k) (first-length n (carriedVector n b (vectorOf (itemsOf z)))) in
       ap (λ (v : Verdict). listOf (take (3 * n) (after v out (sets out 0 (listNumbers L))))) h
-      ∙ ap listOf (front-written out (listNumbers L) (3 * n) m (a .room))
+      ∙ ap listOf (take-sets-front (3 * n) out (listNumbers L) m (a .room))
       ∙ list-back L (carried-formed (itemsOf z) (a .formed) (a .exact) (a .inside))

@@ -48,6 +48,10 @@ listTable =
     ∷ row (carryRow 1 ones (negsuc 0 ∷ pos 0 ∷ pos 0 ∷ []) lentSeven) (refusedRow 9 lentSeven)  -- a negative zero
     ∷ row (carryRow 1 (λ i j. up (2 ^ 31) 1000) (pos 1 ∷ pos (2 ^ 31) ∷ pos 0 ∷ []) []) (refusedRow 14 [])  -- carried to exponent 1031, with no room either
     ∷ row (reversalsCall (plusOneItem ++ minusOneItem ++ plusOneItem)) (accepted (pos 2 ∷ []))
-    ∷ row (reversalsCall (plusOneItem ++ zeroItem ++ minusOneItem)) (accepted (pos 0 ∷ []))  -- neighbours only
+    ∷ row (reversalsCall (plusOneItem ++ zeroItem ++ minusOneItem)) (accepted (pos 1 ∷ []))  -- 1, 0, -1: a standstill is passed over
+    ∷ row (reversalsCall (plusOneItem ++ zeroItem ++ plusOneItem)) (accepted (pos 0 ∷ []))
+    ∷ row (reversalsCall (zeroItem ++ zeroItem)) (accepted (pos 0 ∷ []))
+    ∷ row (reversalsCall (zeroItem ++ plusOneItem ++ zeroItem ++ zeroItem ++ minusOneItem ++ zeroItem ++ plusOneItem)) (accepted (pos 2 ∷ []))
+    ∷ row (reversalsCall (plusOneItem ++ minusOneItem ++ (pos 0 ∷ pos 0 ∷ pos 1 ∷ []))) (refused 9 0)  -- the last is no item, so nothing is counted
     ∷ row (reversalsCall []) (refused 9 0)
     ∷ []

@@ -12,6 +12,7 @@ use Rattle.number.specs.Integer.{isNegative, biased}
 use Rattle.number.specs.Number.{exponentOf}
 use Rattle.number.specs.Signed.{zeroSigned}
 use Rattle.number.specs.declared.signed.Signed.{Signed}
+use Rattle.reversals.specs.Reversals.{isZeroItem}
 use Rattle.lists.specs.declared.items.ListItem.{ListItem}
 use Rattle.lists.specs.declared.items.ListItem.the-variants.{Value, Malformed}
 use Rattle.lists.specs.declared.items.ItemList.{ItemList}
@@ -44,9 +45,6 @@ listOf (s ∷ m ∷ []) = none
 listOf (s ∷ m ∷ e ∷ z) = itemBefore (signedItem s m e) (listOf z)
 
 -- and back
-abbrev pub isZeroItem : Signed → Bool
-isZeroItem a = eqb (a .size .m) 0
-
 abbrev pub signOf : Signed → ℤ
 signOf a = cond (isZeroItem a) (pos 0) (cond (a .negative) (negsuc 0) (pos 1))
 

@@ -1,4 +1,5 @@
 pub mod Items
 pub mod Lists
+pub mod Promise
 pub mod Carrying
 pub mod Examples

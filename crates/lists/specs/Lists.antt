@@ -1,9 +1,9 @@
 -- The list calls (document 01, "Shelf calls" and its tables of refusals): the tests of a carry and of a count of reversals (`carryTests`,
 -- `reversalsTests`), what a carry writes (`itemsAfterCarry`), and what a count returns (`reversalsCall`).
-use mathlib.Core.Bool.{Bool, false, not, cond, xor, _&&_, _||_}
+use mathlib.Core.Bool.{Bool, false, not, _&&_, _||_}
 use mathlib.Core.List.{List, [], _∷_}
 use mathlib.Core.Option.{Option·getD}
-use Prim.Native.Nat.{ℕ, _+_, _-_, _*_}
+use Prim.Native.Nat.{ℕ, _-_, _*_}
 use lib.Dec.{ltb}
 use lib.IntN.{ℤ, pos}
 use lib.ListN.{length, getD}
@@ -17,27 +17,10 @@ use Rattle.number.specs.declared.Number.{Number}
 use Rattle.number.specs.declared.signed.Signed.{Signed}
 use Rattle.words.specs.Word.{Factors, Word, word, forUp}
 use Rattle.words.specs.Walk.{carry}
-use Rattle.lists.specs.Items.{isZeroItem, listOf, listNumbers, proper}
+use Rattle.reversals.specs.Reversals.{isZeroItem, reversals}
+use Rattle.lists.specs.Items.{listOf, listNumbers, proper}
 use Rattle.lists.specs.declared.Reversals.{Reversals}
 use Rattle.lists.specs.declared.Reversals.the-variants.{Count, Refused}
-
--- ---- reversals
--- one is positive and one negative
-unfoldable pub opposite : Signed → Signed → Bool
-opposite a b = not (isZeroItem a) && (not (isZeroItem b) && xor (a .negative) (b .negative))
-
--- 1 for a reversal, 0 for none
-abbrev pub turn : Signed → Signed → ℕ
-turn a b = cond (opposite a b) 1 0
-
--- the reversals of a list behind an item: each item is set against its neighbour before it
-unfoldable pub reversalsBehind : Signed → List Signed → ℕ
-reversalsBehind a [] = 0
-reversalsBehind a (b ∷ L) = turn a b + reversalsBehind b L
-
--- zero is opposite to no item
-abbrev pub reversals : List Signed → ℕ
-reversals L = reversalsBehind zeroSigned L
 
 -- ---- carrying
 -- the items of a list as a vector, counted from 1, and the first n of a vector as a list

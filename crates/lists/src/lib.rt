@@ -2,7 +2,8 @@
 ghost use mathlib.Core.Path.{_≡_};
 ghost use Prim.Native.Nat.{_≤_};
 ghost use lib.ListN.{take};
-ghost use Rattle.lists.specs.Lists.{turn, reversals, itemOutside, anyOutside, carryTests, itemsAfterCarry, reversalsCall, reversalsReport};
+ghost use Rattle.lists.specs.Lists.{itemOutside, anyOutside, carryTests, itemsAfterCarry, reversalsCall, reversalsReport};
+ghost use Rattle.lists.specs.Promise.{Steady};
 ghost use Rattle.verdict.specs.Verdict.{firstOf};
 ghost use Rattle.number.specs.Number.{Stored};
 ghost use Rattle.words.specs.Sources.{Each};
@@ -22,53 +23,12 @@ pub enum Reversals {
     Refused(Refusal),
 }
 
-// 1 for a positive and a negative item, in either order, else 0.
-fn turn(a: Signed, b: Signed) -> u64
-    ensures { λ r. ⌜ r ≡ turn a b ⌝ }
-{
-    let x = a.size;
-    let y = b.size;
-    if x.m == 0 {
-        return 0;
-    }
-    if y.m == 0 {
-        return 0;
-    }
-    if a.negative {
-        if b.negative {
-            return 0;
-        }
-        return 1;
-    }
-    if b.negative {
-        return 1;
-    }
-    0
-}
-
-// The reversals among the first n of eight items.
-fn count(v: [Signed; 8], n: usize) -> u64
-    requires { ⌜ n ≤ 8 ⌝ }
-    ensures { λ r. ⌜ r ≡ reversals (take n v) ⌝ }
-{
-    let mut last = Signed::zero();
-    let mut found = 0u64;
-    let mut k = 0;
-    while k < n {
-        let a = v[k];
-        found += turn(last, a);
-        last = a;
-        k += 1;
-    }
-    found
-}
-
 pub fn count_reversals(items: &[i64]) -> Reversals
     ensures { λ r. ⌜ reversalsReport r ≡ reversalsCall (now (items .entry)) ⌝ }
 {
     let list = items::read(items, 1, 8);
     let v = list.items;
-    let found = count(v, list.count);
+    let found = reversals::count(v, list.count);
     let verdict = test(Verdict::Accepted, !list.proper, 9);
     match verdict {
         Verdict::Accepted => Reversals::Count(found),
@@ -109,6 +69,7 @@ pub fn carry(factors: [Number; 64], n: usize, items: &[i64], out: &mut [i64]) ->
     requires { ⌜ (1 ≤ n) × (n ≤ 8) × Each Stored n (factorsOf factors) ⌝ }
     ensures { λ r. ⌜ r ≡ firstOf (carryTests n (factorsOf factors) (now (items .entry)) (now (out .entry))) ⌝ }
     ensures { λ r. ⌜ now (out .exit) ≡ itemsAfterCarry n (factorsOf factors) (now (items .entry)) (now (out .entry)) ⌝ }
+    ensures { λ r. ⌜ Steady r (now (items .entry)) (now (out .exit)) ⌝ }
 {
     let list = items::read(items, n, n);
     let given = list.items;

@@ -3,6 +3,7 @@ ghost use mathlib.Core.Path.{_≡_};
 ghost use Rattle.places.specs.Shelf.{Good};
 ghost use Rattle.verdict.specs.Report.{verdictReport};
 ghost use Rattle.writer.specs.Encoding.{writtenReport};
+ghost use Rattle.lists.specs.Promise.{Steady};
 ghost use Rattle.shelf.specs.Calls.{changing, loadCall, dropCall, writeCall, carryCall, factorCall};
 ghost use Rattle.shelf.specs.Reports.{changedOutcome, factorReport};
 pub use lists::Reversals;
@@ -115,11 +116,12 @@ pub fn write(shelf: Shelf, place: usize, out: &mut [u8]) -> Written
 }
 
 // Carries a list of items through the word of a place, to a second list, past whose first n items nothing is changed.
-// An item is lent as three numbers: sign, mantissa, exponent.
+// An item is lent as three numbers: sign, mantissa, exponent. The list written has no more reversals than the list given.
 pub fn carry(shelf: Shelf, place: usize, items: &[i64], out: &mut [i64]) -> Verdict
     requires { ⌜ Good shelf ⌝ }
     ensures { λ r. ⌜ verdictReport r ≡ carryCall shelf place (now (items .entry)) (now (out .entry)) .report ⌝ }
     ensures { λ _. ⌜ now (out .exit) ≡ carryCall shelf place (now (items .entry)) (now (out .entry)) .items ⌝ }
+    ensures { λ r. ⌜ Steady r (now (items .entry)) (now (out .exit)) ⌝ }
 {
     let first = judge::source(shelf, place);
     if let Verdict::Refused(why) = first {

@@ -1,16 +1,15 @@
 -- DEMAND 3 OF THE ANSWERS (`product-answered`, `inverse-answered`, `converse-answered`, `submatrix-answered`; `away-answered` of a shelf that is turned away):
 -- an answer with number 0 is the shelf's own, of an accepted call, since 255 is not 0 and every test of an operation has a number above 0 (`Numbered`).
-use Prim.Native.Nat.{ℕ, suc, _<_}
+use Prim.Native.Nat.{ℕ}
 use native.Mathlib.Omega.{arith}
 use mathlib.Core.Path.{_≡_, sym, ap, _∙_, subst}
-use mathlib.Core.Bool.{Bool, true, false}
 use mathlib.Core.List.{List, [], _∷_, _++_}
 use Rattle.number.specs.declared.Number.{Number}
 use Rattle.number.specs.Number.{rounded}
 use Rattle.words.specs.Operation.{Operation, inverted, conversed, size, bound, rowByRow, result}
 use Rattle.verdict.specs.declared.Verdict.{Verdict}
 use Rattle.verdict.specs.declared.Verdict.the-variants.{Accepted, Refused}
-use Rattle.verdict.specs.Verdict.{when, orElse, firstBehind, firstOf}
+use Rattle.verdict.specs.Verdict.{when, firstOf}
 use Rattle.table.specs.Table.{outside}
 use Rattle.places.specs.declared.Shelf.{Shelf}
 use Rattle.places.specs.Outcome.{Outcome}
@@ -25,33 +24,7 @@ use Rattle.shelf.specs.Run.{Call, product, inverse, converse, submatrix, run}
 use Rattle.tnb_c.specs.declared.Answer.{Answer}
 use Rattle.tnb_c.specs.Answers.{turnedAway, checked, answerOf, Answered}
 use Rattle.tnb_c.proofs.Checked.{run-checked}
-
--- a verdict that turns down has a number above 0
-abbrev Numbered : Verdict → Type 0
-Numbered Accepted = Unit {0}
-Numbered (Refused w) = 0 < w .number
-
-abbrev AllNumbered : List Verdict → Type 0
-AllNumbered [] = Unit {0}
-AllNumbered (v ∷ L) = Numbered v × AllNumbered L
-
-numbered : (b : Bool) (k : ℕ) → Numbered (when b (suc k))
-numbered true k = omega arith
-numbered false k = tt
-
-or-numbered : (v w : Verdict) → Numbered v → Numbered w → Numbered (orElse v w)
-or-numbered Accepted w g h = h
-or-numbered (Refused x) w g h = g
-
-behind-numbered : (v : Verdict) (L : List Verdict) → Numbered v → AllNumbered L → Numbered (firstBehind v L)
-unfolding firstBehind
-behind-numbered v [] g h = g
-behind-numbered v (w ∷ L) g h = behind-numbered (orElse v w) L (or-numbered v w g (h .0)) (h .1)
-
--- one more test behind a list
-one-more : (L : List Verdict) (b : Bool) (k : ℕ) → AllNumbered L → AllNumbered (L ++ (when b (suc k) ∷ []))
-one-more [] b k h = (numbered b k, tt)
-one-more (v ∷ L) b k h = (h .0, one-more L b k (h .1))
+use Rattle.tnb_c.proofs.Numbers.{Numbered, AllNumbered, numbered, behind-numbered, one-more}
 
 -- the tests of one source and of two
 one-numbered : (s : Shelf) (p t : ℕ) → AllNumbered (oneSource s p t)

@@ -1,4 +1,6 @@
 -- Laws that belong to no one function.
 pub mod Checked
+pub mod Numbers
 pub mod Answered
+pub mod Carried
 pub mod Chains

@@ -1,18 +1,19 @@
 -- What the calls for C and Rust answer. Nothing vouches for the shelf that such a caller hands over, so it is tested first (`checked`): on a good shelf the
 -- call is run (`run`, the one list of calls), any other is turned away with 255 (`foreign`). What a call does as a struct that C can hold: `answerOf`,
--- `lengthOf`, `valueOf`, `statusOf`. Demand 3 of an answer: `Answered`. Any sequence of calls: `afterAnswers`.
+-- `lengthOf`, `valueOf`, `statusOf`. Demand 3 of an answer: `Answered`; the promise of a carry: `SteadyStatus`. Any sequence of calls: `afterAnswers`.
 use Prim.Native.Nat.{ℕ}
 use mathlib.Core.Path.{_≡_}
 use mathlib.Core.Bool.{cond}
 use mathlib.Core.List.{List, []}
 use lib.IntN.{ℤ, pos, natAbs}
-use lib.ListN.{getD}
+use lib.ListN.{length, take, getD}
 use Rattle.number.specs.declared.Number.{Number}
 use Rattle.words.specs.Operation.{Operation}
 use Rattle.verdict.specs.Report.{Report, accepted, refused}
 use Rattle.places.specs.declared.Shelf.{Shelf}
 use Rattle.places.specs.Check.{isGood}
 use Rattle.places.specs.Outcome.{Outcome}
+use Rattle.lists.specs.Promise.{NoMoreReversals}
 use Rattle.operations.specs.Promise.{Met}
 use Rattle.shelf.specs.Run.{Call, load, write, drop, product, inverse, converse, submatrix, transpose, minor, carry, reversals, rest, rows, factor}
 use Rattle.shelf.specs.Run.{run, afterEach}
@@ -79,3 +80,7 @@ statusOf r = record { number = numberOf r; offset = offsetOf r }
 -- bound that is answered
 abbrev pub Answered : Answer → (t n : ℕ) → Operation Number → Type 0
 Answered a t n o = a .number ≡ 0 → Met (a .shelf) t n o (a .bound)
+
+-- THE PROMISE OF A CARRY (document 02, request (b)): where its number is 0, the list that was written has no more reversals than the list that was given
+abbrev pub SteadyStatus : Status → (given out : List ℤ) → Type 0
+SteadyStatus a given out = a .number ≡ 0 → NoMoreReversals given (take (length given) out)

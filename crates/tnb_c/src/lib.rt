@@ -7,7 +7,7 @@ ghost use Rattle.places.specs.Shelf.{emptyShelf, rowsAt};
 ghost use Rattle.lists.specs.Lists.{reversalsCall};
 ghost use Rattle.operations.specs.Operations.{productAt, inverseAt, converseAt, submatrixAt};
 ghost use Rattle.shelf.specs.Run.{load, drop, write, product, inverse, converse, submatrix, transpose, minor, carry, rows, factor};
-ghost use Rattle.tnb_c.specs.Answers.{checked, answerOf, lengthOf, valueOf, statusOf, Answered};
+ghost use Rattle.tnb_c.specs.Answers.{checked, answerOf, lengthOf, valueOf, statusOf, Answered, SteadyStatus};
 use places::Shelf;
 use places::check;
 
@@ -195,11 +195,12 @@ pub extern "C" fn tnb_rest(bytes: &[u8]) -> usize
     part.len()
 }
 
-// Carries as many items as the matrix of a place has rows into a second list. An item is three numbers: sign, mantissa, exponent.
+// Carries as many items as the matrix of a place has rows into a second list, which has no more reversals. An item is three numbers: sign, mantissa, exponent.
 #[no_mangle]
 pub extern "C" fn tnb_carry(shelf: Shelf, place: usize, items: &[i64], out: &mut [i64]) -> Status
     ensures { λ r. ⌜ r ≡ statusOf (checked shelf (carry place (now (items .entry)) (now (out .entry))) .report) ⌝ }
     ensures { λ _. ⌜ now (out .exit) ≡ checked shelf (carry place (now (items .entry)) (now (out .entry))) .items ⌝ }
+    ensures { λ r. ⌜ SteadyStatus r (now (items .entry)) (now (out .exit)) ⌝ }
 {
     if check::is_good(shelf) {
         return answers::carried(shelf::carry(shelf, place, items, out));

@@ -5,7 +5,9 @@ use Prim.Native.Nat.{_-_, _≤_}
 use native.Mathlib.Omega.{arith}
 use lib.ListN.{length, drop, take}
 use Rattle.lists.specs.Lists.{anyOutside}
-use Rattle.lists.proofs.Fronts.{unset, outside-here, outside-later, front-end}
+use Rattle.arrays.proofs.Fronts.{front-end}
+use Rattle.reversals.proofs.Counting.{unset}
+use Rattle.lists.proofs.Fronts.{outside-here, outside-later}
 use Rattle.lists.proofs.any_outside.Statement.{statement}
 use Rattle.lists.proofs.any_outside.Tie as tie
 

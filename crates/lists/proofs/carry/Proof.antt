@@ -1,13 +1,19 @@
--- `carry` meets its contract: its tests on the list as read come to those of the definition, and where all pass, what is written is the list carried.
+-- `carry` meets its contract: its tests on the list as read come to those of the definition, and where all pass, what is written is the list carried, which has
+-- no more reversals than the list given.
 use borrow.Author.Needs.{needs}
-use mathlib.Core.Path.{_≡_, sym, _∙_}
+use mathlib.Core.Path.{_≡_, sym, _∙_, subst}
 use denote.Ref.{now}
+use lib.IntN.{ℤ}
+use lib.ListN.{length, take}
+use mathlib.Core.List.{List}
 use Rattle.verdict.specs.declared.Verdict.{Verdict}
 use Rattle.verdict.specs.Verdict.{firstBehind, firstOf}
 use Rattle.table.specs.Table.{factorsOf}
 use Rattle.lists.specs.Items.{listOf}
 use Rattle.lists.specs.Lists.{carryTests}
+use Rattle.lists.specs.Promise.{NoMoreReversals}
 use Rattle.lists.proofs.Outcomes.{Read, read-is, read-ranged, carry-judged, carry-written, carry-kept, carry-accepted}
+use Rattle.lists.proofs.Steady.{carry-steady}
 use Rattle.lists.proofs.carry.Statement.{statement}
 use Rattle.lists.proofs.carry.Tie as tie
 
@@ -78,13 +84,17 @@ returns c =
     let p = c .before .before .before in
     let t = p .before .before in
     let u = carried t in
-    (sym (passed p), c .before .write .ensures ∙ carry-written _ _ _ _ _ (list (u .before .before)) _ (u .through .ensures .0) (passed p))
+    let a = begin t in
+    let items : List ℤ = now (a .args .items) in
+    let wrote = c .before .write .ensures ∙ carry-written _ _ _ _ _ (list (u .before .before)) _ (u .through .ensures .0) (passed p) in
+    let steady = carry-steady _ _ (a .pre .0) (a .pre .1) (a .pre .2) items _ (passed p) in
+    (sym (passed p), (wrote, subst (λ (out : List ℤ). NoMoreReversals items (take (length items) out)) (sym wrote) steady))
 
 returns-2 : tie.Need-returns-2
 returns-2 c =
     let t = c .before .before .before in
     let e = sym (c .before .v .given .1) ∙ tested t in
-    (e, carry-kept _ _ _ _ _ (sym e))
+    (e, (carry-kept _ _ _ _ _ (sym e), tt))
 
 pub carry-spec : {M : Type 1} → statement M
 carry-spec =

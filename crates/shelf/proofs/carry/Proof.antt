@@ -1,4 +1,4 @@
--- A carry: its place judged, and the list carried through the word of the place (laws in Carrying).
+-- A carry: its place judged, and the list carried through the word of the place (laws in Carrying); that it adds no reversal is the promise of `lists::carry`.
 use mathlib.Core.Path.{_≡_, sym, _∙_}
 use denote.Ref.{now}
 use native.Mathlib.Omega.{arith}
@@ -34,7 +34,8 @@ returns : tie.Need-returns
 returns c =
     let first = c .before in
     let a = first .before .before .before .args in
-    carry-turned (a .shelf) (a .place) (now (a .items)) (now (a .out)) _ (sym (first .before .before .source .ensures) ∙ first .first .given .1)
+    let t = carry-turned (a .shelf) (a .place) (now (a .items)) (now (a .out)) _ (sym (first .before .before .source .ensures) ∙ first .first .given .1) in
+    (t .0, (t .1, tt))
 
 enum-told : tie.Need-enum-told
 enum-told c = search needs
@@ -59,9 +60,11 @@ returns-2 : tie.Need-returns-2
 returns-2 c =
     let m = c .before in
     let a = entry (told m) .args in
-    carry-done (a .shelf) (a .place) (now (a .items)) (now (a .out)) (accepted (told m)) _ _ (m .before .before .before .rows-at .ensures)
-    (m .before .before .table-at .ensures) _ _
-    (m .carry .ensures .0) (m .carry .ensures .1)
+    let rows = m .before .before .before .rows-at .ensures in
+    let table = m .before .before .table-at .ensures in
+    let e = m .carry .ensures in
+    let d = carry-done (a .shelf) (a .place) (now (a .items)) (now (a .out)) (accepted (told m)) _ _ rows table _ _ (e .0) (e .1 .0) in
+    (d .0, (d .1, e .1 .1))
 
 pub carry-spec : {M : Type 1} → statement M
 carry-spec = tie.close (tie.spec source-requires enum-known-first returns enum-told rows-at-requires table-at-requires carry-requires same-length returns-2)

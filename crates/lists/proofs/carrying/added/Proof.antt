@@ -11,7 +11,7 @@ use Rattle.number.proofs.Reach.{ranged-more, ranged-stored}
 use Rattle.number.proofs.SignedReach.{signed-ranged-more, signed-ranged-plain}
 use Rattle.lists.specs.Lists.{vectorOf}
 use Rattle.arrays.proofs.Filled.{read-any}
-use Rattle.lists.proofs.Fronts.{unset}
+use Rattle.reversals.proofs.Counting.{unset}
 use Rattle.lists.proofs.LetterReach.{product-reach}
 use Rattle.lists.proofs.carrying.added.Statement.{statement}
 use Rattle.lists.proofs.carrying.added.Tie as tie

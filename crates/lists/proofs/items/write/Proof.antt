@@ -8,7 +8,9 @@ use lib.ListN.{length, drop, take}
 use lib.Seq.{sets}
 use Rattle.number.specs.declared.signed.Signed.{Signed}
 use Rattle.lists.specs.Items.{listNumbers}
-use Rattle.lists.proofs.Fronts.{unset, front-end, write-next}
+use Rattle.arrays.proofs.Fronts.{front-end}
+use Rattle.reversals.proofs.Counting.{unset}
+use Rattle.lists.proofs.Fronts.{write-next}
 use Rattle.lists.proofs.Vectors.{ranged-front}
 use Rattle.lists.proofs.items.write.Statement.{statement}
 use Rattle.lists.proofs.items.write.Tie as tie

@@ -43,7 +43,7 @@ returns c =
     let answer = space .before .before .before .before .before in
     let call = answer .before .before .before .before .carry .ensures in
     let report = puts-report (ascii "carried") (call .0) (answer .put-verdict .ensures) in
-    let text = puts-behind report (puts-behind {a = ascii " "} (space .put .ensures) (rw (call .1) at (last .put-items .ensures))) in
+    let text = puts-behind report (puts-behind {a = ascii " "} (space .put .ensures) (rw (call .1 .0) at (last .put-items .ensures))) in
     (c .after .ensures .0, replied (carry-keeps _ _ _ _) (c .after .ensures .1) text)
 
 pub carry-to-spec : {M : Type 1} → statement M

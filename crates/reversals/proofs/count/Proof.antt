@@ -1,14 +1,15 @@
--- `count` meets its contract. The invariant: the reversals of the list are those found and those of the rest behind the last item.
+-- `count` meets its contract. The invariant: the reversals of the list are those found and those of the rest behind the last item that is not zero.
 use borrow.Author.Needs.{needs}
 use mathlib.Core.Path.{_≡_, ap}
 use Prim.Native.Nat.{_+_, _-_, _≤_, _<_}
 use native.Mathlib.Omega.{arith}
 use lib.ListN.{length, drop, take, getD}
+use Rattle.arrays.proofs.Fronts.{front-end}
 use Rattle.number.specs.declared.signed.Signed.{Signed}
-use Rattle.lists.specs.Lists.{reversals, reversalsBehind}
-use Rattle.lists.proofs.Fronts.{unset, count-next, turn-le, front-end}
-use Rattle.lists.proofs.count.Statement.{statement}
-use Rattle.lists.proofs.count.Tie as tie
+use Rattle.reversals.specs.Reversals.{reversals, reversalsBehind}
+use Rattle.reversals.proofs.Counting.{unset, count-next, turn-le}
+use Rattle.reversals.proofs.count.Statement.{statement}
+use Rattle.reversals.proofs.count.Tie as tie
 
 abbrev Inv-loop : tie.InvT-loop
 Inv-loop n v last₀ found₀ k₀ last found k = (k ≤ n) × (found ≤ k) × (reversals (take n v) ≡ found + reversalsBehind last (drop k (take n v)))
@@ -43,6 +44,9 @@ turned c =
 add-found : tie.Need-add-found Inv-loop μ-loop
 add-found c = record { fits = omega (arith, turned c, c .before .before .before .loop .inv .1) }
 
+latest-requires : tie.Need-latest-requires Inv-loop μ-loop
+latest-requires c κs = search needs
+
 add-k : tie.Need-add-k Inv-loop μ-loop
 add-k c = search needs
 
@@ -51,13 +55,14 @@ loop-less c = search needs
 
 loop-again : tie.Need-loop-again Inv-loop μ-loop
 loop-again c =
-    let b = c .before .before .before in
-    let h : b .loop .k < b .before .before .args .n = c .before .before .loop-test .taken in
+    let b = c .before .before .before .before in
+    let h : b .loop .k < b .before .before .args .n = c .before .before .before .loop-test .taken in
     let g : length (b .before .before .args .t1) ≡ 8 = search needs in (
       omega arith,
-      omega (arith, turned c, b .loop .inv .1),
-      count-next (b .before .before .args .t1) (b .before .before .args .n) (b .loop .k) unset h (omega (arith, b .before .before .pre)) _ (b .loop .found)
-          (c .turn .result) (b .loop .last) (c .turn .ensures) (b .loop .inv .2),
+      omega (arith, turned (c .before), b .loop .inv .1),
+      rw (c .latest .ensures)
+          (count-next (b .before .before .args .t1) (b .before .before .args .n) (b .loop .k) unset h (omega (arith, b .before .before .pre)) _
+          (b .loop .found) (c .before .turn .result) (b .loop .last) (c .before .turn .ensures) (b .loop .inv .2)),
     )
 
 returns : tie.Need-returns Inv-loop μ-loop
@@ -82,6 +87,7 @@ count-spec =
     array-copy-out-a
     turn-requires
     add-found
+    latest-requires
     add-k
     loop-less
     loop-again

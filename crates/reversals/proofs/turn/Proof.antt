@@ -1,9 +1,9 @@
 -- `turn` meets its contract.
 use borrow.Author.Tests.{eq-eqb, ne-eqb}
 use mathlib.Core.Bool.{xor}
-use Rattle.lists.specs.Lists.{opposite}
-use Rattle.lists.proofs.turn.Statement.{statement}
-use Rattle.lists.proofs.turn.Tie as tie
+use Rattle.reversals.specs.Reversals.{opposite}
+use Rattle.reversals.proofs.turn.Statement.{statement}
+use Rattle.reversals.proofs.turn.Tie as tie
 
 returns : tie.Need-returns
 unfolding opposite xor

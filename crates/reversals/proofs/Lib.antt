@@ -1,0 +1,5 @@
+pub mod Counting
+pub mod Signs
+pub mod Rounded
+pub mod Steady
+pub mod Pairs
