@@ -1,6 +1,6 @@
 /* Carries lists of control points through a matrix and counts their reversals before and after. A reversal is a pair of nonzero items of opposite
  * sign with only zeros between: an axis that goes forward, rests and comes back has turned once. Where a carry is accepted, the list that it wrote has
- * no more reversals than the list that it was given; that is proved, so the last line of each block can never read otherwise. */
+ * no more reversals than the list that it was given: that is proved of the library as written, and looked at here as it was compiled. */
 #include "beechcrib.h"
 #include <math.h>
 #include <stdio.h>
