@@ -53,7 +53,7 @@ fn round(q: u64, rest: u64, d: u64, x: u64) -> Number
     renormalised(q, x)
 }
 
-fn power(k: u64) -> u64
+pub fn power(k: u64) -> u64
     requires { ⌜ k < 64 ⌝ }
     ensures { λ r. ⌜ r ≡ 2 ^ k ⌝ }
 {

@@ -1,0 +1,4 @@
+pub mod Odd
+pub mod Parts
+pub mod Whole
+pub mod Balance
