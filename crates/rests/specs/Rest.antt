@@ -6,6 +6,7 @@ use Prim.Native.Nat.{ℕ, _+_, _-_, _*_, _/_, _^_, _<_, min}
 use lib.Count.{trailingZeros}
 use lib.Dec.{eqb, ltb}
 use lib.Ieee.{size}
+use lib.IntN.{ℤ, pos, negℤ, subℕ}
 use Rattle.number.specs.Number.{bias, reach, Ranged, sumOf, productOf, quotientOf}
 use Rattle.number.specs.Signed.{integerAt}
 use Rattle.number.specs.declared.Number.{Number}
@@ -63,6 +64,13 @@ abbrev pub roundedBy : Operator → Number → Number → Rounded
 roundedBy Add a b = sumRounded a b
 roundedBy Multiply a b = productRounded a b
 roundedBy Divide a b = quotientRounded a b
+
+-- a rest as it is answered: the odd number with its sign, and the exponent
+abbrev pub restInteger : Rest → ℤ
+restInteger r = cond (r .negative) (negℤ (pos (r .odd))) (pos (r .odd))
+
+abbrev pub restExponent : Rest → ℤ
+restExponent r = subℕ (r .x) bias
 
 -- two positive numbers within the reach of the arithmetic
 pub record Positive (a b : Number) : Type 0 where

@@ -4,7 +4,7 @@ ghost use mathlib.Core.Path.{_≡_};
 ghost use Prim.Native.Nat.{_^_, _≤_, _<_};
 ghost use Rattle.number.specs.Number.{Ranged, reach};
 ghost use Rattle.rests.specs.Rest.{noRest, oddPart, restOf, sumRounded, productRounded, quotientRounded, roundedBy, Positive};
-ghost use Rattle.rests.specs.Balance.{Balanced};
+
 use number::BIAS;
 use number::Number;
 use number::power;
@@ -118,7 +118,6 @@ pub fn divide(a: Number, b: Number) -> Rounded
 pub fn work(operator: Operator, a: Number, b: Number) -> Rounded
     requires { ⌜ Positive a b ⌝ }
     ensures { λ r. ⌜ r ≡ roundedBy operator a b ⌝ }
-    ensures { λ r. ⌜ Balanced operator a b r ⌝ }
 {
     match operator {
         Operator::Add => add(a, b),

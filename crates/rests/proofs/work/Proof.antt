@@ -1,20 +1,16 @@
--- `work` meets its contract: by the operator. What it returns is the definition's, so it balances (`balanced`).
-use mathlib.Core.Path.{_≡_, sym, ap, _∙_, subst}
+-- `work` meets its contract: by the operator.
+use mathlib.Core.Path.{_≡_, sym, ap, _∙_}
 use borrow.Author.Needs.{needs}
 use Rattle.number.specs.declared.Number.{Number}
-use Rattle.rests.specs.Balance.{Balanced}
-use Rattle.rests.specs.Rest.{roundedBy, Positive}
+use Rattle.rests.specs.Rest.{roundedBy}
 use Rattle.rests.specs.declared.Operator.{Operator}
 use Rattle.rests.specs.declared.Rounded.{Rounded}
-use Rattle.rests.proofs.Balance.{balanced}
 use Rattle.rests.proofs.work.Statement.{statement}
 use Rattle.rests.proofs.work.Tie as tie
 
 -- a result by the definition of the operator p, which is o
-done : (o p : Operator) (a b : Number) (r : Rounded) → Positive a b → o ≡ p → r ≡ roundedBy p a b → (r ≡ roundedBy o a b) × Balanced o a b r
-done o p a b r g e f =
-    let h = f ∙ ap (λ (q : Operator). roundedBy q a b) (sym e) in
-    (h, subst (Balanced o a b) (sym h) (balanced o a b g))
+done : (o p : Operator) (a b : Number) (r : Rounded) → o ≡ p → r ≡ roundedBy p a b → r ≡ roundedBy o a b
+done o p a b r e f = f ∙ ap (λ (q : Operator). roundedBy q a b) (sym e)
 
 enum-told : tie.Need-enum-told
 enum-told c = search needs
@@ -35,13 +31,13 @@ divide-requires : tie.Need-divide-requires
 divide-requires c κs = search needs
 
 returns : tie.Need-returns
-returns c = done _ _ _ _ _ (c .before .before .before .pre) (c .before .enum-told .given .1) (c .add .ensures)
+returns c = done _ _ _ _ _ (c .before .enum-told .given .1) (c .add .ensures)
 
 returns-2 : tie.Need-returns-2
-returns-2 c = done _ _ _ _ _ (c .before .before .before .pre) (c .before .enum-told2 .given .1) (c .multiply .ensures)
+returns-2 c = done _ _ _ _ _ (c .before .enum-told2 .given .1) (c .multiply .ensures)
 
 returns-3 : tie.Need-returns-3
-returns-3 c = done _ _ _ _ _ (c .before .before .before .pre) (c .before .enum-told3 .given .1) (c .divide .ensures)
+returns-3 c = done _ _ _ _ _ (c .before .enum-told3 .given .1) (c .divide .ensures)
 
 pub work-spec : {M : Type 1} → statement M
 work-spec =
