@@ -11,16 +11,17 @@ use lib.Pow.{pow-pos}
 use Rattle.fraction.specs.Fraction.{Fraction, fractionSum, fractionProduct}
 use Rattle.fraction.specs.SignedFraction.{SignedFraction, EqualSigned, signed, signed-add, signed-mul}
 use Rattle.fraction.specs.SignedFractionLaws.{equal-trans}
+use Rattle.number.proofs.Reach.{ranged-sum, ranged-product, ranged-quotient}
 use Rattle.number.proofs.Value.{scale, scale-positive, Over, value-over}
 use Rattle.number.specs.Integer.{isNegative}
 use Rattle.number.specs.Number.{bias, value, sumOf, productOf, quotientOf}
 use Rattle.number.specs.declared.Number.{Number}
-use Rattle.rests.specs.Rest.{sumRest, productRest, quotientRest, roundedBy, restInteger, restExponent, Positive}
+use Rattle.rests.specs.Rest.{sumRest, productRest, quotientRest, roundedBy, restInteger, restExponent, Positive, Small}
 use Rattle.rests.specs.Balance.{scaledBy, dyadic, OddOrNone, BelowSigned, ExactRest, Balanced}
 use Rattle.rests.specs.declared.Operator.{Operator}
 use Rattle.rests.specs.declared.Operator.the-variants.{Add, Multiply, Divide}
 use Rattle.rests.specs.declared.Rest.{Rest}
-use Rattle.rests.proofs.Parts.{OddRest, plusOdd, minusOdd, plusPart, minusPart, rest-odd, rest-sign, rest-at-most, rest-parts}
+use Rattle.rests.proofs.Parts.{OddRest, plusOdd, minusOdd, plusPart, minusPart, rest-odd, rest-sign, rest-at-most, rest-place, rest-parts}
 use Rattle.rests.proofs.Dyadic.{dyadic-unique, rest-value, rest-size, rest-form, rest-negative}
 use Rattle.rests.proofs.Whole.{Works, sum-works-any, product-works, quotient-works}
 
@@ -99,10 +100,12 @@ module _ (E F : Fraction) (t : Rest) (w : Works E F t) where
       (add-cancel (signed F) (dyadic k f) (dyadic n e)
       (equal-trans (signed-add (signed F) (dyadic k f)) (signed E) (signed-add (signed F) (dyadic n e)) h (sym adds-up)))
 
-  small : natAbs n < 2 ^ 32
-  small =
-      rw (rest-size t, w .rest)
-      (omega (arith, rest-at-most (w .p) (w .q) (w .x) (2 ^ 32 - 1) (omega (arith, w .below)) (omega (arith, w .above))))
+  odd-small : t .odd < 2 ^ 32
+  odd-small =
+      rw (w .rest) (omega (arith, rest-at-most (w .p) (w .q) (w .x) (2 ^ 32 - 1) (omega (arith, w .below)) (omega (arith, w .above))))
+
+  place-small : t .x < 2 ^ 32
+  place-small = rw (w .rest) (omega (arith, rest-place (w .p) (w .q) (w .x) (w .below) (w .above), w .place))
 
   side : (isNegative n ≡ true) ↔ BelowSigned (signed E) (signed F)
   side =
@@ -115,7 +118,7 @@ module _ (E F : Fraction) (t : Rest) (w : Works E F t) where
   settled E' F' g h =
       subst (λ (y : SignedFraction). ExactRest E' y n e) h
       (subst (λ (x : SignedFraction). ExactRest x (signed F) n e) g
-      (record { balance = adds-up; odd = rest-form t odd-rest; negative = side; small = small; only = only-rest }))
+      (record { balance = adds-up; odd = rest-form t odd-rest; negative = side; small = rw (rest-size t) odd-small; only = only-rest }))
 
 -- THE PROMISE, of each of the three
 pub balanced : (o : Operator) (a b : Number) → Positive a b → let r = roundedBy o a b in
@@ -127,3 +130,27 @@ balanced Multiply a b g =
 balanced Divide a b g =
     settled (value a) (fractionProduct (value (quotientOf a b)) (value b)) (quotientRest a b) (quotient-works a b g) _ _ refl
     (signed-product (value (quotientOf a b)) (value b))
+
+-- what an operation answers is small
+pub rounded-small : (o : Operator) (a b : Number) → Positive a b → Small (roundedBy o a b)
+rounded-small Add a b g =
+    let w = sum-works-any a b g in
+    record {
+      exponent = omega (arith, ranged-sum (g .first) (g .second) (omega arith) .stop);
+      odd = odd-small _ _ _ w;
+      rest-exponent = place-small _ _ _ w;
+    }
+rounded-small Multiply a b g =
+    let w = product-works a b g in
+    record {
+      exponent = omega (arith, ranged-product (g .first) (g .second) (omega arith) .stop);
+      odd = odd-small _ _ _ w;
+      rest-exponent = place-small _ _ _ w;
+    }
+rounded-small Divide a b g =
+    let w = quotient-works a b g in
+    record {
+      exponent = omega (arith, ranged-quotient (g .first) (g .second) (omega arith) (g .second-positive) .stop);
+      odd = odd-small _ _ _ w;
+      rest-exponent = place-small _ _ _ w;
+    }

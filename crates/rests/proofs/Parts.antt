@@ -1,5 +1,5 @@
 -- A rest by its whole numbers: what an odd part stands for (`odd-value`), the balance p = q + rest (`rest-parts`), odd or none (`rest-odd`), its sign
--- (`rest-sign`) and size (`rest-at-most`); a number added to both sides changes nothing (`rest-shifted`). Exponents keep their bias, and 2 ^ bias is never
+-- (`rest-sign`), size (`rest-at-most`) and exponent (`rest-place`); a number added to both sides changes nothing (`rest-shifted`). Exponents keep their bias, and 2 ^ bias is never
 -- computed.
 use mathlib.Core.Path.{_≡_, refl, sym, ap, _∙_}
 use mathlib.Core.Bool.{Bool, true, false, cond, false≢true}
@@ -9,9 +9,10 @@ use native.Mathlib.Nat.{zero-mul, div-le-self}
 use native.Mathlib.Omega.{arith}
 use native.Mathlib.Decide.{decLt}
 use borrow.Author.Tests.{lt-ltb, le-ltb, ne-eqb}
-use lib.Dec.{eqb, ltb}
+use lib.Count.{trailing-le}
+use lib.Dec.{eqb}
 use lib.Ieee.{size}
-use lib.Ieee.Digits.{size-lt}
+use lib.Ieee.Digits.{size-lt, size-le}
 use lib.Pow.{pow-add}
 use Rattle.number.specs.Number.{bias}
 use Rattle.rests.specs.Rest.{noRest, twos, oddPart, restOf}
@@ -73,6 +74,14 @@ module _ (s : Bool) (n x : ℕ) where
       go zero e = rw (odd-none e) (omega arith)
       go (suc k) e = rw (odd-some (omega arith)) (div-le-self n (2 ^ twos n))
 
+  -- the exponent grows by the twos, fewer than the digits
+  pub odd-place : n < 2 ^ 32 → oddPart s n x .x ≤ x + bias + 32
+  odd-place h = go n refl
+    where
+      go : (k : ℕ) → n ≡ k → oddPart s n x .x ≤ x + bias + 32
+      go zero e = rw (odd-none e) (omega arith)
+      go (suc k) e = rw (odd-some (omega arith)) (omega (arith, trailing-le (size n) n, size-le n 32 h))
+
 odd-plus : (n x : ℕ) → oddPart false n x .negative ≡ false
 odd-plus n x = go n refl
   where
@@ -111,6 +120,12 @@ module _ (p q x : ℕ) where
   rest-at-most d a b = elim (decLt p q) [
     | yes h ↦ rw (rest-above h) (omega (arith, odd-at-most true (q - p) x))
     | no h ↦ let l : q ≤ p = omega arith in rw (rest-not-above l) (omega (arith, odd-at-most false (p - q) x))
+  ]
+
+  pub rest-place : p < q + 2 ^ 32 → q < p + 2 ^ 32 → restOf p q x .x ≤ x + bias + 32
+  rest-place a b = elim (decLt p q) [
+    | yes h ↦ rw (rest-above h) (odd-place true (q - p) x (omega arith))
+    | no h ↦ let l : q ≤ p = omega arith in rw (rest-not-above l) (odd-place false (p - q) x (omega arith))
   ]
 
   -- q and the rest are p

@@ -1,5 +1,5 @@
 -- The operations by whole numbers. Of each (`Works`): the exact side p and the result's side q at one exponent, both over one denominator, and the rest is that
--- of p and q; they lie less than 2 ^ 32 apart. For the code besides: of a sum whose second exponent is not above the first (`sum-rest-is`), the result is
+-- of p and q; they lie less than 2 ^ 32 apart, at an exponent in reach. For the code besides: of a sum whose second exponent is not above the first (`sum-rest-is`), the result is
 -- not below the first (`sum-above`), and the rest is that of the second and what the result has more (`sum-rest`).
 use mathlib.Core.Bool.{false}
 use mathlib.Core.Path.{_≡_, refl, sym, ap, _∙_, subst}
@@ -45,6 +45,7 @@ pub record Works (E F : Fraction) (t : Rest) : Type 0 where
   pub result : Over scale F (q * 2 ^ x)
   pub below : p < q + 2 ^ 32
   pub above : q < p + 2 ^ 32
+  pub place : x < 2 ^ 24
 
 -- ---- sums
 -- the first has the higher exponent, or the same
@@ -103,6 +104,7 @@ module _ (a b : Number) (g : Positive a b) (h : b .x ≤ a .x) where
     result = subst (Over scale (value r)) (sym result-places) (value-over r);
     below = omega (arith, sum-above, g .second .high);
     above = omega (arith, sum-below, g .second .high);
+    place = omega (arith, g .second .stop);
   }
 
   -- for the code: what the result has more than the first, in units of the first's last place
@@ -222,6 +224,7 @@ module _ (a b : Number) (g : Positive a b) where
         result = subst (Over scale (value z)) (sym product-places) (value-over z);
         below = c .0;
         above = c .1;
+        place = omega (arith, g .first .stop, g .second .stop);
       }
 
 -- ---- quotients
@@ -303,6 +306,7 @@ module _ (a b : Number) (g : Positive a b) where
         result = once (fractionProduct (value c) (value b)) (c .m * b .m * 2 ^ v) (product-over c b quotient-under);
         below = k .0;
         above = k .1;
+        place = omega (arith, quotient-shift .0, g .first .stop);
       }
 
 -- ---- sums, whichever exponent is higher
@@ -320,6 +324,7 @@ sum-works-any a b g = elim (decLe (b .x) (a .x)) [
         result = subst (λ (r : Number). Over scale (value r) (w .q * 2 ^ w .x)) (sum-comm b a) (w .result);
         below = w .below;
         above = w .above;
+        place = w .place;
       }
 ]
   where

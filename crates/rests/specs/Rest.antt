@@ -6,8 +6,8 @@ use Prim.Native.Nat.{ℕ, _+_, _-_, _*_, _/_, _^_, _<_, min}
 use lib.Count.{trailingZeros}
 use lib.Dec.{eqb, ltb}
 use lib.Ieee.{size}
-use lib.IntN.{ℤ, pos, negℤ, subℕ}
-use Rattle.number.specs.Number.{bias, reach, Ranged, sumOf, productOf, quotientOf}
+use lib.IntN.{ℤ, pos, negℤ}
+use Rattle.number.specs.Number.{bias, unbiased, reach, Ranged, sumOf, productOf, quotientOf}
 use Rattle.number.specs.Signed.{integerAt}
 use Rattle.number.specs.declared.Number.{Number}
 use Rattle.rests.specs.declared.Operator.{Operator}
@@ -70,7 +70,7 @@ abbrev pub restInteger : Rest → ℤ
 restInteger r = cond (r .negative) (negℤ (pos (r .odd))) (pos (r .odd))
 
 abbrev pub restExponent : Rest → ℤ
-restExponent r = subℕ (r .x) bias
+restExponent r = unbiased (r .x)
 
 -- two positive numbers within the reach of the arithmetic
 pub record Positive (a b : Number) : Type 0 where
@@ -78,3 +78,9 @@ pub record Positive (a b : Number) : Type 0 where
   pub second : Ranged reach b
   pub first-positive : 0 < a .m
   pub second-positive : 0 < b .m
+
+-- what a result with its rest holds is small, so that both can be answered
+pub record Small (r : Rounded) : Type 0 where
+  pub exponent : r .number .x < 2 ^ 32
+  pub odd : r .rest .odd < 2 ^ 32
+  pub rest-exponent : r .rest .x < 2 ^ 32

@@ -4,10 +4,13 @@ ghost use mathlib.Core.Path.{_≡_};
 ghost use Prim.Native.Nat.{_^_, _≤_, _<_};
 ghost use Rattle.number.specs.Number.{Ranged, reach};
 ghost use Rattle.rests.specs.Rest.{noRest, oddPart, restOf, sumRounded, productRounded, quotientRounded, roundedBy, Positive};
+ghost use Rattle.rests.specs.Rest.{restInteger, restExponent, Small};
 
 use number::BIAS;
 use number::Number;
+use number::integer;
 use number::power;
+use number::unbiased;
 
 pub enum Operator {
     Add,
@@ -26,6 +29,26 @@ pub struct Rest {
 pub struct Rounded {
     pub number: Number,
     pub rest: Rest,
+}
+
+impl Rest {
+    // The odd number with its sign, as it is answered.
+    pub fn integer(self) -> i64
+        requires { ⌜ self .odd < 2 ^ 32 ⌝ }
+        ensures { λ r. ⌜ r ≡ restInteger self ⌝ }
+    {
+        if self.negative {
+            return integer::minus(self.odd);
+        }
+        integer::plus(self.odd)
+    }
+
+    pub fn exponent(self) -> i64
+        requires { ⌜ self .x < 2 ^ 32 ⌝ }
+        ensures { λ r. ⌜ r ≡ restExponent self ⌝ }
+    {
+        unbiased(self.x)
+    }
 }
 
 // n times 2 to the power x - BIAS with a sign, its twos taken into the exponent.
@@ -118,6 +141,7 @@ pub fn divide(a: Number, b: Number) -> Rounded
 pub fn work(operator: Operator, a: Number, b: Number) -> Rounded
     requires { ⌜ Positive a b ⌝ }
     ensures { λ r. ⌜ r ≡ roundedBy operator a b ⌝ }
+    ensures { λ r. ⌜ Small r ⌝ }
 {
     match operator {
         Operator::Add => add(a, b),

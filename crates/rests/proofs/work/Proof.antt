@@ -1,16 +1,17 @@
--- `work` meets its contract: by the operator.
-use mathlib.Core.Path.{_≡_, sym, ap, _∙_}
+-- `work` meets its contract: by the operator; what it returns is small (`rounded-small`).
+use mathlib.Core.Path.{_≡_, sym, ap, _∙_, subst}
 use borrow.Author.Needs.{needs}
 use Rattle.number.specs.declared.Number.{Number}
-use Rattle.rests.specs.Rest.{roundedBy}
+use Rattle.rests.specs.Rest.{roundedBy, Positive, Small}
 use Rattle.rests.specs.declared.Operator.{Operator}
 use Rattle.rests.specs.declared.Rounded.{Rounded}
+use Rattle.rests.proofs.Balance.{rounded-small}
 use Rattle.rests.proofs.work.Statement.{statement}
 use Rattle.rests.proofs.work.Tie as tie
 
 -- a result by the definition of the operator p, which is o
-done : (o p : Operator) (a b : Number) (r : Rounded) → o ≡ p → r ≡ roundedBy p a b → r ≡ roundedBy o a b
-done o p a b r e f = f ∙ ap (λ (q : Operator). roundedBy q a b) (sym e)
+done : (o p : Operator) (a b : Number) (r : Rounded) → Positive a b → o ≡ p → r ≡ roundedBy p a b → (r ≡ roundedBy o a b) × Small r
+done o p a b r g e f = (f ∙ ap (λ (q : Operator). roundedBy q a b) (sym e), subst Small (sym f) (rounded-small p a b g))
 
 enum-told : tie.Need-enum-told
 enum-told c = search needs
@@ -31,13 +32,13 @@ divide-requires : tie.Need-divide-requires
 divide-requires c κs = search needs
 
 returns : tie.Need-returns
-returns c = done _ _ _ _ _ (c .before .enum-told .given .1) (c .add .ensures)
+returns c = done _ _ _ _ _ (c .before .before .before .pre) (c .before .enum-told .given .1) (c .add .ensures)
 
 returns-2 : tie.Need-returns-2
-returns-2 c = done _ _ _ _ _ (c .before .enum-told2 .given .1) (c .multiply .ensures)
+returns-2 c = done _ _ _ _ _ (c .before .before .before .pre) (c .before .enum-told2 .given .1) (c .multiply .ensures)
 
 returns-3 : tie.Need-returns-3
-returns-3 c = done _ _ _ _ _ (c .before .enum-told3 .given .1) (c .divide .ensures)
+returns-3 c = done _ _ _ _ _ (c .before .before .before .pre) (c .before .enum-told3 .given .1) (c .divide .ensures)
 
 pub work-spec : {M : Type 1} → statement M
 work-spec =

@@ -1,4 +1,4 @@
--- `exponent` meets its contract: the difference fits, whichever is larger.
+-- `unbiased` meets its contract: the difference fits, whichever is larger.
 use Prim.Native.Nat.{ℕ, _<_, _^_}
 use native.Mathlib.Omega.{arith}
 use mathlib.Core.Path.{_≡_, refl, ap, _∙_}
@@ -10,8 +10,8 @@ use mir.Val.{SFits, toZ}
 use mir.Facts.{toZ-ofZ, toZ-pos}
 use Rattle.number.specs.Number.{bias}
 use borrow.Author.Needs.{needs}
-use Rattle.number.proofs.Number.exponent.Statement.{statement}
-use Rattle.number.proofs.Number.exponent.Tie as tie
+use Rattle.number.proofs.unbiased.Statement.{statement}
+use Rattle.number.proofs.unbiased.Tie as tie
 
 -- a difference of two numbers, by which is larger
 less-fits : (x : ℕ) → x < 2 ^ 32 → SFits w64 (pos x -ℤ pos bias)
@@ -21,10 +21,10 @@ less-fits x h = by (ltb x bias) refl
     by true e = rw e (record { sfits = omega arith })
     by false e = rw e (record { sfits = omega arith })
 
-plain : (c : tie.Start) → toZ w64 (c .args .self .x) ≡ pos (c .args .self .x)
+plain : (c : tie.Start) → toZ w64 (c .args .x) ≡ pos (c .args .x)
 plain c = toZ-pos w64 (omega (arith, c .pre))
 
-fits : (c : tie.Start) → SFits w64 (toZ w64 (c .args .self .x) -ℤ pos bias)
+fits : (c : tie.Start) → SFits w64 (toZ w64 (c .args .x) -ℤ pos bias)
 fits c = rw (plain c) (less-fits _ (c .pre))
 
 cast-result : tie.Need-cast-result
@@ -34,10 +34,10 @@ cast-result-2 : tie.Need-cast-result-2
 cast-result-2 c = search needs
 
 sub-result : tie.Need-sub-result
-sub-result c = fits (c .before)
+sub-result c = fits c
 
 returns : tie.Need-returns
-returns c = toZ-ofZ (fits (c .before)) ∙ ap (λ (z : ℤ). z -ℤ pos bias) (plain (c .before))
+returns c = toZ-ofZ (fits c) ∙ ap (λ (z : ℤ). z -ℤ pos bias) (plain c)
 
-pub exponent-spec : {M : Type 1} → statement M
-exponent-spec = tie.close (tie.spec cast-result cast-result-2 sub-result returns)
+pub unbiased-spec : {M : Type 1} → statement M
+unbiased-spec = tie.close (tie.spec cast-result cast-result-2 sub-result returns)
