@@ -10,8 +10,8 @@ use lib.IntN.{ℤ}
 use lib.ListN.{length}
 use Rattle.verdict.specs.declared.Verdict.the-variants.{Accepted}
 use Rattle.verdict.specs.Verdict.{firstOf}
-use Rattle.lists.specs.Items.{listOf, proper}
-use Rattle.lists.specs.Lists.{itemsOf, carriedList, anyOutside, carryTests}
+use Rattle.items.specs.Items.{listOf, itemsOf, proper}
+use Rattle.lists.specs.Lists.{carriedList, anyOutside, carryTests}
 use Rattle.places.specs.declared.Shelf.{Shelf}
 use Rattle.places.specs.Shelf.{rowsAt, factorsAt, Good}
 use Rattle.places.specs.Check.{isGood}

@@ -8,10 +8,10 @@ use native.Mathlib.Omega.{arith}
 use denote.Ref.{now}
 use lib.ListN.{length, drop}
 use Rattle.number.specs.declared.signed.Signed.{Signed}
-use Rattle.lists.specs.Items.{blankItems, listOf, listedFrom}
-use Rattle.lists.proofs.Reading.{listed-value, listed-malformed, listed-end}
-use Rattle.lists.proofs.items.items_of.Statement.{statement}
-use Rattle.lists.proofs.items.items_of.Tie as tie
+use Rattle.items.specs.Items.{blankItems, listOf, listedFrom}
+use Rattle.items.proofs.Reading.{listed-value, listed-malformed, listed-end}
+use Rattle.items.proofs.items_of.Statement.{statement}
+use Rattle.items.proofs.items_of.Tie as tie
 
 abbrev Inv-loop : tie.InvT-loop
 Inv-loop items n v₀ k₀ v k = (k ≤ n) × (listedFrom blankItems 0 (listOf items) ≡ listedFrom v k (listOf (drop (3 * k) items)))

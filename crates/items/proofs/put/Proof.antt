@@ -4,9 +4,9 @@ use native.Mathlib.Omega.{arith}
 use denote.Ref.{now}
 use lib.ListN.{length-set}
 use Rattle.number.proofs.Integers.{held-is}
-use Rattle.lists.proofs.ItemForms.{put-is}
-use Rattle.lists.proofs.items.put.Statement.{statement}
-use Rattle.lists.proofs.items.put.Tie as tie
+use Rattle.items.proofs.ItemForms.{put-is}
+use Rattle.items.proofs.put.Statement.{statement}
+use Rattle.items.proofs.put.Tie as tie
 
 sign-requires : tie.Need-sign-requires
 sign-requires c κs = search needs

@@ -6,10 +6,10 @@ use native.Mathlib.Omega.{arith}
 use lib.IntN.{natAbs}
 use mir.Facts.{toZ-ofZ}
 use Rattle.number.specs.Integer.{isNegative, biased}
-use Rattle.lists.specs.declared.items.ListItem.the-variants.{Value}
-use Rattle.lists.proofs.ItemForms.{Storable, item-zero, item-value, item-malformed}
-use Rattle.lists.proofs.items.item_of.Statement.{statement}
-use Rattle.lists.proofs.items.item_of.Tie as tie
+use Rattle.items.specs.declared.ListItem.the-variants.{Value}
+use Rattle.items.proofs.ItemForms.{Storable, item-zero, item-value, item-malformed}
+use Rattle.items.proofs.item_of.Statement.{statement}
+use Rattle.items.proofs.item_of.Tie as tie
 
 -- what the three magnitudes are
 record Parts (c : tie.After-magnitude3) : Type 0 where

@@ -2,9 +2,9 @@
 use borrow.Author.Needs.{needs}
 use mathlib.Core.Path.{sym, _∙_}
 use native.Mathlib.Omega.{arith}
-use Rattle.lists.proofs.Reading.{listed-spare, listed-few, listed-many, listed-proper}
-use Rattle.lists.proofs.items.read.Statement.{statement}
-use Rattle.lists.proofs.items.read.Tie as tie
+use Rattle.items.proofs.Reading.{listed-spare, listed-few, listed-many, listed-proper}
+use Rattle.items.proofs.read.Statement.{statement}
+use Rattle.items.proofs.read.Tie as tie
 
 mul-if1 : tie.Need-mul-if1
 mul-if1 c = search needs

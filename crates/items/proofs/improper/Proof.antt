@@ -4,8 +4,8 @@ use mathlib.Core.Path.{ap}
 use mathlib.Core.Bool.{false}
 use mathlib.Core.List.{List}
 use Rattle.number.specs.declared.signed.Signed.{Signed}
-use Rattle.lists.proofs.items.improper.Statement.{statement}
-use Rattle.lists.proofs.items.improper.Tie as tie
+use Rattle.items.proofs.improper.Statement.{statement}
+use Rattle.items.proofs.improper.Tie as tie
 
 blank-requires : tie.Need-blank-requires
 blank-requires c κs = search needs

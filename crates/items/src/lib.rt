@@ -1,4 +1,4 @@
-// List items: read from three whole numbers, and written as three.
+// List items, an item as three whole numbers: a list read and judged, and items written.
 ghost use mathlib.Core.Path.{_≡_};
 ghost use mathlib.Core.Option.{none};
 ghost use Prim.Native.Nat.{_+_, _*_, _≤_, _<_};
@@ -8,8 +8,7 @@ ghost use lib.Seq.{sets};
 ghost use Rattle.number.specs.Number.{reach};
 ghost use Rattle.number.specs.Signed.{SignedRanged};
 ghost use Rattle.number.specs.Integer.{biased};
-ghost use Rattle.lists.specs.Items.{blankItems, signedItem, itemIn, listOf, listedWithin, listedFrom, signOf, itemNumbers, listNumbers};
-ghost use Rattle.lists.specs.Carrying.{ItemsRanged};
+ghost use Rattle.items.specs.Items.{blankItems, signedItem, itemIn, listOf, listedWithin, listedFrom, signOf, itemNumbers, listNumbers, ItemsRanged};
 use number::BIAS;
 use number::Number;
 use number::integer;

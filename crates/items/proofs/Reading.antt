@@ -1,24 +1,26 @@
 -- Laws of reading a list: one item and the rest (`list-next`), what a reader has then (`listed-value`, `listed-malformed`, `listed-end`), and how many numbers
--- a list has (`list-numbered`), by which its length is judged (`listed-spare`, `listed-few`, `listed-many`, `listed-proper`).
+-- a list has (`list-numbered`), by which its length is judged (`listed-spare`, `listed-few`, `listed-many`, `listed-proper`); a list of exactly n items
+-- (`proper-exactly`).
 use mathlib.Core.Path.{_≡_, refl, ap, ap₂, _∙_}
-use mathlib.Core.Bool.{Bool, true, false, _&&_, cond, true≢false}
+use mathlib.Core.Bool.{Bool, true, false, _&&_, cond, true≢false, false≢true}
 use mathlib.Core.Logic.{_⊎_, inl, inr}
 use mathlib.Core.List.{List, [], _∷_}
-use mathlib.Core.Option.{Option, none, some}
+use mathlib.Core.Option.{Option, none, some, Option·getD}
 use Prim.Native.Nat.{ℕ, zero, suc, _+_, _*_, _/_, _≤_, _<_}
 use native.Mathlib.Omega.{arith}
-use borrow.Author.Tests.{le-leb, lt-leb}
+use borrow.Author.Tests.{le-leb, lt-leb, leb-true}
 use lib.Dec.{leb}
 use lib.IntN.{ℤ, pos}
 use lib.ListN.{length, getD, drop, set, drop-of-length-le}
 use lib.Seq.{drop-cons, sets}
 use Rattle.number.specs.Signed.{zeroSigned, SignedRanged}
 use Rattle.number.specs.declared.signed.Signed.{Signed}
-use Rattle.lists.specs.Items.{signedItem, itemIn, itemBefore, listOf, listedWithin, listedFrom, blankItems}
-use Rattle.lists.specs.declared.items.ListItem.{ListItem}
-use Rattle.lists.specs.declared.items.ListItem.the-variants.{Value, Malformed}
-use Rattle.lists.specs.declared.items.ItemList.{ItemList}
-use Rattle.lists.proofs.ItemForms.{RangedItem, item-ranged}
+use Rattle.number.proofs.Tests.{both}
+use Rattle.items.specs.Items.{signedItem, itemIn, itemBefore, listOf, proper, listedWithin, listedFrom, blankItems}
+use Rattle.items.specs.declared.ListItem.{ListItem}
+use Rattle.items.specs.declared.ListItem.the-variants.{Value, Malformed}
+use Rattle.items.specs.declared.ItemList.{ItemList}
+use Rattle.items.proofs.ItemForms.{RangedItem, item-ranged}
 
 drop-three : (z : List ℤ) (i : ℕ) → i + 2 < length z → drop i z ≡ getD z i (pos 0) ∷ getD z (i + 1) (pos 0) ∷ getD z (i + 2) (pos 0) ∷ drop (i + 3) z
 drop-three z i h =
@@ -132,3 +134,10 @@ module _ (least most : ℕ) (z : List ℤ) where
           let m : length L ≤ most = omega arith in
           simp (le-leb least (length L) l, le-leb (length L) most m)
       go none e = refl
+
+-- a proper list of exactly n items is well formed, and has n
+pub proper-exactly : (n : ℕ) (o : Option (List Signed)) → proper n n o ≡ true → (o ≡ some (Option·getD o [])) × (length (Option·getD o []) ≡ n)
+proper-exactly n none h = absurd (false≢true h)
+proper-exactly n (some L) h =
+    let p = both (leb n (length L)) (leb (length L) n) h in
+    (refl, omega (arith, leb-true n (length L) (p .0), leb-true (length L) n (p .1)))

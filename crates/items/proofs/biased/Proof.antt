@@ -8,8 +8,8 @@ use mir.Facts.{toZ-ofZ}
 use Rattle.number.specs.Number.{bias}
 use Rattle.number.specs.Integer.{isNegative}
 use Rattle.number.proofs.Integers.{biased-negative, biased-plain}
-use Rattle.lists.proofs.items.biased.Statement.{statement}
-use Rattle.lists.proofs.items.biased.Tie as tie
+use Rattle.items.proofs.biased.Statement.{statement}
+use Rattle.items.proofs.biased.Tie as tie
 
 magnitude-requires : tie.Need-magnitude-requires
 magnitude-requires c κs = search needs

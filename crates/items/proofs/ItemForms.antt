@@ -14,9 +14,9 @@ use Rattle.number.specs.Signed.{zeroSigned, SignedRanged}
 use Rattle.number.proofs.Tests.{both, unless}
 use Rattle.number.proofs.SignedReach.{signed-ranged-zero}
 use Rattle.number.specs.Integer.{isNegative, biased}
-use Rattle.lists.specs.Items.{storable, signedItem}
-use Rattle.lists.specs.declared.items.ListItem.{ListItem}
-use Rattle.lists.specs.declared.items.ListItem.the-variants.{Value, Malformed}
+use Rattle.items.specs.Items.{storable, signedItem}
+use Rattle.items.specs.declared.ListItem.{ListItem}
+use Rattle.items.specs.declared.ListItem.the-variants.{Value, Malformed}
 use Rattle.number.proofs.Integers.{biased-near}
 
 module _ (s m e : ℤ) where

@@ -3,8 +3,8 @@ use borrow.Author.Needs.{needs}
 use Prim.Native.Nat.{_+_, _*_}
 use denote.Ref.{now}
 use Rattle.number.proofs.Integers.{read-is}
-use Rattle.lists.proofs.items.item_at.Statement.{statement}
-use Rattle.lists.proofs.items.item_at.Tie as tie
+use Rattle.items.proofs.item_at.Statement.{statement}
+use Rattle.items.proofs.item_at.Tie as tie
 
 mul-s : tie.Need-mul-s
 mul-s c = search needs

@@ -1,22 +1,29 @@
 -- List items (document 01, "Shelf calls"): a sign (-1, 0, 1), a mantissa and an exponent in the stored ranges; zero is 0, 0, 0.
--- A list is lent as one row of whole numbers, three to an item: `signedItem` and `listOf` read it, `itemNumbers` and `listNumbers` give the numbers back.
+-- A list is lent as one row of whole numbers, three to an item: `signedItem`, `listOf` and `itemsOf` read it, `proper` and `listedWithin` judge it,
+-- `itemNumbers` and `listNumbers` give the numbers back. The items as a vector (`vectorOf`), and how far their exponents may be (`ItemsRanged`).
+use mathlib.Core.Path.{_≡_}
 use mathlib.Core.Bool.{Bool, true, false, not, cond, _&&_}
 use mathlib.Core.List.{List, [], _∷_, _++_}
-use mathlib.Core.Option.{Option, none, some}
-use Prim.Native.Nat.{ℕ, _+_, _*_, _^_}
+use mathlib.Core.Option.{Option, none, some, Option·getD}
+use Prim.Native.Nat.{ℕ, _+_, _-_, _*_, _^_}
 use lib.Dec.{eqb, leb, ltb}
 use lib.IntN.{ℤ, pos, negsuc, natAbs}
 use lib.ListN.{length, getD, replicate}
 use lib.Seq.{sets}
 use Rattle.number.specs.Integer.{isNegative, biased}
 use Rattle.number.specs.Number.{exponentOf}
-use Rattle.number.specs.Signed.{zeroSigned}
+use Rattle.number.specs.Signed.{zeroSigned, SignedRanged}
 use Rattle.number.specs.declared.signed.Signed.{Signed}
-use Rattle.reversals.specs.Reversals.{isZeroItem}
-use Rattle.lists.specs.declared.items.ListItem.{ListItem}
-use Rattle.lists.specs.declared.items.ListItem.the-variants.{Value, Malformed}
-use Rattle.lists.specs.declared.items.ItemList.{ItemList}
+use Rattle.words.specs.RowSet.{In}
+use Rattle.items.specs.declared.ListItem.{ListItem}
+use Rattle.items.specs.declared.ListItem.the-variants.{Value, Malformed}
+use Rattle.items.specs.declared.ItemList.{ItemList}
 
+-- an item is zero
+abbrev pub isZeroItem : Signed → Bool
+isZeroItem a = eqb (a .size .m) 0
+
+-- ---- read
 -- a sign of 1 or -1, with a mantissa from 2 ^ 31 to 2 ^ 32 - 1 and an exponent from -1000 to 1000
 unfoldable pub storable : ℤ → ℤ → ℤ → Bool
 storable s m e = eqb (natAbs s) 1 && (not (isNegative m) && (leb (2 ^ 31) (natAbs m) && (ltb (natAbs m) (2 ^ 32) && leb (natAbs e) 1000)))
@@ -44,7 +51,11 @@ listOf (s ∷ []) = none
 listOf (s ∷ m ∷ []) = none
 listOf (s ∷ m ∷ e ∷ z) = itemBefore (signedItem s m e) (listOf z)
 
--- and back
+-- those items, none where it is not well formed
+abbrev pub itemsOf : List ℤ → List Signed
+itemsOf items = Option·getD (listOf items) []
+
+-- ---- written
 abbrev pub signOf : Signed → ℤ
 signOf a = cond (isZeroItem a) (pos 0) (cond (a .negative) (negsuc 0) (pos 1))
 
@@ -55,6 +66,7 @@ unfoldable pub listNumbers : List Signed → List ℤ
 listNumbers [] = []
 listNumbers (a ∷ L) = itemNumbers a ++ listNumbers L
 
+-- ---- judged
 -- a well-formed list of least to most items
 abbrev pub proper : ℕ → ℕ → Option (List Signed) → Bool
 proper least most (some L) = leb least (length L) && leb (length L) most
@@ -70,3 +82,13 @@ listedFrom v k none = record { proper = false; count = 0; items = blankItems }
 
 unfoldable pub listedWithin : ℕ → ℕ → Option (List Signed) → ItemList
 listedWithin least most o = listedFrom blankItems 0 (cond (proper least most o) o none)
+
+-- ---- as vectors
+-- the items of a list as a vector, counted from 1
+abbrev pub vectorOf : List Signed → ℕ → Signed
+vectorOf L i = getD L (i - 1) zeroSigned
+
+-- the exponents of the n items are within r
+pub record ItemsRanged (r n : ℕ) (v : List Signed) : Type 0 where
+  pub eight : length v ≡ 8
+  pub ranged : (i : ℕ) → In n i → SignedRanged r (vectorOf v i)

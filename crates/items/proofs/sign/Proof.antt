@@ -3,8 +3,8 @@ use borrow.Author.Tests.{eq-eqb, ne-eqb}
 use borrow.Author.Needs.{needs}
 use mathlib.Core.Path.{_∙_}
 use Rattle.number.proofs.Integers.{held-is}
-use Rattle.lists.proofs.items.sign.Statement.{statement}
-use Rattle.lists.proofs.items.sign.Tie as tie
+use Rattle.items.proofs.sign.Statement.{statement}
+use Rattle.items.proofs.sign.Tie as tie
 
 returns : tie.Need-returns
 returns c = simp (eq-eqb _ _ (c .if1 .taken))

@@ -7,13 +7,11 @@ use native.Mathlib.Omega.{arith}
 use lib.ListN.{length, drop, take}
 use lib.Seq.{sets}
 use Rattle.number.specs.declared.signed.Signed.{Signed}
-use Rattle.lists.specs.Items.{listNumbers}
+use Rattle.items.specs.Items.{listNumbers}
 use Rattle.arrays.proofs.Fronts.{front-end}
-use Rattle.reversals.proofs.Counting.{unset}
-use Rattle.lists.proofs.Fronts.{write-next}
-use Rattle.lists.proofs.Vectors.{ranged-front}
-use Rattle.lists.proofs.items.write.Statement.{statement}
-use Rattle.lists.proofs.items.write.Tie as tie
+use Rattle.items.proofs.Fronts.{unset, ranged-front, write-next}
+use Rattle.items.proofs.write.Statement.{statement}
+use Rattle.items.proofs.write.Tie as tie
 
 abbrev Inv-loop : tie.InvT-loop
 Inv-loop n out₀ v k₀ out k = (k ≤ n) × (length out ≡ length out₀) × (sets out₀ 0 (listNumbers (take n v)) ≡ sets out (3 * k) (listNumbers (drop k (take n v))))

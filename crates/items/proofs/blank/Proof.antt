@@ -3,8 +3,8 @@ use borrow.Author.Needs.{needs}
 use mathlib.Core.Path.{ap}
 use lib.ListN.{replicate}
 use Rattle.number.specs.declared.signed.Signed.{Signed}
-use Rattle.lists.proofs.items.blank.Statement.{statement}
-use Rattle.lists.proofs.items.blank.Tie as tie
+use Rattle.items.proofs.blank.Statement.{statement}
+use Rattle.items.proofs.blank.Tie as tie
 
 zero-requires : tie.Need-zero-requires
 zero-requires c κs = search needs
