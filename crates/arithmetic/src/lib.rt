@@ -56,12 +56,12 @@ pub fn arithmetic(operator: Operator, items: &[i64]) -> Worked
     ensures { λ r. ⌜ Logged operator (now (items .entry)) r ⌝ }
 {
     let list = items::read(items, 2, 2);
-    let v = list.items;
-    let a = v[0];
-    let b = v[1];
-    let v = test(Verdict::Accepted, !list.proper, 9);
-    let v = test(v, !positive(a), 9);
-    let v = test(v, !positive(b), 9);
+    let two = list.items;
+    let a = two[0];
+    let b = two[1];
+    let mut v = test(Verdict::Accepted, !list.proper, 9);
+    v = test(v, !positive(a), 9);
+    v = test(v, !positive(b), 9);
     match v {
         Verdict::Accepted => told(rests::work(operator, a.size, b.size)),
         Verdict::Refused(why) => Worked::Refused(why),

@@ -1,14 +1,14 @@
--- What is written reads back: an item that is zero or stored (`Formed`, `item-back`), and a list of such (`AllFormed`, `list-back`). A list is written as three
--- numbers an item (`numbers-length`).
+-- What is written reads back: an item that is zero or stored (`Formed`, `item-back`), and a list of such (`AllFormed`, `list-back`). What is read well is what
+-- would be written (`list-written`). A list is written as three numbers an item (`numbers-length`).
 use mathlib.Core.Path.{_≡_, refl, sym, ap, ap₂, _∙_}
 use mathlib.Core.Bool.{Bool, true, false, cond}
-use mathlib.Core.List.{List, [], _∷_}
+use mathlib.Core.List.{List, [], _∷_, _++_}
 use mathlib.Core.Logic.{_⊎_, inl, inr}
-use mathlib.Core.Option.{some}
+use mathlib.Core.Option.{Option, none, some}
 use Prim.Native.Nat.{_*_}
 use native.Mathlib.Omega.{arith}
 use borrow.Author.Tests.{ne-eqb}
-use lib.IntN.{pos, negsuc, natAbs}
+use lib.IntN.{ℤ, pos, negsuc, natAbs}
 use lib.ListN.{length}
 use Rattle.number.specs.Integer.{isNegative}
 use Rattle.number.specs.Number.{Stored, exponentOf}
@@ -17,8 +17,8 @@ use Rattle.number.specs.declared.signed.Signed.{Signed}
 use Rattle.number.proofs.Integers.{biased-exponent, exponent-near}
 use Rattle.items.specs.Items.{signedItem, itemBefore, listOf, signOf, listNumbers}
 use Rattle.items.specs.declared.ListItem.{ListItem}
-use Rattle.items.specs.declared.ListItem.the-variants.{Value}
-use Rattle.items.proofs.ItemForms.{item-zero, item-value}
+use Rattle.items.specs.declared.ListItem.the-variants.{Value, Malformed}
+use Rattle.items.proofs.ItemForms.{item-zero, item-value, NumbersOf, item-numbers}
 
 -- zero, or a stored number with a sign
 abbrev pub Formed : Signed → Type 0
@@ -64,6 +64,23 @@ pub list-back : (L : List Signed) → AllFormed L → listOf (listNumbers L) ≡
 unfolding listOf listNumbers
 list-back [] h = refl
 list-back (a ∷ L) h = ap₂ itemBefore (item-back a (h .0)) (list-back L (h .1))
+
+-- and what is read well is what would be written
+abbrev pub Written : List ℤ → Option (List Signed) → Type 0
+Written z (some L) = listNumbers L ≡ z
+Written z none = Unit {0}
+
+pub list-written : (z : List ℤ) → Written z (listOf z)
+unfolding listOf listNumbers
+list-written [] = refl
+list-written (s ∷ []) = tt
+list-written (s ∷ m ∷ []) = tt
+list-written (s ∷ m ∷ e ∷ z) = go (signedItem s m e) (listOf z) (item-numbers s m e) (list-written z)
+  where
+    go : (i : ListItem) (o : Option (List Signed)) → NumbersOf s m e i → Written z o → Written (s ∷ m ∷ e ∷ z) (itemBefore i o)
+    go (Value a) (some L) h w = ap₂ _++_ h w
+    go (Value a) none h w = tt
+    go Malformed o h w = tt
 
 pub numbers-length : (L : List Signed) → length (listNumbers L) ≡ 3 * length L
 unfolding listNumbers
