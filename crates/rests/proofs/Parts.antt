@@ -110,10 +110,13 @@ module _ (p q x : ℕ) where
 
   -- negative exactly where q is the larger
   pub rest-sign : (restOf p q x .negative ≡ true) ↔ (p < q)
-  rest-sign = (λ e. elim (decLt p q) [
-    | yes h ↦ h
-    | no h ↦ let l : q ≤ p = omega arith in absurd (false≢true (sym (ap (λ (r : Rest). r .negative) (rest-not-above l) ∙ odd-plus (p - q) x) ∙ e))
-  ], λ h. ap (λ (r : Rest). r .negative) (rest-above h) ∙ odd-minus (q - p) x (omega arith))
+  rest-sign = (
+    λ e. elim (decLt p q) [
+      | yes h ↦ h
+      | no h ↦ let l : q ≤ p = omega arith in absurd (false≢true (sym (ap (λ (r : Rest). r .negative) (rest-not-above l) ∙ odd-plus (p - q) x) ∙ e))
+    ],
+    λ h. ap (λ (r : Rest). r .negative) (rest-above h) ∙ odd-minus (q - p) x (omega arith),
+  )
 
   -- its odd number is not above the distance of p and q
   pub rest-at-most : (d : ℕ) → p ≤ q + d → q ≤ p + d → restOf p q x .odd ≤ d

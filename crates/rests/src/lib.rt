@@ -2,10 +2,8 @@
 // Each works its rest from the result that the number's own add, mul or div gives, by whole numbers and with no further rounding.
 ghost use mathlib.Core.Path.{_≡_};
 ghost use Prim.Native.Nat.{_^_, _≤_, _<_};
-ghost use Rattle.number.specs.Number.{Ranged, reach};
-ghost use Rattle.rests.specs.Rest.{noRest, oddPart, restOf, sumRounded, productRounded, quotientRounded, roundedBy, Positive};
+ghost use Rattle.rests.specs.Rest.{oddPart, restOf, sumRounded, productRounded, quotientRounded, roundedBy, Positive};
 ghost use Rattle.rests.specs.Rest.{restInteger, restExponent, Small};
-
 use number::BIAS;
 use number::Number;
 use number::integer;
