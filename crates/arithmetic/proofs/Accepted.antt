@@ -1,33 +1,31 @@
 -- What an accepted arithmetic call has shown: two positive numbers in reach, from whose items the row of numbers is written (`TwoPositive`, `accepted-two`).
 -- So what the items stand for are these numbers' values (`first-value`, `second-value`), and the log balances (`logged`).
 use mathlib.Core.Path.{_≡_, refl, sym, ap, ap₂, _∙_, subst}
-use mathlib.Core.Bool.{Bool, true, false, not, cond, _&&_}
+use mathlib.Core.Bool.{Bool, true, not, cond}
 use mathlib.Core.List.{List, [], _∷_}
-use mathlib.Core.Option.{Option, none, some, Option·getD}
-use Prim.Native.Nat.{ℕ, _+_, _*_, _<_}
+use mathlib.Core.Option.{some}
+use Prim.Native.Nat.{ℕ, _<_}
 use native.Mathlib.Nat.{one-mul}
 use native.Mathlib.Omega.{arith}
 use borrow.Author.Tests.{not-false, not-true, eqb-false}
-use lib.Dec.{eqb}
 use lib.IntN.{ℤ, pos, negsuc, _*ℤ_}
-use lib.ListN.{length, getD}
+use lib.ListN.{length}
 use Rattle.fraction.specs.SignedFraction.{SignedFraction, signed}
 use Rattle.verdict.specs.declared.Verdict.the-variants.{Accepted}
-use Rattle.verdict.specs.Verdict.{when, firstOf}
+use Rattle.verdict.specs.Verdict.{firstOf}
 use Rattle.verdict.proofs.Verdicts.{when-accepted}
 use Rattle.number.proofs.Reach.{ranged-more}
 use Rattle.number.proofs.Tests.{both}
-use Rattle.number.specs.Number.{reach, value, exponentOf}
-use Rattle.number.specs.Signed.{zeroSigned, SignedRanged}
+use Rattle.number.specs.Number.{value, exponentOf}
 use Rattle.number.specs.declared.signed.Signed.{Signed}
 use Rattle.rests.proofs.Balance.{balanced}
 use Rattle.rests.proofs.Dyadic.{number-value}
 use Rattle.rests.specs.Balance.{dyadic, Balanced}
-use Rattle.rests.specs.Rest.{roundedBy, restInteger, restExponent, Positive}
+use Rattle.rests.specs.Rest.{roundedBy, restInteger, restExponent, PositivePair}
 use Rattle.rests.specs.declared.Operator.{Operator}
 use Rattle.items.proofs.Reading.{RangedList, list-ranged, proper-exactly}
 use Rattle.items.proofs.RoundTrip.{Written, list-written}
-use Rattle.items.specs.Items.{isZeroItem, signOf, itemNumbers, listNumbers, listOf, itemsOf, vectorOf, proper}
+use Rattle.items.specs.Items.{isZeroItem, signOf, listNumbers, listOf, itemsOf, vectorOf, proper}
 use Rattle.arithmetic.specs.Arithmetic.{isPositive, firstItem, secondItem, arithmeticTests}
 use Rattle.arithmetic.specs.Promise.{itemValue, Logged}
 use Rattle.arithmetic.specs.declared.Worked.the-variants.{Result}
@@ -48,7 +46,7 @@ pub record TwoPositive (z : List ℤ) : Type 0 where
   pub row : listNumbers (firstItem z ∷ secondItem z ∷ []) ≡ z
   pub first : isPositive (firstItem z) ≡ true
   pub second : isPositive (secondItem z) ≡ true
-  pub numbers : Positive (firstItem z .size) (secondItem z .size)
+  pub numbers : PositivePair (firstItem z .size) (secondItem z .size)
 
 pair : (L : List Signed) → length L ≡ 2 → vectorOf L 1 ∷ vectorOf L 2 ∷ [] ≡ L
 pair [] h = absurd (omega arith)
@@ -97,8 +95,8 @@ module _ (z : List ℤ) (t : TwoPositive z) where
       Logged o z (Result (r .number .m) (exponentOf (r .number)) (restInteger (r .rest)) (restExponent (r .rest)))
   logged o =
       let r = roundedBy o (firstItem z .size) (secondItem z .size) in
-      subst (λ (x : SignedFraction). Balanced o (itemValue z 0) (itemValue z 1) x (restInteger (r .rest)) (restExponent (r .rest))) (sym (number-value (r .number)))
-      (subst (λ (x : SignedFraction). Balanced o (itemValue z 0) x (signed (value (r .number))) (restInteger (r .rest)) (restExponent (r .rest)))
-      (sym second-value)
-      (subst (λ (x : SignedFraction). Balanced o x (signed (value (secondItem z .size))) (signed (value (r .number))) (restInteger (r .rest)) (restExponent (r .rest)))
-      (sym first-value) (balanced o (firstItem z .size) (secondItem z .size) (t .numbers))))
+      let Log : (a b c : SignedFraction) → Type 0 = λ a b c. Balanced o a b c (restInteger (r .rest)) (restExponent (r .rest)) in
+      subst (λ c. Log (itemValue z 0) (itemValue z 1) c) (sym (number-value (r .number)))
+      (subst (λ b. Log (itemValue z 0) b (signed (value (r .number)))) (sym second-value)
+      (subst (λ a. Log a (signed (value (secondItem z .size))) (signed (value (r .number)))) (sym first-value)
+      (balanced o (firstItem z .size) (secondItem z .size) (t .numbers))))

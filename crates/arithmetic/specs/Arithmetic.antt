@@ -7,7 +7,6 @@ use Rattle.verdict.specs.declared.Verdict.{Verdict}
 use Rattle.verdict.specs.Verdict.{when, firstOf}
 use Rattle.verdict.specs.Report.{Report, accepted, refused, reportOf}
 use Rattle.number.specs.Number.{exponentOf}
-use Rattle.number.specs.declared.Number.{Number}
 use Rattle.number.specs.declared.signed.Signed.{Signed}
 use Rattle.rests.specs.Rest.{roundedBy, restInteger, restExponent}
 use Rattle.rests.specs.declared.Operator.{Operator}

@@ -1,6 +1,6 @@
 -- Worked examples of the arithmetic call, as rows of one table (`arithmeticRows`).
 use mathlib.Core.List.{List, [], _∷_, _++_}
-use Prim.Native.Nat.{ℕ, _-_, _*_, _^_}
+use Prim.Native.Nat.{_-_, _*_, _^_}
 use lib.IntN.{ℤ, pos, negsuc}
 use Rattle.verdict.specs.Report.{accepted, refused}
 use Rattle.number.specs.Examples.{Row, row}

@@ -3,7 +3,8 @@
 ghost use mathlib.Core.Path.{_≡_};
 ghost use mathlib.Core.Bool.{false, cond};
 ghost use Prim.Native.Nat.{_+_, _-_, _*_, _^_, _≤_, _<_, min};
-ghost use Rattle.number.specs.Number.{zeroNumber, oneNumber, renormalised, round, sumOf, productOf, quotientOf, Ranged, reach, unbiased, exponentOf, inRange};
+ghost use Rattle.number.specs.Number.{zeroNumber, oneNumber, unbiased, renormalised, round, sumOf, productOf, quotientOf, Ranged, reach, exponentOf};
+ghost use Rattle.number.specs.Number.{inRange};
 ghost use Rattle.number.specs.Signed.{below, differenceOf};
 ghost use Rattle.number.specs.Digits.{unlikeOf, alignedOf};
 

@@ -3,10 +3,10 @@
 use mathlib.Core.Path.{_≡_, refl, sym, ap, ap₂, _∙_, subst}
 use mathlib.Core.Bool.{true}
 use mathlib.Core.Logic.{_↔_}
-use Prim.Native.Nat.{ℕ, _+_, _-_, _*_, _^_, _≤_, _<_}
+use Prim.Native.Nat.{ℕ, _+_, _-_, _*_, _^_, _<_}
 use native.Mathlib.Nat.{mul-pos, eq-of-mul-eq-mul-right, mul-lt-mul-of-pos-right, lt-of-mul-lt-mul-right}
 use native.Mathlib.Omega.{arith}
-use lib.IntN.{ℤ, natAbs}
+use lib.IntN.{ℤ}
 use lib.Pow.{pow-pos}
 use Rattle.fraction.specs.Fraction.{Fraction, fractionSum, fractionProduct}
 use Rattle.fraction.specs.SignedFraction.{SignedFraction, EqualSigned, signed, signed-add, signed-mul}
@@ -16,14 +16,16 @@ use Rattle.number.proofs.Value.{scale, scale-positive, Over, value-over}
 use Rattle.number.specs.Integer.{isNegative}
 use Rattle.number.specs.Number.{bias, value, sumOf, productOf, quotientOf}
 use Rattle.number.specs.declared.Number.{Number}
-use Rattle.rests.specs.Rest.{sumRest, productRest, quotientRest, roundedBy, restInteger, restExponent, Positive, Small}
-use Rattle.rests.specs.Balance.{scaledBy, dyadic, OddOrNone, BelowSigned, ExactRest, Balanced}
+use Rattle.rests.specs.Rest.{sumRest, productRest, quotientRest, roundedBy, restInteger, restExponent, PositivePair, Small}
+use Rattle.rests.specs.Balance.{dyadic, OddOrNone, BelowSigned, ExactRest, Balanced}
 use Rattle.rests.specs.declared.Operator.{Operator}
 use Rattle.rests.specs.declared.Operator.the-variants.{Add, Multiply, Divide}
 use Rattle.rests.specs.declared.Rest.{Rest}
 use Rattle.rests.proofs.Parts.{OddRest, plusOdd, minusOdd, plusPart, minusPart, rest-odd, rest-sign, rest-at-most, rest-place, rest-parts}
 use Rattle.rests.proofs.Dyadic.{dyadic-unique, rest-value, rest-size, rest-form, rest-negative}
-use Rattle.rests.proofs.Whole.{Works, sum-works-any, product-works, quotient-works}
+use Rattle.rests.proofs.Whole.{Works}
+use Rattle.rests.proofs.Sums.{sum-works}
+use Rattle.rests.proofs.Products.{product-works, quotient-works}
 
 -- ---- fractions over one denominator s: f is Z, e is E, and a rest's parts are P and M
 left-side : (ft fl el p l Z P s : ℕ) → ft * s ≡ Z * fl → p * s ≡ P * l → ((ft * l + p * fl) * el + 0 * (fl * l)) * s ≡ (Z + P) * (fl * l * el)
@@ -121,10 +123,10 @@ module _ (E F : Fraction) (t : Rest) (w : Works E F t) where
       (record { balance = adds-up; odd = rest-form t odd-rest; negative = side; small = rw (rest-size t) odd-small; only = only-rest }))
 
 -- THE PROMISE, of each of the three
-pub balanced : (o : Operator) (a b : Number) → Positive a b → let r = roundedBy o a b in
+pub balanced : (o : Operator) (a b : Number) → PositivePair a b → let r = roundedBy o a b in
     Balanced o (signed (value a)) (signed (value b)) (signed (value (r .number))) (restInteger (r .rest)) (restExponent (r .rest))
 balanced Add a b g =
-    settled (fractionSum (value a) (value b)) (value (sumOf a b)) (sumRest a b) (sum-works-any a b g) _ _ (signed-sum (value a) (value b)) refl
+    settled (fractionSum (value a) (value b)) (value (sumOf a b)) (sumRest a b) (sum-works a b g) _ _ (signed-sum (value a) (value b)) refl
 balanced Multiply a b g =
     settled (fractionProduct (value a) (value b)) (value (productOf a b)) (productRest a b) (product-works a b g) _ _ (signed-product (value a) (value b)) refl
 balanced Divide a b g =
@@ -132,9 +134,9 @@ balanced Divide a b g =
     (signed-product (value (quotientOf a b)) (value b))
 
 -- what an operation answers is small
-pub rounded-small : (o : Operator) (a b : Number) → Positive a b → Small (roundedBy o a b)
+pub rounded-small : (o : Operator) (a b : Number) → PositivePair a b → Small (roundedBy o a b)
 rounded-small Add a b g =
-    let w = sum-works-any a b g in
+    let w = sum-works a b g in
     record {
       exponent = omega (arith, ranged-sum (g .first) (g .second) (omega arith) .stop);
       odd = odd-small _ _ _ w;

@@ -1,23 +1,23 @@
--- Whole numbers with a sign times powers of 2. An odd one stands for its fraction alone (`dyadic-unique`). What a number and a rest stand for, in the numbers as
--- they are answered: `number-value`, `rest-value`; a rest's sign, size and oddness by these (`rest-negative`, `rest-size`, `rest-form`).
+-- Whole numbers with a sign times powers of 2. An odd one stands for its fraction alone (`dyadic-unique`). What a number and a rest stand for, in the numbers
+-- as they are answered: `number-value`, `rest-value`; a rest's sign, size and oddness by these (`rest-negative`, `rest-size`, `rest-form`).
 use mathlib.Core.Path.{_≡_, refl, sym, ap, ap₂, _∙_, subst}
 use mathlib.Core.Bool.{Bool, true, false, cond, false≢true}
-use mathlib.Core.Logic.{_⊎_, _↔_, inl, inr}
+use mathlib.Core.Logic.{_↔_, inl, inr}
 use Prim.Native.Nat.{ℕ, zero, suc, _+_, _-_, _*_, _%_, _^_, _≤_, _<_}
-use native.Mathlib.Nat.{mul-pos, zero-mul, mul-assoc}
+use native.Mathlib.Nat.{mul-pos, zero-mul}
 use native.Mathlib.Decide.{decLt}
 use native.Mathlib.Omega.{arith}
 use borrow.Author.Tests.{lt-ltb, le-ltb}
 use lib.IntN.{ℤ, pos, negsuc, natAbs, negℤ, subℕ}
 use lib.Pow.{pow-pos, pow-add}
-use Rattle.fraction.specs.SignedFraction.{SignedFraction, EqualSigned, signed}
+use Rattle.fraction.specs.SignedFraction.{EqualSigned, signed}
 use Rattle.number.specs.Integer.{isNegative}
 use Rattle.number.specs.Number.{bias, value, exponentOf}
 use Rattle.number.specs.declared.Number.{Number}
-use Rattle.rests.specs.Rest.{noRest, restInteger, restExponent}
+use Rattle.rests.specs.Rest.{restInteger, restExponent}
 use Rattle.rests.specs.Balance.{plusOf, minusOf, scaledBy, dyadic, OddOrNone}
 use Rattle.rests.specs.declared.Rest.{Rest}
-use Rattle.rests.proofs.Odd.{SameOdd, odd-unique}
+use Rattle.rests.proofs.Odd.{odd-unique}
 use Rattle.rests.proofs.Parts.{OddRest, plusOdd, minusOdd}
 
 -- ---- exponents

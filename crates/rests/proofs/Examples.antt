@@ -8,5 +8,6 @@ use Rattle.rests.specs.Examples.{restTable}
 use Rattle.rests.specs.Rest.{oddPart, restOf, sumRest, productRest, quotientRest}
 
 pub examples : AllHold restTable
-unfolding restTable oddPart restOf sumRest productRest quotientRest trailingZeros round renormalised sumOf productOf quotientOf size lib.Ieee.span lib.Ieee.climb
+unfolding restTable oddPart restOf sumRest productRest quotientRest trailingZeros
+    round renormalised sumOf productOf quotientOf size lib.Ieee.span lib.Ieee.climb
 examples = (refl, (refl, (refl, (refl, (refl, (refl, (refl, (refl, (refl, (refl, tt))))))))))

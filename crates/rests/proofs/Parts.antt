@@ -1,6 +1,6 @@
 -- A rest by its whole numbers: what an odd part stands for (`odd-value`), the balance p = q + rest (`rest-parts`), odd or none (`rest-odd`), its sign
--- (`rest-sign`), size (`rest-at-most`) and exponent (`rest-place`); a number added to both sides changes nothing (`rest-shifted`). Exponents keep their bias, and 2 ^ bias is never
--- computed.
+-- (`rest-sign`), size (`rest-at-most`) and exponent (`rest-place`); a number added to both sides changes nothing (`rest-shifted`). Exponents keep their bias,
+-- and 2 ^ bias is never computed.
 use mathlib.Core.Path.{_≡_, refl, sym, ap, _∙_}
 use mathlib.Core.Bool.{Bool, true, false, cond, false≢true}
 use mathlib.Core.Logic.{_⊎_, _↔_, inl, inr}

@@ -1,6 +1,6 @@
--- THE LOG BALANCES TO THE LAST BIT (document 02, request (c)): what is promised of a result and its rest (`Balanced`), in exact fractions with a sign. A rest is
--- n × 2 ^ x (`dyadic`), an odd whole number with an exponent, or 0 with exponent 0 (`OddOrNone`). It is what the result leaves of the exact sum or product, or
--- result times divisor of the dividend (`whole`, `covered`); negative exactly where the result was rounded up; and no other rest balances (`ExactRest`).
+-- THE LOG BALANCES TO THE LAST BIT (document 02, request (c)): what is promised of a result and its rest (`Balanced`), in exact fractions with a sign. A rest
+-- is n × 2 ^ x (`dyadic`), an odd whole number with an exponent, or 0 with exponent 0 (`OddOrNone`). It is what the result leaves of the exact sum or product,
+-- or result times divisor of the dividend (`whole`, `covered`); negative exactly where the result was rounded up; and no other rest balances (`ExactRest`).
 use mathlib.Core.Path.{_≡_}
 use mathlib.Core.Bool.{true}
 use mathlib.Core.Logic.{_⊎_, _↔_}
@@ -37,7 +37,7 @@ OddOrNone n x = ((n ≡ pos 0) × (x ≡ pos 0)) ⊎ (natAbs n % 2 ≡ 1)
 abbrev pub BelowSigned : SignedFraction → SignedFraction → Type 0
 BelowSigned x y = x .plus * y .low + y .minus * x .low < y .plus * x .low + x .minus * y .low
 
--- n × 2 ^ e is the exact rest that f leaves of e: with it f makes up e; it is odd or none, negative exactly where f is above e; and no other is all that
+-- n × 2 ^ x is the exact rest that f leaves of e: with it f makes up e; it is odd or none, negative exactly where f is above e; and no other rest does so
 pub record ExactRest (e f : SignedFraction) (n x : ℤ) : Type 0 where
   pub balance : EqualSigned (signed-add f (dyadic n x)) e
   pub odd : OddOrNone n x
@@ -57,6 +57,7 @@ covered Add r b = r
 covered Multiply r b = r
 covered Divide r b = signed-mul r b
 
--- THE PROMISE: r is the rounded result of an operation on a and b, and n × 2 ^ x the rest. The result covers more than the whole exactly where it was rounded up
+-- THE PROMISE: r is the rounded result of an operation on a and b, and n × 2 ^ x the rest. The result covers more than the whole exactly where it was
+-- rounded up
 abbrev pub Balanced : Operator → (a b r : SignedFraction) → (n x : ℤ) → Type 0
 Balanced o a b r n x = ExactRest (whole o a b) (covered o r b) n x

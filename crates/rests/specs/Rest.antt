@@ -73,7 +73,7 @@ abbrev pub restExponent : Rest → ℤ
 restExponent r = unbiased (r .x)
 
 -- two positive numbers within the reach of the arithmetic
-pub record Positive (a b : Number) : Type 0 where
+pub record PositivePair (a b : Number) : Type 0 where
   pub first : Ranged reach a
   pub second : Ranged reach b
   pub first-positive : 0 < a .m

@@ -2,7 +2,7 @@
 // Each works its rest from the result that the number's own add, mul or div gives, by whole numbers and with no further rounding.
 ghost use mathlib.Core.Path.{_≡_};
 ghost use Prim.Native.Nat.{_^_, _≤_, _<_};
-ghost use Rattle.rests.specs.Rest.{oddPart, restOf, sumRounded, productRounded, quotientRounded, roundedBy, Positive};
+ghost use Rattle.rests.specs.Rest.{oddPart, restOf, sumRounded, productRounded, quotientRounded, roundedBy, PositivePair};
 ghost use Rattle.rests.specs.Rest.{restInteger, restExponent, Small};
 use number::BIAS;
 use number::Number;
@@ -83,7 +83,7 @@ fn difference(p: u64, q: u64, x: u64) -> Rest
 // The sum, where the second exponent is not above the first: the result less the first is exact, and the second less that is the rest (Fast2Sum).
 // From 33 places on the second is less than half a unit of the first's last place: the first is the result, and the second is the rest.
 fn sum(a: Number, b: Number) -> Rounded
-    requires { ⌜ Positive a b × (b .x ≤ a .x) ⌝ }
+    requires { ⌜ PositivePair a b × (b .x ≤ a .x) ⌝ }
     ensures { λ r. ⌜ r ≡ sumRounded a b ⌝ }
 {
     let number = a.add(b);
@@ -102,7 +102,7 @@ fn sum(a: Number, b: Number) -> Rounded
 }
 
 pub fn add(a: Number, b: Number) -> Rounded
-    requires { ⌜ Positive a b ⌝ }
+    requires { ⌜ PositivePair a b ⌝ }
     ensures { λ r. ⌜ r ≡ sumRounded a b ⌝ }
 {
     if a.x < b.x {
@@ -112,7 +112,7 @@ pub fn add(a: Number, b: Number) -> Rounded
 }
 
 pub fn multiply(a: Number, b: Number) -> Rounded
-    requires { ⌜ Positive a b ⌝ }
+    requires { ⌜ PositivePair a b ⌝ }
     ensures { λ r. ⌜ r ≡ productRounded a b ⌝ }
 {
     let number = a.mul(b);
@@ -124,7 +124,7 @@ pub fn multiply(a: Number, b: Number) -> Rounded
 }
 
 pub fn divide(a: Number, b: Number) -> Rounded
-    requires { ⌜ Positive a b ⌝ }
+    requires { ⌜ PositivePair a b ⌝ }
     ensures { λ r. ⌜ r ≡ quotientRounded a b ⌝ }
 {
     let number = a.div(b);
@@ -137,7 +137,7 @@ pub fn divide(a: Number, b: Number) -> Rounded
 
 // One of the three.
 pub fn work(operator: Operator, a: Number, b: Number) -> Rounded
-    requires { ⌜ Positive a b ⌝ }
+    requires { ⌜ PositivePair a b ⌝ }
     ensures { λ r. ⌜ r ≡ roundedBy operator a b ⌝ }
     ensures { λ r. ⌜ Small r ⌝ }
 {

@@ -10,8 +10,7 @@ use lib.ListN.{getD}
 use Rattle.verdict.specs.declared.Verdict.the-variants.{Accepted}
 use Rattle.verdict.specs.Verdict.{firstBehind, firstOf}
 use Rattle.number.specs.Number.{exponentOf}
-use Rattle.number.specs.declared.Number.{Number}
-use Rattle.rests.specs.Rest.{roundedBy, restInteger, restExponent, Positive}
+use Rattle.rests.specs.Rest.{roundedBy, restInteger, restExponent}
 use Rattle.rests.specs.declared.Rounded.{Rounded}
 use Rattle.items.proofs.Fronts.{unset}
 use Rattle.items.proofs.ListRead.{Read, read-is}
@@ -20,7 +19,7 @@ use Rattle.arithmetic.specs.Arithmetic.{firstItem, secondItem, arithmeti
 use Rattle.arithmetic.specs.Promise.{Logged}
 use Rattle.arithmetic.specs.declared.Worked.{Worked}
 use Rattle.arithmetic.specs.declared.Worked.the-variants.{Result}
-use Rattle.arithmetic.proofs.Accepted.{TwoPositive, accepted-two, logged}
+use Rattle.arithmetic.proofs.Accepted.{accepted-two, logged}
 use Rattle.arithmetic.proofs.Outcomes.{item-read, tests, judged, accepted-proper, answered, turned-down}
 use Rattle.arithmetic.proofs.arithmetic.Statement.{statement}
 use Rattle.arithmetic.proofs.arithmetic.Tie as tie

@@ -1,10 +1,10 @@
 -- `add` meets its contract: the operands are exchanged where the first exponent is the lower.
-use mathlib.Core.Path.{_≡_, ap₂, _∙_}
+use mathlib.Core.Path.{ap₂, _∙_}
 use borrow.Author.Needs.{needs}
 use Rattle.number.proofs.Zero.{sum-comm}
 use Rattle.number.specs.declared.Number.{Number}
 use Rattle.rests.specs.declared.Rest.{Rest}
-use Rattle.rests.proofs.Whole.{rest-comm}
+use Rattle.rests.proofs.Sums.{rest-comm}
 use Rattle.rests.proofs.add.Statement.{statement}
 use Rattle.rests.proofs.add.Tie as tie
 

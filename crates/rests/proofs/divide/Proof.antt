@@ -1,5 +1,5 @@
 -- `divide` meets its contract: the dividend and result times divisor, both whole numbers at one exponent, are words.
-use mathlib.Core.Path.{_≡_, ap, ap₂, _∙_}
+use mathlib.Core.Path.{ap, ap₂, _∙_}
 use Prim.Native.Nat.{ℕ, _+_, _-_, _*_, _^_}
 use native.Mathlib.Omega.{arith}
 use borrow.Author.Needs.{needs}
@@ -7,7 +7,7 @@ use Rattle.number.specs.Number.{bias}
 use Rattle.number.specs.declared.Number.{Number}
 use Rattle.rests.specs.Rest.{restOf, quotientRest}
 use Rattle.rests.specs.declared.Rest.{Rest}
-use Rattle.rests.proofs.Whole.{quotient-stop, quotient-under, quotient-shift, dividend-fits, divisor-fits}
+use Rattle.rests.proofs.Products.{quotient-stop, quotient-under, quotient-shift, dividend-fits, divisor-fits}
 use Rattle.rests.proofs.divide.Statement.{statement}
 use Rattle.rests.proofs.divide.Tie as tie
 

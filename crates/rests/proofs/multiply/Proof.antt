@@ -1,5 +1,5 @@
 -- `multiply` meets its contract: the exact product and the result, both whole numbers at the product's exponent, are words.
-use mathlib.Core.Path.{_≡_, ap, ap₂, _∙_}
+use mathlib.Core.Path.{ap, ap₂, _∙_}
 use Prim.Native.Nat.{ℕ, _+_, _-_, _*_, _^_}
 use native.Mathlib.Omega.{arith}
 use borrow.Author.Needs.{needs}
@@ -8,7 +8,7 @@ use Rattle.number.specs.Number.{bias}
 use Rattle.number.specs.declared.Number.{Number}
 use Rattle.rests.specs.Rest.{restOf, productRest}
 use Rattle.rests.specs.declared.Rest.{Rest}
-use Rattle.rests.proofs.Whole.{product-start, product-stop, result-fits}
+use Rattle.rests.proofs.Products.{product-start, product-stop, result-fits}
 use Rattle.rests.proofs.multiply.Statement.{statement}
 use Rattle.rests.proofs.multiply.Tie as tie
 

@@ -8,7 +8,7 @@ use Rattle.number.specs.Number.{sumOf}
 use Rattle.number.specs.declared.Number.{Number}
 use Rattle.rests.specs.Rest.{restOf}
 use Rattle.rests.specs.declared.Rest.{Rest}
-use Rattle.rests.proofs.Whole.{sum-start, sum-stop, more-fits, more-word, more-small, sum-rest, far-rest}
+use Rattle.rests.proofs.Sums.{sum-start, sum-stop, more-fits, more-word, more-small, sum-rest, far-rest}
 use Rattle.rests.proofs.sum.Statement.{statement}
 use Rattle.rests.proofs.sum.Tie as tie
 
