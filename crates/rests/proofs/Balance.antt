@@ -1,15 +1,16 @@
 -- THE LOG BALANCES: `balanced`, what is promised of each operation on positive numbers. All of it follows from the whole numbers p and q of an operation
--- (`Works`): result and rest add up (`adds-up`), no other rest does (`only-rest`), and the rest's sign is the side on which the result lies (`side`).
+-- (`Works`): result and rest add up (`adds-up`), no other rest does (`only-rest`), and the rest's sign is the side on which the result lies (`side`, and of a
+-- quotient `rounded-up`). What is answered is small (`rounded-small`).
 use mathlib.Core.Path.{_≡_, refl, sym, ap, ap₂, _∙_, subst}
 use mathlib.Core.Bool.{true}
 use mathlib.Core.Logic.{_↔_}
-use Prim.Native.Nat.{ℕ, _+_, _-_, _*_, _^_, _<_}
+use Prim.Native.Nat.{ℕ, zero, suc, _+_, _-_, _*_, _^_, _<_}
 use native.Mathlib.Nat.{mul-pos, eq-of-mul-eq-mul-right, mul-lt-mul-of-pos-right, lt-of-mul-lt-mul-right}
 use native.Mathlib.Omega.{arith}
 use lib.IntN.{ℤ}
 use lib.Pow.{pow-pos}
 use Rattle.fraction.specs.Fraction.{Fraction, fractionSum, fractionProduct}
-use Rattle.fraction.specs.SignedFraction.{SignedFraction, EqualSigned, signed, signed-add, signed-mul}
+use Rattle.fraction.specs.SignedFraction.{SignedFraction, EqualSigned, PositiveSigned, signed, signed-add, signed-mul, signed-inv, reciprocal}
 use Rattle.fraction.specs.SignedFractionLaws.{equal-trans}
 use Rattle.number.proofs.Reach.{ranged-sum, ranged-product, ranged-quotient}
 use Rattle.number.proofs.Value.{scale, scale-positive, Over, value-over}
@@ -17,7 +18,7 @@ use Rattle.number.specs.Integer.{isNegative}
 use Rattle.number.specs.Number.{bias, value, sumOf, productOf, quotientOf}
 use Rattle.number.specs.declared.Number.{Number}
 use Rattle.rests.specs.Rest.{sumRest, productRest, quotientRest, roundedBy, restInteger, restExponent, PositivePair, Small}
-use Rattle.rests.specs.Balance.{dyadic, OddOrNone, BelowSigned, ExactRest, Balanced}
+use Rattle.rests.specs.Balance.{dyadic, OddOrNone, BelowSigned, ExactRest, covered, Balanced}
 use Rattle.rests.specs.declared.Operator.{Operator}
 use Rattle.rests.specs.declared.Operator.the-variants.{Add, Multiply, Divide}
 use Rattle.rests.specs.declared.Rest.{Rest}
@@ -132,6 +133,18 @@ balanced Multiply a b g =
 balanced Divide a b g =
     settled (value a) (fractionProduct (value (quotientOf a b)) (value b)) (quotientRest a b) (quotient-works a b g) _ _ refl
     (signed-product (value (quotientOf a b)) (value b))
+
+-- of a quotient that is: a / b < r exactly where a < r b, b being positive
+pub rounded-up : (a b r : SignedFraction) → PositiveSigned b → BelowSigned a (covered Divide r b) ↔ BelowSigned (signed-mul a (signed-inv b)) r
+rounded-up a b r h = go (b .plus - b .minus) (b .minus - b .plus) refl
+  where
+    go : (i j : ℕ) → b .plus - b .minus ≡ i → BelowSigned a (signed-mul r b) ↔ BelowSigned (signed-mul a (reciprocal i j (b .low))) r
+    go zero j e = absurd (omega arith)
+    go (suc i) j e =
+        let f : b .plus ≡ b .minus + suc i = omega arith in
+        let p = ap (λ (z : ℕ). r .plus * a .low * z) f in
+        let m = ap (λ (z : ℕ). r .minus * a .low * z) f in
+        (λ g. omega arith, λ g. omega arith)
 
 -- what an operation answers is small
 pub rounded-small : (o : Operator) (a b : Number) → PositivePair a b → Small (roundedBy o a b)

@@ -58,6 +58,6 @@ covered Multiply r b = r
 covered Divide r b = signed-mul r b
 
 -- THE PROMISE: r is the rounded result of an operation on a and b, and n × 2 ^ x the rest. The result covers more than the whole exactly where it was
--- rounded up
+-- rounded up: a < r b is a / b < r (`rounded-up`)
 abbrev pub Balanced : Operator → (a b r : SignedFraction) → (n x : ℤ) → Type 0
 Balanced o a b r n x = ExactRest (whole o a b) (covered o r b) n x
