@@ -21,7 +21,7 @@ use Rattle.number.specs.declared.signed.Signed.{Signed}
 use Rattle.rests.proofs.Balance.{balanced}
 use Rattle.rests.proofs.Dyadic.{number-value}
 use Rattle.rests.specs.Balance.{dyadic, Balanced}
-use Rattle.rests.specs.Rest.{roundedBy, restInteger, restExponent, PositivePair}
+use Rattle.rests.specs.Rest.{workedBy, restInteger, restExponent, PositivePair}
 use Rattle.rests.specs.declared.Operator.{Operator}
 use Rattle.items.proofs.Reading.{RangedList, list-ranged, proper-exactly}
 use Rattle.items.proofs.RoundTrip.{Written, list-written}
@@ -91,10 +91,10 @@ module _ (z : List ℤ) (t : TwoPositive z) where
   second-value = ap (λ (y : List ℤ). itemValue y 1) (sym (t .row)) ∙ item-value (secondItem z) (t .second)
 
   -- THE LOG BALANCES, in the numbers that go in and come out
-  pub logged : (o : Operator) → let r = roundedBy o (firstItem z .size) (secondItem z .size) in
+  pub logged : (o : Operator) → let r = workedBy o (firstItem z .size) (secondItem z .size) in
       Logged o z (Result (r .number .m) (exponentOf (r .number)) (restInteger (r .rest)) (restExponent (r .rest)))
   logged o =
-      let r = roundedBy o (firstItem z .size) (secondItem z .size) in
+      let r = workedBy o (firstItem z .size) (secondItem z .size) in
       let Log : (a b c : SignedFraction) → Type 0 = λ a b c. Balanced o a b c (restInteger (r .rest)) (restExponent (r .rest)) in
       subst (λ c. Log (itemValue z 0) (itemValue z 1) c) (sym (number-value (r .number)))
       (subst (λ b. Log (itemValue z 0) b (signed (value (r .number)))) (sym second-value)

@@ -18,7 +18,7 @@ use Rattle.verdict.proofs.Verdicts.{when-accepted}
 use Rattle.arrays.proofs.Filled.{read-any}
 use Rattle.number.specs.Signed.{zeroSigned}
 use Rattle.number.specs.declared.signed.Signed.{Signed}
-use Rattle.rests.specs.Rest.{roundedBy}
+use Rattle.rests.specs.Rest.{workedBy}
 use Rattle.rests.specs.declared.Operator.{Operator}
 use Rattle.items.proofs.Fronts.{unset}
 use Rattle.items.proofs.ListRead.{Read}
@@ -54,11 +54,11 @@ module _ (z : List ℤ) (r : ItemList) (w : Read 2 2 (listOf z) r) where
   accepted-proper h = w .judged ∙ not-false (proper 2 2 (listOf z)) (when-accepted (not (proper 2 2 (listOf z))) 9 _ h .0)
 
 pub answered : (o : Operator) (z : List ℤ) → firstOf (arithmeticTests z) ≡ Accepted
-    → accepted (resultValues (roundedBy o (firstItem z .size) (secondItem z .size))) ≡ arithmeticCall o z
+    → accepted (resultValues (workedBy o (firstItem z .size) (secondItem z .size))) ≡ arithmeticCall o z
 unfolding arithmeticCall
-answered o z h = sym (ap (λ (v : Verdict). reportOf v (resultValues (roundedBy o (firstItem z .size) (secondItem z .size)))) h)
+answered o z h = sym (ap (λ (v : Verdict). reportOf v (resultValues (workedBy o (firstItem z .size) (secondItem z .size)))) h)
 
 pub turned-down : (o : Operator) (z : List ℤ) (why : Refusal) → firstOf (arithmeticTests z) ≡ Refused why
     → refused (why .number) (why .offset) ≡ arithmeticCall o z
 unfolding arithmeticCall
-turned-down o z why h = sym (ap (λ (v : Verdict). reportOf v (resultValues (roundedBy o (firstItem z .size) (secondItem z .size)))) h)
+turned-down o z why h = sym (ap (λ (v : Verdict). reportOf v (resultValues (workedBy o (firstItem z .size) (secondItem z .size)))) h)

@@ -8,7 +8,7 @@ use Rattle.verdict.specs.Verdict.{when, firstOf}
 use Rattle.verdict.specs.Report.{Report, accepted, refused, reportOf}
 use Rattle.number.specs.Number.{exponentOf}
 use Rattle.number.specs.declared.signed.Signed.{Signed}
-use Rattle.rests.specs.Rest.{roundedBy, restInteger, restExponent}
+use Rattle.rests.specs.Rest.{workedBy, restInteger, restExponent}
 use Rattle.rests.specs.declared.Operator.{Operator}
 use Rattle.rests.specs.declared.Rounded.{Rounded}
 use Rattle.items.specs.Items.{isZeroItem, listOf, itemsOf, vectorOf, proper}
@@ -37,7 +37,7 @@ resultValues r = pos (r .number .m) ∷ exponentOf (r .number) ∷ restInteger (
 
 -- what the call returns
 unfoldable pub arithmeticCall : Operator → List ℤ → Report
-arithmeticCall o items = reportOf (firstOf (arithmeticTests items)) (resultValues (roundedBy o (firstItem items .size) (secondItem items .size)))
+arithmeticCall o items = reportOf (firstOf (arithmeticTests items)) (resultValues (workedBy o (firstItem items .size) (secondItem items .size)))
 
 -- what its answers report
 abbrev pub workedReport : Worked → Report

@@ -17,7 +17,7 @@ use Rattle.number.proofs.Value.{scale, scale-positive, Over, value-over}
 use Rattle.number.specs.Integer.{isNegative}
 use Rattle.number.specs.Number.{bias, value, sumOf, productOf, quotientOf}
 use Rattle.number.specs.declared.Number.{Number}
-use Rattle.rests.specs.Rest.{sumRest, productRest, quotientRest, roundedBy, restInteger, restExponent, PositivePair, Small}
+use Rattle.rests.specs.Rest.{sumRest, productRest, quotientRest, workedBy, restInteger, restExponent, PositivePair, Small}
 use Rattle.rests.specs.Balance.{dyadic, OddOrNone, BelowSigned, ExactRest, covered, Balanced}
 use Rattle.rests.specs.declared.Operator.{Operator}
 use Rattle.rests.specs.declared.Operator.the-variants.{Add, Multiply, Divide}
@@ -124,7 +124,7 @@ module _ (E F : Fraction) (t : Rest) (w : Works E F t) where
       (record { balance = adds-up; odd = rest-form t odd-rest; negative = side; small = rw (rest-size t) odd-small; only = only-rest }))
 
 -- THE PROMISE, of each of the three
-pub balanced : (o : Operator) (a b : Number) → PositivePair a b → let r = roundedBy o a b in
+pub balanced : (o : Operator) (a b : Number) → PositivePair a b → let r = workedBy o a b in
     Balanced o (signed (value a)) (signed (value b)) (signed (value (r .number))) (restInteger (r .rest)) (restExponent (r .rest))
 balanced Add a b g =
     settled (fractionSum (value a) (value b)) (value (sumOf a b)) (sumRest a b) (sum-works a b g) _ _ (signed-sum (value a) (value b)) refl
@@ -147,7 +147,7 @@ rounded-up a b r h = go (b .plus - b .minus) (b .minus - b .plus) refl
         (λ g. omega arith, λ g. omega arith)
 
 -- what an operation answers is small
-pub rounded-small : (o : Operator) (a b : Number) → PositivePair a b → Small (roundedBy o a b)
+pub rounded-small : (o : Operator) (a b : Number) → PositivePair a b → Small (workedBy o a b)
 rounded-small Add a b g =
     let w = sum-works a b g in
     record {

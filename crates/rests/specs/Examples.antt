@@ -5,7 +5,7 @@ use Prim.Native.Nat.{ℕ, _+_, _-_, _*_, _^_}
 use Rattle.number.specs.Number.{bias}
 use Rattle.number.specs.Examples.{Row, row, up, down}
 use Rattle.number.specs.declared.Number.{Number}
-use Rattle.rests.specs.Rest.{noRest, roundedBy}
+use Rattle.rests.specs.Rest.{noRest, workedBy}
 use Rattle.rests.specs.declared.Operator.the-variants.{Add, Multiply, Divide}
 use Rattle.rests.specs.declared.Rest.{Rest}
 use Rattle.rests.specs.declared.Rounded.{Rounded}
@@ -23,14 +23,14 @@ with a t = record { number = a; rest = t }
 
 unfoldable pub restTable : List Row
 restTable =
-    row (roundedBy Add (down (2 ^ 31) 31) (down (2 ^ 31) 63)) (with (down (2 ^ 31) 31) (below false 1 32))  -- P1, a tie rounded down
-    ∷ row (roundedBy Add (down (2 ^ 31 + 1) 31) (down (2 ^ 31) 63)) (with (down 2147483650 31) (below true 1 32))  -- P2, a tie rounded up
-    ∷ row (roundedBy Add (up (2 ^ 32 - 1) 0) (down (2 ^ 31) 32)) (with (up (2 ^ 31) 1) (below true 1 1))  -- P3, a mantissa carried
-    ∷ row (roundedBy Add (up (2 ^ 32 - 1) 0) (down (2 ^ 32 - 1) 32)) (with (up (2 ^ 31) 1) (below true 1 32))  -- the largest sum of a word, carried past it
-    ∷ row (roundedBy Add (down (2 ^ 31 + 2) 33) (up (2 ^ 31) 0)) (with (up (2 ^ 31) 0) (below false (2 ^ 30 + 1) 32))  -- 33 places apart, the lower first
-    ∷ row (roundedBy Add (up (2 ^ 31) 0) (up (2 ^ 31) 0)) (with (up (2 ^ 31) 1) noRest)
-    ∷ row (roundedBy Multiply (up (2 ^ 32 - 1) 0) (up (2 ^ 32 - 1) 0)) (with (up 4294967294 32) (above false 1 0))  -- P4
-    ∷ row (roundedBy Multiply (up (3 * 2 ^ 30) 0) (up (2 ^ 31 + 1) 0)) (with (up 3221225474 31) (above true 1 30))  -- a tie rounded up
-    ∷ row (roundedBy Divide (down (2 ^ 31) 31) (down (3 * 2 ^ 30) 30)) (with (down 2863311531 33) (below true 1 33))  -- P10, one third
-    ∷ row (roundedBy Divide (up (3 * 2 ^ 30) 0) (up (2 ^ 31) 0)) (with (down (3 * 2 ^ 30) 31) noRest)
+    row (workedBy Add (down (2 ^ 31) 31) (down (2 ^ 31) 63)) (with (down (2 ^ 31) 31) (below false 1 32))  -- P1, a tie rounded down
+    ∷ row (workedBy Add (down (2 ^ 31 + 1) 31) (down (2 ^ 31) 63)) (with (down 2147483650 31) (below true 1 32))  -- P2, a tie rounded up
+    ∷ row (workedBy Add (up (2 ^ 32 - 1) 0) (down (2 ^ 31) 32)) (with (up (2 ^ 31) 1) (below true 1 1))  -- P3, a mantissa carried
+    ∷ row (workedBy Add (up (2 ^ 32 - 1) 0) (down (2 ^ 32 - 1) 32)) (with (up (2 ^ 31) 1) (below true 1 32))  -- the largest sum of a word, carried past it
+    ∷ row (workedBy Add (down (2 ^ 31 + 2) 33) (up (2 ^ 31) 0)) (with (up (2 ^ 31) 0) (below false (2 ^ 30 + 1) 32))  -- 33 places apart, the lower first
+    ∷ row (workedBy Add (up (2 ^ 31) 0) (up (2 ^ 31) 0)) (with (up (2 ^ 31) 1) noRest)
+    ∷ row (workedBy Multiply (up (2 ^ 32 - 1) 0) (up (2 ^ 32 - 1) 0)) (with (up 4294967294 32) (above false 1 0))  -- P4
+    ∷ row (workedBy Multiply (up (3 * 2 ^ 30) 0) (up (2 ^ 31 + 1) 0)) (with (up 3221225474 31) (above true 1 30))  -- a tie rounded up
+    ∷ row (workedBy Divide (down (2 ^ 31) 31) (down (3 * 2 ^ 30) 30)) (with (down 2863311531 33) (below true 1 33))  -- P10, one third
+    ∷ row (workedBy Divide (up (3 * 2 ^ 30) 0) (up (2 ^ 31) 0)) (with (down (3 * 2 ^ 30) 31) noRest)
     ∷ []

@@ -1,6 +1,6 @@
 -- WHAT ROUNDING TOOK AWAY (document 02, request (c)), the exact signed rest: the sum or the product minus the result (`sumRest`, `productRest`), the dividend
 -- minus result times divisor (`quotientRest`). A rest is an odd whole number with an exponent and a sign, or 0 with exponent 0 (`noRest`). Beside the rounded
--- result it makes up what an operation returns (`roundedBy`).
+-- result it makes up what an operation returns (`workedBy`).
 use mathlib.Core.Bool.{Bool, true, false, cond}
 use Prim.Native.Nat.{ℕ, _+_, _-_, _*_, _/_, _^_, _<_, min}
 use lib.Count.{trailingZeros}
@@ -60,10 +60,10 @@ productRounded a b = record { number = productOf a b; rest = productRest a b }
 abbrev pub quotientRounded : Number → Number → Rounded
 quotientRounded a b = record { number = quotientOf a b; rest = quotientRest a b }
 
-abbrev pub roundedBy : Operator → Number → Number → Rounded
-roundedBy Add a b = sumRounded a b
-roundedBy Multiply a b = productRounded a b
-roundedBy Divide a b = quotientRounded a b
+abbrev pub workedBy : Operator → Number → Number → Rounded
+workedBy Add a b = sumRounded a b
+workedBy Multiply a b = productRounded a b
+workedBy Divide a b = quotientRounded a b
 
 -- a rest as it is answered: the odd number with its sign, and the exponent
 abbrev pub restInteger : Rest → ℤ

@@ -2,7 +2,7 @@
 // Each works its rest from the result that the number's own add, mul or div gives, by whole numbers and with no further rounding.
 ghost use mathlib.Core.Path.{_≡_};
 ghost use Prim.Native.Nat.{_^_, _≤_, _<_};
-ghost use Rattle.rests.specs.Rest.{oddPart, restOf, sumRounded, productRounded, quotientRounded, roundedBy, PositivePair};
+ghost use Rattle.rests.specs.Rest.{oddPart, restOf, sumRounded, productRounded, quotientRounded, workedBy, PositivePair};
 ghost use Rattle.rests.specs.Rest.{restInteger, restExponent, Small};
 use number::BIAS;
 use number::Number;
@@ -138,7 +138,7 @@ pub fn divide(a: Number, b: Number) -> Rounded
 // One of the three.
 pub fn work(operator: Operator, a: Number, b: Number) -> Rounded
     requires { ⌜ PositivePair a b ⌝ }
-    ensures { λ r. ⌜ r ≡ roundedBy operator a b ⌝ }
+    ensures { λ r. ⌜ r ≡ workedBy operator a b ⌝ }
     ensures { λ r. ⌜ Small r ⌝ }
 {
     match operator {

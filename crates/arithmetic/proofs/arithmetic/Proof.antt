@@ -10,7 +10,7 @@ use lib.ListN.{getD}
 use Rattle.verdict.specs.declared.Verdict.the-variants.{Accepted}
 use Rattle.verdict.specs.Verdict.{firstBehind, firstOf}
 use Rattle.number.specs.Number.{exponentOf}
-use Rattle.rests.specs.Rest.{roundedBy, restInteger, restExponent}
+use Rattle.rests.specs.Rest.{workedBy, restInteger, restExponent}
 use Rattle.rests.specs.declared.Rounded.{Rounded}
 use Rattle.items.proofs.Fronts.{unset}
 use Rattle.items.proofs.ListRead.{Read, read-is}
@@ -97,9 +97,9 @@ returns c =
     let t = w .before in
     let z = given (t .before .before) in
     let o = reading (t .before .before) .before .args .operator in
-    let e : c .told .result ≡ numbers (roundedBy o (firstItem z .size) (secondItem z .size)) =
+    let e : c .told .result ≡ numbers (workedBy o (firstItem z .size) (secondItem z .size)) =
     c .told .ensures ∙ ap numbers (w .work .ensures .0)
-    ∙ ap₂ (λ a b. numbers (roundedBy o (a .size) (b .size))) (first-read t) (second-read t) in
+    ∙ ap₂ (λ a b. numbers (workedBy o (a .size) (b .size))) (first-read t) (second-read t) in
     (ap workedReport e ∙ answered o z (passed t), subst (Logged o z) (sym e) (logged z (accepted-two z (passed t)) o))
 
 returns-2 : tie.Need-returns-2

@@ -2,7 +2,7 @@
 use mathlib.Core.Path.{_≡_, sym, ap, _∙_, subst}
 use borrow.Author.Needs.{needs}
 use Rattle.number.specs.declared.Number.{Number}
-use Rattle.rests.specs.Rest.{roundedBy, PositivePair, Small}
+use Rattle.rests.specs.Rest.{workedBy, PositivePair, Small}
 use Rattle.rests.specs.declared.Operator.{Operator}
 use Rattle.rests.specs.declared.Rounded.{Rounded}
 use Rattle.rests.proofs.Balance.{rounded-small}
@@ -10,8 +10,8 @@ use Rattle.rests.proofs.work.Statement.{statement}
 use Rattle.rests.proofs.work.Tie as tie
 
 -- a result by the definition of the operator p, which is o
-done : (o p : Operator) (a b : Number) (r : Rounded) → PositivePair a b → o ≡ p → r ≡ roundedBy p a b → (r ≡ roundedBy o a b) × Small r
-done o p a b r g e f = (f ∙ ap (λ (q : Operator). roundedBy q a b) (sym e), subst Small (sym f) (rounded-small p a b g))
+done : (o p : Operator) (a b : Number) (r : Rounded) → PositivePair a b → o ≡ p → r ≡ workedBy p a b → (r ≡ workedBy o a b) × Small r
+done o p a b r g e f = (f ∙ ap (λ (q : Operator). workedBy q a b) (sym e), subst Small (sym f) (rounded-small p a b g))
 
 enum-told : tie.Need-enum-told
 enum-told c = search needs
