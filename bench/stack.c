@@ -1,6 +1,7 @@
 /* The sizes of the structs, and how much stack each call of the library takes. Each call runs on a stack of its own that was painted before;
  * afterwards the lowest byte that lost its paint tells the depth. Counted from the frame of a C function that makes the call, so with the shelf that
- * is handed over and the answer that comes back. Every call works on eight rows. Exit status 1 if a call answers otherwise than wanted. */
+ * is handed over and the answer that comes back. Every call works on eight rows or a list, add, multiply and divide on two items. Exit status 1 if a
+ * call answers otherwise than wanted. */
 #define _XOPEN_SOURCE 700
 #include "../include/beechcrib.h"
 #include "bytes.h"
@@ -18,6 +19,8 @@ static tnb_shelf shelf;
 static uint8_t bytes[MOST_BYTES];
 static size_t length;
 static int64_t items[24], carried[24];
+/* about a third and about three: sum, product and quotient all leave a rest */
+static const int64_t pair[6] = {1, 2863311531, -33, 1, 3221225473, -30};
 static int number;
 
 /* Each as a program would write it: the shelf handed over, the answer kept in a variable. */
@@ -113,6 +116,24 @@ static void call_reversals(void)
     number = a.number;
 }
 
+static void call_add(void)
+{
+    tnb_worked a = tnb_add(pair, 6);
+    number = a.number;
+}
+
+static void call_multiply(void)
+{
+    tnb_worked a = tnb_multiply(pair, 6);
+    number = a.number;
+}
+
+static void call_divide(void)
+{
+    tnb_worked a = tnb_divide(pair, 6);
+    number = a.number;
+}
+
 /* by value: what stands in the caller's frame for the shelf handed over and for the answer */
 static const struct {
     const char *name;
@@ -134,6 +155,9 @@ static const struct {
     {"tnb_factor", call_factor, sizeof(tnb_shelf) + sizeof(tnb_value)},
     {"tnb_carry", call_carry, sizeof(tnb_shelf) + sizeof(tnb_status)},
     {"tnb_reversals", call_reversals, sizeof(tnb_length)},
+    {"tnb_add", call_add, sizeof(tnb_worked)},
+    {"tnb_multiply", call_multiply, sizeof(tnb_worked)},
+    {"tnb_divide", call_divide, sizeof(tnb_worked)},
 };
 
 /* eight rows at places 0 and 1, mantissas that differ, and a list of eight items with both signs */
@@ -186,7 +210,8 @@ static void print_sizes(void)
 {
     printf("| struct | bytes |\n|:--|--:|\n");
     printf("| `tnb_shelf` | %zu |\n| `tnb_answer` | %zu |\n", sizeof(tnb_shelf), sizeof(tnb_answer));
-    printf("| `tnb_value` | %zu |\n| `tnb_length` | %zu |\n| `tnb_status` | %zu |\n\n", sizeof(tnb_value), sizeof(tnb_length), sizeof(tnb_status));
+    printf("| `tnb_value` | %zu |\n| `tnb_length` | %zu |\n| `tnb_status` | %zu |\n", sizeof(tnb_value), sizeof(tnb_length), sizeof(tnb_status));
+    printf("| `tnb_worked` | %zu |\n\n", sizeof(tnb_worked));
 }
 
 int main(void)

@@ -23,10 +23,10 @@ extern "C" {
 #endif
 
 /* The version of this header and of the archive built beside it. It rises whenever a struct changes its size, a call or a number is added, or a call
- * answers otherwise than before (2: tnb_reversals passes over zeros). A program that uses only what stands here, and not the inside of a shelf,
- * compiles again with every later version; it is compiled again for each, since structs go by value. Later versions may refuse with numbers that are
- * not listed yet: test for TNB_ACCEPTED. */
-#define TNB_VERSION 2
+ * answers otherwise than before (2: tnb_reversals passes over zeros; 3: tnb_add, tnb_multiply and tnb_divide are new). A program that uses only what
+ * stands here, and not the inside of a shelf, compiles again with every later version; it is compiled again for each, since structs go by value. Later
+ * versions may refuse with numbers that are not listed yet: test for TNB_ACCEPTED. */
+#define TNB_VERSION 3
 
 /* The numbers of answers. */
 enum {
@@ -39,7 +39,7 @@ enum {
     TNB_ZERO_FACTOR = 6,         /* zero factor */
     TNB_BYTES_BEHIND_MATRIX = 7, /* bytes behind the matrix */
     TNB_BAD_SETS = 8,            /* sets of unequal count, empty, or beyond n */
-    TNB_BAD_LIST = 9,            /* list length wrong, or an item not of the stated form */
+    TNB_BAD_LIST = 9,            /* list length wrong, or an item not of the stated form, or, where numbers are worked, an item that is not positive */
     TNB_OUTPUT_TOO_SHORT = 10,   /* lent output shorter than needed */
     TNB_SOURCE_EMPTY = 11,       /* source place empty */
     TNB_TARGET_FULL = 12,        /* target place holds a matrix */
@@ -83,6 +83,19 @@ typedef struct {
     uint64_t mantissa;
     int64_t exponent;
 } tnb_value;
+
+/* A number worked from two others, and what rounding took away. The result is mantissa times 2 to the power exponent: the exact one, rounded once to
+ * nearest, ties to even, at 32 bits. Mantissa from 2^31 to 2^32 - 1; the exponent may lie outside -1000 to 1000, and then it is no list item. The rest is
+ * rest times 2 to the power rest_exponent, exactly: an odd whole number between -2^32 and 2^32, or 0 with rest_exponent 0. It is negative exactly when
+ * the result was rounded up. For a refusal all four are 0. */
+typedef struct {
+    uint8_t number;
+    size_t offset;
+    uint64_t mantissa;
+    int64_t exponent;
+    int64_t rest;
+    int64_t rest_exponent;
+} tnb_worked;
 
 /* A shelf with all places empty. */
 tnb_shelf tnb_new(void);
@@ -135,6 +148,18 @@ tnb_status tnb_carry(tnb_shelf shelf, size_t place, const int64_t *items, size_t
 /* Counts the reversals of a list of 1 to 8 items, three numbers each: pairs of nonzero items of opposite sign with only zeros between. A standstill is
  * passed over: 1, 0, -1 has one reversal. All items are judged before any is counted. Refusal 9. */
 tnb_length tnb_reversals(const int64_t *items, size_t count);
+
+/* Numbers worked, with what rounding took away, so that a log balances to the last bit. Each call takes two positive items, three numbers each: count is 6.
+ * No shelf is handed over, and the result's exponent is not judged. Refusal 9: another count, an item not of the stated form, or one that is zero or
+ * negative.
+ * The sum; rest: first plus second, minus the result. */
+tnb_worked tnb_add(const int64_t *items, size_t count);
+
+/* The product; rest: first times second, minus the result. */
+tnb_worked tnb_multiply(const int64_t *items, size_t count);
+
+/* The quotient, first over second; rest: first, minus the result times second. */
+tnb_worked tnb_divide(const int64_t *items, size_t count);
 
 #ifdef __cplusplus
 }

@@ -78,6 +78,62 @@ static void lists(tnb_shelf s)
     want(tnb_reversals(out, 6).number == TNB_ACCEPTED && tnb_reversals(out, 6).length == 0, "reversals of what was carried");
 }
 
+static int worked(tnb_worked a, uint64_t m, int64_t e, int64_t rest, int64_t rest_exponent)
+{
+    return a.number == TNB_ACCEPTED && a.offset == 0 && a.mantissa == m && a.exponent == e && a.rest == rest && a.rest_exponent == rest_exponent;
+}
+
+/* P1 to P4 and P10 with their rests, exact results, and results that could not be stored */
+static void working(void)
+{
+    static const int64_t down[] = {1, 2147483648, -31, 1, 2147483648, -63}, up[] = {1, 2147483649, -31, 1, 2147483648, -63};
+    static const int64_t carry[] = {1, 4294967295, 0, 1, 2147483648, -32}, odd[] = {1, 4294967295, 0, 1, 4294967295, 0};
+    static const int64_t third[] = {1, 2147483648, -31, 1, 3221225472, -30}, far[] = {1, 3221225472, -1000, 1, 2147483648, 1000};
+    static const int64_t large[] = {1, 2147483648, 1000, 1, 2147483648, 1000}, small[] = {1, 2147483648, -1000, 1, 3221225472, 1000};
+    want(worked(tnb_add(down, 6), 2147483648, -31, 1, -32), "add, a tie down");
+    want(worked(tnb_add(up, 6), 2147483650, -31, -1, -32), "add, a tie up");
+    want(worked(tnb_add(carry, 6), 2147483648, 1, -1, -1), "add, a carry");
+    want(worked(tnb_add(far, 6), 2147483648, 1000, 3, -970), "add, far apart");
+    want(worked(tnb_add(large, 6), 2147483648, 1001, 0, 0), "add, exact and above 1000");
+    want(worked(tnb_multiply(odd, 6), 4294967294, 32, 1, 0), "multiply");
+    want(worked(tnb_multiply(large, 6), 2147483648, 2031, 0, 0), "multiply, exact and above 1000");
+    want(worked(tnb_divide(third, 6), 2863311531, -33, -1, -33), "divide");
+    want(worked(tnb_divide(odd, 6), 2147483648, -31, 0, 0), "divide, exact");
+    want(worked(tnb_divide(small, 6), 2863311531, -2032, -1, -1002), "divide, below -1000");
+}
+
+static int turned_down(tnb_worked a)
+{
+    return a.number == TNB_BAD_LIST && a.offset == 0 && a.mantissa == 0 && a.exponent == 0 && a.rest == 0 && a.rest_exponent == 0;
+}
+
+static void all_turned_down(const int64_t *items, size_t count, const char *why)
+{
+    want(turned_down(tnb_add(items, count)) && turned_down(tnb_multiply(items, count)) && turned_down(tnb_divide(items, count)), why);
+}
+
+/* what is not two positive items */
+static void not_worked(void)
+{
+    static const int64_t ones[] = {1, 2147483648, -31, 1, 2147483648, -31, 1, 2147483648, -31};
+    static const int64_t first[] = {-1, 2147483648, -31, 1, 2147483648, -31}, nothing[] = {0, 0, 0, 1, 2147483648, -31};
+    static const int64_t less[] = {1, 2147483647, -31, 1, 2147483648, -31}, more[] = {1, 2147483648, -31, 1, 4294967296, -31};
+    static const int64_t high[] = {1, 2147483648, 1001, 1, 2147483648, -31}, low[] = {1, 2147483648, -31, 1, 2147483648, -1001};
+    all_turned_down(NULL, 0, "add, multiply, divide, NULL");
+    all_turned_down(ones, 3, "add, multiply, divide, one item");
+    all_turned_down(ones, 5, "add, multiply, divide, five numbers");
+    all_turned_down(ones, 7, "add, multiply, divide, seven numbers");
+    all_turned_down(ones, 9, "add, multiply, divide, three items");
+    all_turned_down(first, 6, "add, multiply, divide, first negative");
+    all_turned_down(list, 6, "add, multiply, divide, second negative");
+    all_turned_down(nothing, 6, "add, multiply, divide, first zero");
+    all_turned_down(standstill, 6, "add, multiply, divide, second zero");
+    all_turned_down(less, 6, "add, multiply, divide, mantissa below 2^31");
+    all_turned_down(more, 6, "add, multiply, divide, mantissa of 2^32");
+    all_turned_down(high, 6, "add, multiply, divide, exponent above 1000");
+    all_turned_down(low, 6, "add, multiply, divide, exponent below -1000");
+}
+
 static void writing(tnb_shelf s)
 {
     uint8_t bytes[14] = {0};
@@ -122,6 +178,8 @@ int main(void)
     s = operations(s);
     reading(s);
     lists(s);
+    working();
+    not_worked();
     writing(s);
     null(s);
     foreign();

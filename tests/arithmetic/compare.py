@@ -1,8 +1,9 @@
 """compare.py DRIVER SEED COUNT: COUNT operations, worked by DRIVER and by exact fractions, must agree to the last bit.
 
-A number is (sign, m, e): sign * m * 2^e, m from 2^31 to 2^32 - 1; zero is (1, 0, 0). The expected result is the exact one,
-rounded to 32 significant bits, to nearest, ties to even. Operands that the arithmetic does not take must be refused.
-A product takes the size of its second operand, a quotient the sizes of both.
+An item is (sign, m, e): sign * m * 2^e, m from 2^31 to 2^32 - 1 and e from -1000 to 1000; zero is (0, 0, 0). The operations + * / take two positive items
+and answer the exact result rounded to 32 significant bits, to nearest, ties to even, and the exact rest: what the result lacks, for a quotient what the
+result times the divisor lacks, as an odd whole number with an exponent, or 0 with 0. What they do not take they refuse with 9.
+The operation c carries two items of any sign through two rows of ones: (a, b) becomes (a + b, b + (a + b)), each sum rounded.
 """
 import random
 import subprocess
@@ -10,14 +11,15 @@ import sys
 from collections import Counter
 from fractions import Fraction
 
-LOW, HIGH = 1 << 31, 1 << 32
-BIAS, REACH = 1 << 22, (1 << 21) - 64
-ZERO = (1, 0, 0)
+from draws import HIGH, LIMIT, LOW, ZERO, drawn
+
 BATCH = 20000
+BAD_LIST, OUTSIDE = 9, 14
+LENT = (7,) * 7  # what the driver lends to a carry
 
 
-def rounded(sign, q, e):
-    """sign * q * 2^e, q a positive fraction, as a number of 32 bits."""
+def rounded(q, e):
+    """q * 2^e, q a positive fraction, as a mantissa of 32 bits and an exponent."""
     shift = q.numerator.bit_length() - q.denominator.bit_length() - 32
     q = q / (1 << shift) if shift >= 0 else q * (1 << -shift)
     while q >= HIGH:
@@ -25,185 +27,96 @@ def rounded(sign, q, e):
     while q < LOW:
         q, shift = q * 2, shift - 1
     m = round(q)  # a Fraction rounds half to even
-    return (sign, m, e + shift) if m < HIGH else (sign, m // 2, e + shift + 1)
+    return (m, e + shift) if m < HIGH else (m // 2, e + shift + 1)
 
 
-def taken(a):
-    sign, m, e = a
-    return LOW <= m < HIGH and -REACH <= e <= REACH if m else a == ZERO
+def odd(q, e):
+    """q * 2^e, q a fraction over a power of two, as an odd whole number and an exponent; 0 and 0 for none."""
+    if q == 0:
+        return 0, 0
+    while q.denominator > 1:
+        q, e = q * 2, e - 1
+    while q.numerator % 2 == 0:
+        q, e = q / 2, e + 1
+    return q.numerator, e
 
 
-def expected(op, a, b):
-    """What the operation must give; None if it must be refused."""
+def scaled(m, places):
+    return Fraction(m << places) if places >= 0 else Fraction(m, 1 << -places)
+
+
+def taken(item):
+    sign, m, e = item
+    return item == ZERO or sign in (-1, 1) and LOW <= m < HIGH and -LIMIT <= e <= LIMIT
+
+
+def exact(op, a, b):
+    """The exact sum, product or quotient of two signed items, as a fraction and an exponent."""
     (s, m, e), (t, n, f) = a, b
-    if not taken(a) or not taken(b) or op == '/' and n == 0:
-        return None
-    if op == '+':
-        low = min(e, f) if m and n else e if m else f
-        total = (s * m << (e - low) if m else 0) + (t * n << (f - low) if n else 0)
-        return rounded(1 if total > 0 else -1, Fraction(abs(total)), low) if total else ZERO
-    if m == 0 or n == 0:
-        return ZERO
-    return rounded(s, Fraction(m * n), e + f) if op == '*' else rounded(1, Fraction(m, n), e - f)
+    if op == '*':
+        return Fraction(m * n), e + f
+    if op == '/':
+        return Fraction(m, n), e - f
+    low = min(e, f) if m and n else e if m else f
+    return (s * scaled(m, e - low) if m else 0) + (t * scaled(n, f - low) if n else Fraction(0)), low
 
 
-# ---- operands
-def mantissa(r):
-    """Any mantissa, or one next to a power of two, or one of few bits."""
-    kind = r.randrange(4)
-    if kind == 0:
-        near = r.randrange(5)
-        return r.choice((LOW + near, HIGH - 1 - near))
-    if kind == 1:
-        return min(max(LOW + (1 << r.randrange(31)) + r.randrange(-2, 3), LOW), HIGH - 1)
-    if kind == 2:
-        bits = r.randrange(1, 17)
-        return ((1 << bits - 1) + r.getrandbits(bits - 1)) << 32 - bits
-    return r.randrange(LOW, HIGH)
+def worked(op, a, b):
+    """Result and rest of two positive items."""
+    q, e = exact(op, a, b)
+    m, x = rounded(q, e)
+    rest = q - scaled(m, x - e)
+    # the dividend minus result times divisor is the divisor times what the quotient lacks
+    return (m, x, *(odd(rest * b[1], e + b[2]) if op == '/' else odd(rest, e)))
 
 
-def exponent(r):
-    return r.randrange(-40, 41) if r.random() < 0.8 else r.randrange(-2000, 2001)
+def added(a, b):
+    q, e = exact('+', a, b)
+    return (1 if q > 0 else -1, *rounded(abs(q), e)) if q else ZERO
 
 
-def random_pair(r):
-    return (1, mantissa(r), exponent(r)), (1, mantissa(r), exponent(r))
+def expected(op, numbers):
+    """What the driver must answer."""
+    items = [tuple(numbers[k:k + 3]) for k in range(0, len(numbers), 3)]
+    good = len(numbers) == 6 and all(map(taken, items))
+    if op != 'c':
+        good = good and all(item[0] == 1 for item in items)
+        return (0, 0, *worked(op, *items)) if good else (BAD_LIST, 0, 0, 0, 0, 0)
+    if not good:
+        return (BAD_LIST, 0, *LENT)
+    first = added(*items)
+    carried = first, added(items[1], first)
+    return (0, 0, *carried[0], *carried[1], LENT[6]) if all(map(taken, carried)) else (OUTSIDE, 0, *LENT)
 
 
-def sum_tie(r):
-    """A sum that lies halfway between two numbers: its last kept place is followed by a single 1."""
-    gap = r.randrange(1, 33)
-    m, e = mantissa(r), exponent(r)
-    n = mantissa(r)
-    for places in (gap, gap + 1):
-        total = ((m << gap) + n) & -(1 << places) | 1 << (places - 1)
-        n = total - (m << gap)
-        if LOW <= n < HIGH:
-            return (1, m, e), (1, n, e - gap)
-    return (1, m, e), (1, LOW, e - 32)
-
-
-def product_tie(r):
-    """A product of 33 bits that ends in a 1."""
-    bits = r.randrange(2, 32)
-    p = r.getrandbits(bits) | 1 << bits - 1 | 1
-    q = (HIGH // p + r.randrange(1, 1 + max(1, HIGH // p))) | 1
-    if (p * q).bit_length() != 33 or q.bit_length() > 32:
-        return random_pair(r)
-    return (1, p << 32 - bits, exponent(r)), (1, q << 32 - q.bit_length(), exponent(r))
-
-
-def near_quotient(r):
-    """A dividend close to a multiple of the divisor, or close to the divisor itself."""
-    n, k = mantissa(r), mantissa(r)
-    m = n + r.randrange(-2, 3) if r.random() < 0.3 else n * k // r.choice((LOW, HIGH)) + r.randrange(-1, 2)
-    return (1, min(max(m, LOW), HIGH - 1), exponent(r)), (1, n, exponent(r))
-
-
-def far(r):
-    """Exponents around the distance at which the smaller operand no longer counts, and far beyond it."""
-    e = exponent(r)
-    gap = r.randrange(28, 38) if r.random() < 0.9 else r.randrange(1000, 9000)
-    pair = [(1, mantissa(r), e), (1, mantissa(r), e - gap)]
-    r.shuffle(pair)
-    return tuple(pair)
-
-
-def cancelling(r):
-    """Operands of opposite sign and of nearly the same size, or the lesser just below a power of two."""
-    m, e, s = mantissa(r), exponent(r), r.choice((1, -1))
-    kind = r.randrange(4)
-    if kind == 0:
-        return (s, m, e), (-s, m, e)
-    if kind == 1:
-        return (s, m, e), (-s, min(max(m + r.randrange(-9, 10), LOW), HIGH - 1), e + r.randrange(-1, 2))
-    if kind == 2:
-        return (s, LOW, e), (-s, mantissa(r), e - r.randrange(0, 37))
-    return (s, m, e), (-s, mantissa(r), e - r.randrange(0, 4))
-
-
-def with_zero(r):
-    a = (1, mantissa(r), exponent(r))
-    return r.choice(((a, ZERO), (ZERO, a), (ZERO, ZERO)))
-
-
-def extreme(r):
-    """Exponents at the ends of what the operations take."""
-    ends = lambda: r.choice((-REACH, REACH)) + r.choice((0, 0, r.randrange(-3, 4)))
-    e = max(-REACH, min(REACH, ends()))
-    f = e + r.randrange(-40, 41) if r.random() < 0.9 else -e
-    return (1, mantissa(r), e), (1, mantissa(r), max(-REACH, min(REACH, f)))
-
-
-def not_taken(r):
-    """An operand with a mantissa or an exponent out of range, or a zero that is not written 0, 0."""
-    good = (1, mantissa(r), exponent(r))
-    bad = r.choice((
-        (1, r.randrange(1, LOW), 0),
-        (1, r.randrange(HIGH, 1 << 64), 0),
-        (1, LOW, -REACH - 1 - r.randrange(99)),
-        (1, LOW, REACH + 1 + r.randrange(99)),
-        (-1, 0, 0),
-        (1, 0, r.choice((-1, 1, 77))),
-    ))
-    return r.choice(((good, bad), (bad, good)))
-
-
-# what is drawn, how often, and for which operations
-KINDS = (
-    ('random', random_pair, 20, '+*/'),
-    ('sum tie', sum_tie, 10, '+'),
-    ('product tie', product_tie, 10, '*'),
-    ('near quotient', near_quotient, 10, '/'),
-    ('far apart', far, 12, '+'),
-    ('cancelling', cancelling, 20, '+'),
-    ('zero', with_zero, 4, '+*/'),
-    ('extreme', extreme, 4, '+*/'),
-    ('not taken', not_taken, 2, '+*/'),
-)
-
-
-def flipped(a):
-    return (-a[0], *a[1:]) if a[1] else a
-
-
-def drawn(r):
-    name, draw, _, ops = r.choices(KINDS, [k[2] for k in KINDS])[0]
-    op = r.choice(ops)
-    a, b = draw(r)
-    if op != '/' and r.random() < 0.3:
-        a = flipped(a)
-        if op == '+' and r.random() < 0.5:
-            b = flipped(b)
-    return name, op, a, b, expected(op, a, b)
-
-
-# ---- the driver's text
-def written(a):
-    return f"{'-' if a[0] < 0 else '+'} {a[1]} {a[2] + BIAS}"
+def answered(driver, batch):
+    """The driver's answers, one for each operation."""
+    lines = ''.join(f"{op} {len(numbers)} {' '.join(map(str, numbers))}\n" for _, op, numbers in batch)
+    answers = subprocess.run([driver], input=lines, capture_output=True, text=True, check=True).stdout.splitlines()
+    if len(answers) != len(batch):
+        sys.exit(f'{len(batch)} operations, {len(answers)} answers')
+    return [tuple(map(int, answer.split())) for answer in answers]
 
 
 def main():
     driver, seed, count = sys.argv[1], int(sys.argv[2]), int(sys.argv[3])
     r = random.Random(seed)
-    done, wrong, seen = 0, 0, Counter()
+    done, wrong, seen, refused = 0, 0, Counter(), Counter()
     while done < count:
         batch = [drawn(r) for _ in range(min(BATCH, count - done))]
-        lines = ''.join(f'{op} {written(a)} {written(b)}\n' for _, op, a, b, _ in batch)
-        answers = subprocess.run([driver], input=lines, capture_output=True, text=True, check=True).stdout.splitlines()
-        if len(answers) != len(batch):
-            sys.exit(f'{len(batch)} operations, {len(answers)} answers')
-        for (name, op, a, b, want), got in zip(batch, answers):
-            said = '+ 0 0' if want is None else written(want)
+        for (name, op, numbers), got in zip(batch, answered(driver, batch)):
+            want = expected(op, numbers)
             seen[f'{name} {op}'] += 1
-            if got != said:
+            refused[want[0]] += 1
+            if got != want:
                 wrong += 1
                 if wrong <= 20:
-                    print(f'{name}: {op} {written(a)} {written(b)} gave {got}, exact {said}', flush=True)
+                    print(f"{name}: {op} {' '.join(map(str, numbers))} gave {got}, exact {want}", flush=True)
         done += len(batch)
         print(f'\r{done} of {count} operations, {wrong} differences', end='', file=sys.stderr, flush=True)
     print(file=sys.stderr)
     print(', '.join(f'{k} {n}' for k, n in sorted(seen.items())))
+    print(f'accepted {refused[0]}, refused with 9 {refused[BAD_LIST]}, with 14 {refused[OUTSIDE]}')
     print(f'{done} operations, seed {seed}: {wrong} differences')
     sys.exit(1 if wrong else 0)
 

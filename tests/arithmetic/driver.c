@@ -1,27 +1,55 @@
-/* Works each operation of standard input by the compiled arithmetic. A line is OP SIGN M X SIGN M X, OP one of + * /; the answer is SIGN M X. */
+/* Works each line of standard input by the compiled library. A line is OP COUNT and so many numbers, three to an item. For + * / the answer is number,
+ * offset, mantissa, exponent, rest and rest exponent; for c, which carries the list through two rows of ones, number, offset and the lent list. */
+#include "beechcrib.h"
 #include <inttypes.h>
-#include <stdbool.h>
-#include <stdint.h>
 #include <stdio.h>
 
-struct item {
-    bool negative;
-    uint64_t m;
-    uint64_t x;
-};
+#define MOST 12
+#define ROOM 7 /* two items and one number more, to see that it is left alone */
 
-struct item number_c_add(struct item a, struct item b);
-struct item number_c_mul(struct item a, struct item b);
-struct item number_c_div(struct item a, struct item b);
+static const uint8_t ones[] = {2, 0xca, 7, 0, 0xca, 7, 0, 0xca, 7, 0, 0xca, 7, 0};
 
-int main(void) {
-    char op, s, t;
-    struct item a, b, r;
-    while (scanf(" %c %c %" SCNu64 " %" SCNu64 " %c %" SCNu64 " %" SCNu64, &op, &s, &a.m, &a.x, &t, &b.m, &b.x) == 7) {
-        a.negative = s == '-';
-        b.negative = t == '-';
-        r = op == '+' ? number_c_add(a, b) : op == '*' ? number_c_mul(a, b) : number_c_div(a, b);
-        printf("%c %" PRIu64 " %" PRIu64 "\n", r.negative ? '-' : '+', r.m, r.x);
+static int read_line(char *op, int64_t *items, size_t *count)
+{
+    if (scanf(" %c %zu", op, count) != 2 || *count > MOST)
+        return 0;
+    for (size_t k = 0; k < *count; k++)
+        if (scanf("%" SCNd64, &items[k]) != 1)
+            return 0;
+    return 1;
+}
+
+static void work(char op, const int64_t *items, size_t count)
+{
+    tnb_worked a = op == '+' ? tnb_add(items, count) : op == '*' ? tnb_multiply(items, count) : tnb_divide(items, count);
+    printf("%d %zu %" PRIu64 " %" PRId64 " %" PRId64 " %" PRId64 "\n", a.number, a.offset, a.mantissa, a.exponent, a.rest, a.rest_exponent);
+}
+
+static void carry(tnb_shelf shelf, const int64_t *items, size_t count)
+{
+    int64_t out[ROOM];
+    for (size_t k = 0; k < ROOM; k++)
+        out[k] = 7;
+    tnb_status a = tnb_carry(shelf, 0, items, count, out, ROOM);
+    printf("%d %zu", a.number, a.offset);
+    for (size_t k = 0; k < ROOM; k++)
+        printf(" %" PRId64, out[k]);
+    printf("\n");
+}
+
+int main(void)
+{
+    char op;
+    int64_t items[MOST];
+    size_t count;
+    tnb_answer loaded = tnb_load(tnb_new(), 0, ones, sizeof ones);
+    if (loaded.number != TNB_ACCEPTED)
+        return 1;
+    while (read_line(&op, items, &count)) {
+        if (op == 'c')
+            carry(loaded.shelf, count ? items : NULL, count);
+        else
+            work(op, count ? items : NULL, count);
     }
-    return ferror(stdin) || fflush(stdout) != 0;
+    return !feof(stdin) || fflush(stdout) != 0;
 }

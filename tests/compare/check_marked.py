@@ -1,4 +1,4 @@
-"""Checks of the model against what the papers print: P1 to P12, the program shown, bounds, byte faults, the console's lines."""
+"""Checks of the model against what the papers print: P1 to P12, the program shown, bounds, byte faults, the console's lines; rests made by hand."""
 from fractions import Fraction
 
 import words
@@ -6,7 +6,7 @@ from checks import check, refused, same
 from console_model import Console, doubtful, parse
 from encoding import encode, read_matrix, read_single
 from exact import exact_run
-from model import Shelf, shown
+from model import WORKED, Shelf, shown
 from number import HIGH, ITEM_ZERO, LOW, ONE, add, multiply, round_fraction, value
 from sources import unit_items
 from words import POSITION, Matrix, Walker, bound, carry, count, minor, operate, reversals
@@ -81,6 +81,63 @@ def standstills(rng, rounds):
     same([reversals(points), reversals(carry(ones(4), points))], [2, 1])
 
 
+# Result and rest, found by hand: call, mantissa and exponent of both items, of the result, and the rest with its exponent.
+BY_HAND = (
+    # P1 to P4 and P10: a tie down, a tie up, a tie that carries, a product of odd numbers, a third.
+    ("add", 2147483648, -31, 2147483648, -63, 2147483648, -31, 1, -32),
+    ("add", 2147483649, -31, 2147483648, -63, 2147483650, -31, -1, -32),
+    ("add", 4294967295, 0, 2147483648, -32, 2147483648, 1, -1, -1),
+    ("multiply", 4294967295, 0, 4294967295, 0, 4294967294, 32, 1, 0),
+    ("divide", 2147483648, -31, 3221225472, -30, 2863311531, -33, -1, -33),
+    # Sums: exact, exact at 2^32, ties of one digit (down, up), a carry past the tie.
+    ("add", 2147483648, 0, 2147483648, 0, 2147483648, 1, 0, 0),
+    ("add", 4294967295, 0, 2147483648, -31, 2147483648, 1, 0, 0),
+    ("add", 2147483649, 0, 2147483648, 0, 2147483648, 1, 1, 0),
+    ("add", 2147483650, 0, 2147483649, 0, 2147483650, 1, -1, 0),
+    ("add", 4294967295, 0, 3221225472, -32, 2147483648, 1, -1, -2),
+    # 32 apart: above half a last place; 33 apart: below it, whatever the mantissas; far apart, either first.
+    ("add", 2147483648, 0, 2147483649, -32, 2147483649, 0, -2147483647, -32),
+    ("add", 2147483649, -32, 2147483648, 0, 2147483649, 0, -2147483647, -32),
+    ("add", 2147483648, 0, 4294967295, -32, 2147483649, 0, -1, -32),
+    ("add", 2147483648, 0, 4294967295, -33, 2147483648, 0, 4294967295, -33),
+    ("add", 4294967295, -33, 4294967295, 0, 4294967295, 0, 4294967295, -33),
+    ("add", 4294967295, 0, 4294967294, -34, 4294967295, 0, 2147483647, -33),
+    ("add", 2147483648, 1000, 3221225472, -1000, 2147483648, 1000, 3, -970),
+    ("add", 2147483648, -1000, 2147483648, 1000, 2147483648, 1000, 1, -969),
+    ("add", 4294967295, 1000, 4294967294, 1000, 4294967294, 1001, 1, 1000),
+    # Products: exact, down, up, ties (up, down, up), a carry, one at a tie, beyond the stored exponents.
+    ("multiply", 3221225472, -30, 3221225472, -30, 2415919104, -28, 0, 0),
+    ("multiply", 2147483649, 0, 2147483649, 0, 2147483650, 31, 1, 0),
+    ("multiply", 3221225473, 0, 2147483649, 0, 3221225475, 31, -1073741823, 0),
+    ("multiply", 2147483649, 0, 3221225472, 0, 3221225474, 31, -1, 30),
+    ("multiply", 2147483651, 0, 3221225472, 0, 3221225476, 31, 1, 30),
+    ("multiply", 2147483653, 0, 3221225472, 0, 3221225480, 31, -1, 30),
+    ("multiply", 2147483649, 0, 4294967294, 0, 2147483648, 32, -1, 1),
+    ("multiply", 3758096384, 0, 2454267026, 0, 2147483648, 32, -1, 30),
+    ("multiply", 2147483648, 1000, 2147483648, 1000, 2147483648, 2031, 0, 0),
+    ("multiply", 4294967295, -1000, 4294967295, -1000, 4294967294, -1968, 1, -2000),
+    # Quotients: equal mantissas, the largest, a third, the least over the largest, next to one, beyond the stored exponents.
+    ("divide", 3221225473, 5, 3221225473, 5, 2147483648, -31, 0, 0),
+    ("divide", 4294967295, 0, 2147483648, 0, 4294967295, -31, 0, 0),
+    ("divide", 3221225472, -31, 2415919104, -29, 2863311531, -33, -3, -34),
+    ("divide", 2147483648, 0, 4294967295, 0, 2147483649, -32, -2147483647, -32),
+    ("divide", 4294967294, 0, 4294967295, 0, 4294967295, -32, -1, -32),
+    ("divide", 2147483648, -1000, 3221225472, 1000, 2863311531, -2032, -1, -1002),
+    ("divide", 4294967295, 1000, 2147483649, -1000, 4294967293, 1969, 3, 969),
+)
+
+
+@check
+def rests_by_hand(rng, rounds):
+    """Document 02, (c): results and rests, and what is refused."""
+    for kind, m, e, n, f, *wanted in BY_HAND:
+        same(sum(Shelf.work(kind, [(1, m, e), (1, n, f)]), ()), tuple(wanted))
+    one, bad = (1,) + ONE, (ITEM_ZERO, (-1,) + ONE, (2,) + ONE, (0,) + ONE, (1, LOW - 1, 0), (1, HIGH, 0), (1, LOW, 1001), (1, LOW, -1001), (1, 0, 0))
+    for kind in WORKED:
+        for items in [[], [one], [one] * 3, *([item, one] for item in bad), *([one, item] for item in bad)]:
+            same(refused(Shelf.work, kind, items), (9, 0))
+
+
 @check
 def tables(rng, rounds):
     """The bounds as printed, the positions of the masks, the byte of one."""
@@ -137,10 +194,18 @@ def console(rng, rounds):
             ("minor 0 256 1", "bad request"), ("write 0 513", "bad request"), ("reversals 0,0", "bad request"),
             ("reversals 1,-5,0", "refused 9 at 0"), ("reversals -9223372036854775808,9223372036854775807,0", "refused 9 at 0"),
             ("carry 0 1 1,9223372036854775807,0", "refused 9 at 0 1,2147483648,0"), ("reversals 1,9223372036854775808,0", "bad request"),
-            ("reversals 1,2147483648,-9223372036854775809", "bad request")]
+            ("reversals 1,2147483648,-9223372036854775809", "bad request"),
+            ("divide 1,2147483648,-31 1,3221225472,-30", "number 2863311531 -33 rest -1 -33"),
+            ("add 1,2147483648,-31 1,2147483648,-31", "number 2147483648 -30 rest 0 0"),
+            ("multiply 1,2147483648,1000 1,2147483648,1000", "number 2147483648 2031 rest 0 0"),
+            ("multiply 0,0,0 1,2147483648,0", "refused 9 at 0"), ("divide 1,2147483648,0 -1,2147483648,0", "refused 9 at 0"), ("add", "bad request"),
+            ("add 1,2147483648,0", "bad request"), ("add 0,0,0 0,0,0 0,0,0", "bad request"), ("divide 1 3", "bad request"),
+            ("divide 1,2147483648,0 1,2147483648,9223372036854775808", "bad request")]
     for line, wanted in talk:
         same(session.answer(line), wanted)
     same([parse("rest " + "00" * k) is None for k in (2045, 2046)], [False, True])
     same([parse("reversals" + " 0,0,0" * k) is None for k in (16, 17)], [False, True])
     same([doubtful(x) for x in ("show 00", "show 0", "reversals 1,2147483648,-0", "rest 00", "show 4294967296", "show -1")],
          [True, False, True, False, True, False])
+    same([doubtful("add 1,2147483648,0 " + x) for x in ("1,2147483648,-0", "01,2147483648,0", "+1,2147483648,0", "1,2147483648,10", "4294967296,1,0", "x")],
+         [True, True, True, False, False, False])

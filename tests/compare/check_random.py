@@ -1,4 +1,4 @@
-"""Random cross-checks of the model: fast against slow arithmetic, exact run against matrix arithmetic, bounds, bytes, refusals."""
+"""Random cross-checks of the model: fast against slow arithmetic, rests, exact run against matrix arithmetic, bounds, bytes, refusals."""
 from fractions import Fraction
 
 import words
@@ -6,9 +6,10 @@ from checks import check, refused, same
 from console_model import Console, call_words, parse
 from encoding import Refusal, encode, group, read_group, read_single, rest
 from exact import entries_of, exact_parts, exact_run, inverse, matrix_product, multiply_out, requested, units, within
-from model import ORDER, conditions
-from number import (HIGH, ITEM_ZERO, LOW, ONE, ZERO, add, divide, multiply, round_fraction, round_whole, signed_add, slow_add,
-                    slow_divide, slow_multiply, slow_signed_add, value)
+from model import ORDER, WORKED, conditions
+from number import (HIGH, ITEM_ZERO, LOW, ONE, ZERO, add, divide, multiply, odd_form, round_fraction, round_whole, signed_add, slow_add,
+                    slow_divide, slow_multiply, slow_signed_add, value, worked)
+from pairs import pair
 from requests import stream
 from words import Matrix, Walker, bound, carry, minor, operate, operation_word, plain_minor, reversals, rows_of, transpose
 
@@ -64,6 +65,31 @@ def nearest(rng, rounds):
         for other in (lower, upper):
             near, far = abs(value((m, e)) - x), abs(value(other) - x)
             assert near < far or (near == far and m % 2 == 0)
+
+
+@check
+def rests(rng, rounds):
+    """Document 02, (c): result and rest balance exactly; the rest is odd or none, below 2^32, and negative exactly when the result was rounded up."""
+    slow = {"add": slow_add, "multiply": slow_multiply, "divide": slow_divide}
+    for kind in WORKED * (5 * rounds):
+        a, b = (item[1:] for item in pair(rng, kind))
+        result, (odd, e) = worked(kind, a, b)
+        same(result, slow[kind](a, b))
+        x, y, r, rest = value(a), value(b), value(result), odd * Fraction(2) ** e
+        exact = {"add": x + y, "multiply": x * y, "divide": x / y}[kind]
+        same(r * y + rest if kind == "divide" else r + rest, x if kind == "divide" else exact)
+        assert abs(odd) % 2 == 1 or (odd, e) == ZERO
+        assert abs(odd) < HIGH
+        same((odd < 0, odd == 0), (r > exact, r == exact))
+
+
+@check
+def odd_forms(rng, rounds):
+    """Among all pairs of an odd whole number and an exponent, and 0 with 0, one alone has a given value."""
+    forms = [(odd, e) for odd in range(-63, 64, 2) for e in range(-6, 12)] + [ZERO]
+    for whole in range(-63, 64):
+        for x in (Fraction(whole), Fraction(whole, 8), Fraction(whole * 8)):
+            same([form for form in forms if form[0] * Fraction(2) ** form[1] == x], [odd_form(x)])
 
 
 @check

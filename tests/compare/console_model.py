@@ -8,7 +8,7 @@ import re
 import sys
 
 from encoding import Refusal
-from model import ONE_SOURCE, PLACES, Shelf
+from model import ONE_SOURCE, PLACES, WORKED, Shelf
 
 LONGEST_LINE = 4096
 MOST_PLACE, MOST_MASK, MOST_LENT, MOST_ITEMS = 2 ** 32 - 1, 255, 512, 16
@@ -23,10 +23,11 @@ WHOLE = re.compile(r"[0-9]+\Z")
 SIGNED = re.compile(r"-?[0-9]+\Z")
 HEX = re.compile(r"(?:[0-9a-f]{2})+\Z")
 
-# What follows each word of the console: P a place, M a mask, C a length to lend, B bytes, I items.
+# What follows each word of the console: P a place, M a mask, C a length to lend, B bytes, N one item, I any number of items.
 FORMS = {
     "load": "PB", "write": "PC", "drop": "P", "product": "PPP", "inverse": "PP", "converse": "PP", "transpose": "PP",
     "submatrix": "PMMP", "minor": "PMM", "carry": "PCI", "reversals": "I", "rest": "B", "show": "P",
+    "add": "NN", "multiply": "NN", "divide": "NN",
 }
 
 
@@ -59,7 +60,7 @@ def items(texts):
 
 READERS = {
     "P": lambda text: whole(text, MOST_PLACE), "M": lambda text: whole(text, MOST_MASK),
-    "C": lambda text: whole(text, MOST_LENT), "B": data,
+    "C": lambda text: whole(text, MOST_LENT), "B": data, "N": item,
 }
 
 
@@ -103,7 +104,9 @@ def text_of_items(listed):
 
 
 def call_words(call, arguments):
-    """The arguments in the order that model.conditions takes them: a carry's list before the lent length."""
+    """The arguments as model.conditions takes them: a carry's list before the lent length, two items as a list."""
+    if call in WORKED:
+        return [arguments]
     return [arguments[0], arguments[2], arguments[1]] if call == "carry" else arguments
 
 
@@ -119,6 +122,8 @@ class Console:
         try:
             if call in ONE_SOURCE:
                 return self.one_source(call, *arguments)
+            if call in WORKED:
+                return self.work(call, arguments)
             return getattr(self, call)(*arguments)
         except Refusal as fault:
             return f"refused {fault.number} at {fault.offset}" + self.lent(call, arguments)
@@ -162,6 +167,10 @@ class Console:
 
     def reversals(self, listed):
         return f"reversals {self.shelf.reversals(listed)}"
+
+    def work(self, call, pair):
+        result, rest = self.shelf.work(call, pair)
+        return "number %d %d rest %d %d" % (result + rest)
 
     def rest(self, content):
         return "rest " + text_of_bytes(self.shelf.rest(content))

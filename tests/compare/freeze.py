@@ -2,8 +2,8 @@
 """Writes a transcript of the console with the model's answers: stdin and stdout of crates/tnb_console, which the gate runs.
 
 freeze.py [--seed S] [--count N] [--check]: about N requests, the same for the same seed. It covers every call, each refusal of
-each call, every pair of refusals that a call can meet at once, and each operation in all sizes, or it fails. With --check
-nothing is written: the files are held to what would be.
+each call, every pair of refusals that a call can meet at once, each operation in all sizes, and every way that a sum, a product
+and a quotient can be rounded, or it fails. With --check nothing is written: the files are held to what would be.
 """
 import argparse
 import os
@@ -17,8 +17,9 @@ from comparison import Tally, batch
 from console_model import LARGEST, LEAST, MOST_ITEMS, MOST_PLACE, Console, call_words, doubtful, parse, text_of_bytes, text_of_items
 from encoding import encode
 from garbage import ODD_LINES
-from model import ORDER, conditions
+from model import ORDER, WORKED, conditions, pair_good
 from number import HIGH, LOW, ONE
+from pairs import cases, every_case, pair
 from requests import Stream, stream
 from sources import far_apart, good_masks, spread_number, unit_items
 from words import Matrix
@@ -98,6 +99,19 @@ def standstills(maker):
         yield "drop 0"
 
 
+def rests(maker):
+    """P1 to P4 and P10 worked with their rests, every distance and the ends of ranges, and pairs for the cases that are left."""
+    made = [f"add {text_of_items([(1,) + first, (1, LOW, e)])}" for first, e in ((ONE, -63), ((LOW + 1, -31), -63), ((HIGH - 1, 0), -32))]
+    made += [f"multiply {text_of_items([(1, HIGH - 1, 0)] * 2)}", f"divide {text_of_items([(1,) + ONE, (1,) + THREE])}"]
+    made += [*sweeps.every_distance(maker), *sweeps.every_pair(maker)]
+    yield from made
+    for kind, case in uncovered(made):
+        items = pair(maker.rng, kind)
+        while case not in cases(kind, items):
+            items = pair(maker.rng, kind)
+        yield f"{kind} {text_of_items(items)}"
+
+
 def borders():
     """Places above 7, lists about the longest and about the most that a call takes, numbers of an item at the ends and one beyond."""
     yield from (f"show {place}" for place in (7, 8, MOST_PLACE))
@@ -109,13 +123,14 @@ def borders():
     for listed in lists:
         yield f"reversals {text_of_items(listed)}"
         yield f"carry 0 2 {text_of_items(listed)}"
+        yield f"multiply {text_of_items(listed)}"
     yield "drop 0"
 
 
 def lines(seed, shelf):
     maker = Stream(random.Random(f"frozen {seed}"), shelf)
     yield from marked()
-    for part in (tour, limits, sums, standstills):
+    for part in (tour, limits, sums, standstills, rests):
         yield from part(maker)
     yield from borders()
     yield from sweeps.every_order(maker)
@@ -135,6 +150,15 @@ def together(asked):
             pairs.update((request[0],) + pair for pair in combinations(found, 2))
         console.answer(line)
     return pairs
+
+
+def uncovered(asked):
+    """For add, multiply and divide, the cases that no request met, as pairs of call and case."""
+    met = {kind: set() for kind in WORKED}
+    for call, items in filter(None, map(parse, asked)):
+        if call in WORKED and pair_good(items):
+            met[call] |= cases(call, items)
+    return [(kind, case) for kind in WORKED for case in sorted(every_case(kind) - met[kind])]
 
 
 def wanted_pairs():
@@ -158,6 +182,7 @@ def missing(asked, wanted, tally):
         bounds = {answer for name, answer in sizes if name == call and answer.startswith("bound")}
         if len(bounds) < (1 if call == "transpose" else 8):
             yield f"{call} in all sizes"
+    yield from (f"{call}, {case}" for call, case in uncovered(asked))
     pairs = together(asked)
     yield from (f"{call} {first} with {second}" for call, first, second in wanted_pairs() if not pairs[call, first, second])
 

@@ -1,20 +1,22 @@
-"""Document 01 as a program: the shelf and its calls, over number.py, words.py, exact.py and encoding.py.
+"""Document 01, with what document 02 adds to it, as a program: the shelf and its calls, over number.py, words.py, exact.py and encoding.py.
 
 Shelf: places 0 to 7. Each call returns its answer or raises Refusal with the number and the offset, in document 01's
 order of tests, and then the shelf is as before. conditions: every condition of the two tables that holds for a call.
 shown: what the program of "Shown in full" prints.
 """
 from encoding import Refusal, encode, read_single, rest
-from number import HIGH, ITEM_ZERO, LOW, stored
+from number import HIGH, ITEM_ZERO, LOW, stored, worked
 from words import bound, carry, count, interval, minor, operate, reversals, transpose
 
 PLACES = 8
 ONE_SOURCE = ("inverse", "converse", "transpose")
+WORKED = ("add", "multiply", "divide")
 # The tests of each call, in order. A load reads its bytes (2 to 7) from the left, last.
 ORDER = {
     "load": (1, 12, 2, 3, 4, 5, 6, 7), "write": (1, 11, 10), "drop": (1, 11),
     "product": (1, 11, 12, 13, 14), "inverse": (1, 11, 12, 14), "converse": (1, 11, 12, 14), "transpose": (1, 11, 12),
     "submatrix": (1, 11, 12, 8, 14), "minor": (1, 11, 8, 14), "carry": (1, 11, 9, 14, 10), "reversals": (9,), "rest": (),
+    "add": (9,), "multiply": (9,), "divide": (9,),
 }
 
 
@@ -28,6 +30,11 @@ def item_good(item):
     if sign == 0:
         return item == ITEM_ZERO
     return sign in (-1, 1) and LOW <= m < HIGH and stored((m, e))
+
+
+def pair_good(items):
+    """Whether numbers are worked from these items: two, both positive."""
+    return len(items) == 2 and all(item_good(item) and item[0] == 1 for item in items)
 
 
 def in_range(matrix):
@@ -128,6 +135,13 @@ class Shelf:
         return reversals(items)
 
     @staticmethod
+    def work(kind, items):
+        """The result of add, multiply or divide, and the rest. The result is a working number: 14 is not tested."""
+        if not pair_good(items):
+            raise Refusal(9)
+        return worked(kind, *(item[1:] for item in items))
+
+    @staticmethod
     def rest(data):
         return rest(data)
 
@@ -138,7 +152,7 @@ def places_named(call, words):
         return [], words[0]
     if call in ("write", "drop", "minor", "carry"):
         return [words[0]], None
-    if call in ("reversals", "rest"):
+    if call in ("reversals", "rest") + WORKED:
         return [], None
     return list(words[:1] if call != "product" else words[:2]), words[-1]
 
@@ -162,6 +176,9 @@ def conditions(shelf, call, words):
             found.add(fault.number)
     elif call == "reversals":
         if not 1 <= len(words[0]) <= 8 or not all(map(item_good, words[0])):
+            found.add(9)
+    elif call in WORKED:
+        if not pair_good(words[0]):
             found.add(9)
     elif len(held) == len(sources) and None not in held and held:
         found |= conditions_of_work(call, held, words)

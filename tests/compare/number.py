@@ -2,6 +2,7 @@
 
 add, multiply, divide: the exact result rounded once to nearest, ties to even, at 32 bits, by integers and shifts.
 signed_add: the same for items (sign, m, e). round_fraction, value and the slow_ functions say it again with fractions.
+worked: one of the three with the rest, what rounding took away, as a pair of an odd whole number and an exponent.
 """
 from fractions import Fraction
 
@@ -120,3 +121,17 @@ def slow_signed_add(x, y):
     total = x[0] * value(x[1:]) + y[0] * value(y[1:])
     sign = (total > 0) - (total < 0)
     return (sign,) + round_fraction(abs(total))
+
+
+def odd_form(x):
+    """A fraction over a power of two as an odd whole number and an exponent; zero as 0 and 0."""
+    places = (x.numerator & -x.numerator).bit_length() - x.denominator.bit_length()
+    return (int(x / Fraction(2) ** places), places) if x else ZERO
+
+
+def worked(kind, a, b):
+    """Document 02, (c): the result of two positive numbers, and sum or product minus it, or dividend minus it times divisor."""
+    result = {"add": add, "multiply": multiply, "divide": divide}[kind](a, b)
+    x, y, r = map(value, (a, b, result))
+    rest = x + y - r if kind == "add" else x * y - r if kind == "multiply" else x - r * y
+    return result, odd_form(rest)

@@ -9,7 +9,8 @@ import sweeps
 from console_model import text_of_bytes, text_of_items
 from encoding import Refusal, encode, rest
 from garbage import garbled
-from model import ONE_SOURCE, PLACES
+from model import ONE_SOURCE, PLACES, WORKED
+from pairs import pair, spoiled
 from sources import aimed, faulty, good_masks, listed, masks, matrix, odd_item, overflowing, random_item, still_or_moving
 from words import reversals
 
@@ -197,6 +198,15 @@ class Stream:
         assert reversals(carried) <= reversals(items), f"{carried} from {items}"
         yield f"reversals {text_of_items(carried)}"
 
+    def work(self):
+        """Numbers worked, now and then with an item that is refused or with a wrong count of items."""
+        rng, kind = self.rng, self.rng.choice(WORKED)
+        for _ in range(rng.randint(1, 4)):
+            items = pair(rng, kind) if rng.random() < 0.8 else spoiled(rng, kind)
+            if rng.random() < 0.03:
+                items = rng.choice(([], items[:1], items + items[:1], items * 8, items * 8 + items[:1]))
+            yield f"{kind} {text_of_items(items)}" if items else kind
+
     def bytes_judged(self, data):
         """A load, undone if it is accepted, and the same bytes as a bundle."""
         target = self.rng.choice(self.free())
@@ -243,9 +253,10 @@ class Stream:
 SCENARIOS = (
     (Stream.fill, 30), (Stream.operate, 80), (Stream.chain, 14), (Stream.edge, 24), (Stream.faults, 60), (Stream.drop, 14),
     (Stream.minor, 14), (sweeps.every_minor, 0.1), (Stream.write, 12), (sweeps.every_length, 0.5), (Stream.carry, 25),
-    (Stream.counted_carry, 8), (Stream.no_items, 1), (Stream.reversals, 4), (Stream.standstills, 4), (Stream.byte_faults, 12),
-    (Stream.load_anywhere, 12), (Stream.random_bytes, 4),
-    (sweeps.every_cut, 0.3), (sweeps.every_flip, 0.1), (sweeps.every_order, 0.1), (sweeps.every_gap, 0.1), (Stream.bundle, 4), (Stream.garbage, 12),
+    (Stream.counted_carry, 8), (Stream.no_items, 1), (Stream.reversals, 4), (Stream.standstills, 4), (Stream.work, 40), (Stream.byte_faults, 12),
+    (Stream.load_anywhere, 12), (Stream.random_bytes, 4), (Stream.bundle, 4), (Stream.garbage, 12),
+    (sweeps.every_cut, 0.3), (sweeps.every_flip, 0.1), (sweeps.every_order, 0.1), (sweeps.every_gap, 0.1), (sweeps.every_distance, 0.1),
+    (sweeps.every_pair, 0.1),
 )
 
 

@@ -1,4 +1,4 @@
-"""Scenarios that go through every case of something: sets, lengths, cuts, flipped bits, orders of tests.
+"""Scenarios that go through every case of something: sets, lengths, cuts, flipped bits, distances, ends of ranges, orders of tests.
 
 Each takes a requests.Stream and gives lines as its scenarios do.
 """
@@ -6,9 +6,10 @@ from itertools import product
 
 from console_model import text_of_bytes, text_of_items
 from encoding import encode
-from model import ONE_SOURCE, PLACES
+from model import ONE_SOURCE, PLACES, WORKED
 from number import HIGH, ITEM_ZERO, LOW, ONE
-from sources import matrix
+from pairs import GAPS, pair
+from sources import EDGE, mantissa, matrix
 from words import Matrix
 
 BEYOND = 9
@@ -63,6 +64,34 @@ def every_gap(stream):
     for gap, large, small, sign in product((0, 1, 2, *range(30, 36)), mantissas, (*mantissas, stream.rng.randrange(LOW, HIGH)), (1, -1)):
         items = [(1, large, gap - 31), (sign, small, -31)]
         yield f"carry {stream.last} 2 {text_of_items(items)}"
+
+
+def every_distance(stream):
+    """Two positive items added at all distances that matter and far ones, either first; about 32 apart with mantissas at the ends of their range."""
+    rng = stream.rng
+    for gap in (*GAPS, 63, 64, 65, 1000, 2000):
+        items = [(1, mantissa(rng), EDGE), (1, mantissa(rng), EDGE - gap)]
+        yield f"add {text_of_items(items)}"
+        yield f"add {text_of_items(items[::-1])}"
+    for gap, large, small in product((31, 32, 33, 34), (LOW, LOW + 1, HIGH - 1), (LOW, LOW + 1, HIGH - 1)):
+        yield f"add {text_of_items([(1, large, gap - 31), (1, small, -31)])}"
+
+
+def every_pair(stream):
+    """Products and quotients of numbers at the ends of their range, some pairs of each kind, and what is not two positive items."""
+    ends = (LOW, LOW + 1, 3 << 30, HIGH - 2, HIGH - 1)
+    for kind, first, second in product(("multiply", "divide"), ends, ends):
+        yield f"{kind} {text_of_items([(1, first, -31), (1, second, -31)])}"
+    for kind, e, f in product(WORKED, (-EDGE, EDGE), (-EDGE, EDGE)):
+        yield f"{kind} {text_of_items([(1, HIGH - 1, e), (1, LOW + 1, f)])}"
+    one = (1,) + ONE
+    bad = (ITEM_ZERO, (-1,) + ONE, (2,) + ONE, (0,) + ONE, (1, LOW - 1, 0), (1, HIGH, 0), (1, 0, 0), (1, LOW, EDGE + 1), (1, LOW, -EDGE - 1))
+    for kind in WORKED:
+        yield from (f"{kind} {text_of_items(pair(stream.rng, kind))}" for _ in range(12))
+        for item in bad:
+            yield from (f"{kind} {text_of_items(items)}" for items in ([item, one], [one, item]))
+        yield f"{kind} {text_of_items([(-1,) + ONE, (-1,) + ONE])}"
+        yield from (kind + f" {text_of_items([one])}" * count for count in (0, 1, 3))
 
 
 def every_order(stream):

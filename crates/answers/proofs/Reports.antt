@@ -1,6 +1,6 @@
--- The text of a report that has no value, one, or a mantissa and an exponent, and the same text for equal reports (`puts-report`).
+-- The text of a report that has no value, one, or two, the first of which may be a mantissa, and the same text for equal reports (`puts-report`).
 use Prim.Native.Nat.{ℕ}
-use mathlib.Core.Path.{_≡_, refl}
+use mathlib.Core.Path.{_≡_, refl, _∙_}
 use mathlib.Core.List.{List, [], _∷_, _++_, append-nil}
 use lib.IntN.{ℤ, pos}
 use Rattle.lines.specs.Ascii.{ascii}
@@ -18,8 +18,11 @@ word-text word = append-nil word
 pub count-text : (n : ℕ) → valuesText (pos n ∷ []) ≡ ascii " " ++ decimal n
 count-text n = rw (whole-text n, append-nil)
 
+pub pair-text : (x y : ℤ) → valuesText (x ∷ y ∷ []) ≡ (ascii " " ++ integerText x) ++ (ascii " " ++ integerText y)
+pair-text x y = rw append-nil
+
 pub number-text : (m : ℕ) (e : ℤ) → valuesText (pos m ∷ e ∷ []) ≡ (ascii " " ++ decimal m) ++ (ascii " " ++ integerText e)
-number-text m e = rw (whole-text m, append-nil)
+number-text m e = pair-text (pos m) e ∙ rw (whole-text m)
 
 -- one text was put for both of two equal reports
 module _ (word : List ℕ) {a b : Report} {out out′ : List ℕ} {at to : ℕ} (e : a ≡ b) where

@@ -1,8 +1,9 @@
 -- The lines that programs answer with. The text of what a call reports (`reportText`) is the word of its answer and the values that it returned, each behind a
--- space; of a call that was turned down it is the refusal (`refusalText`).
+-- space; of a call that was turned down it is the refusal (`refusalText`). A result with its rest has two words (`workedText`).
 use Prim.Native.Nat.{ℕ}
 use mathlib.Core.List.{List, [], _∷_, _++_}
 use lib.IntN.{ℤ, natAbs}
+use lib.ListN.{take, drop}
 use Rattle.lines.specs.Ascii.{ascii}
 use Rattle.lines.specs.Text.{decimal, signedText, bytesText}
 use Rattle.number.specs.Integer.{isNegative}
@@ -23,6 +24,11 @@ refusalText number offset = ascii "refused " ++ (decimal number ++ (ascii " at "
 abbrev pub reportText : (word : List ℕ) → Report → List ℕ
 reportText word (accepted values) = word ++ valuesText values
 reportText word (refused number offset) = refusalText number offset
+
+-- of a result with its rest: the first two values are the result's, and the others the rest's
+abbrev pub workedText : Report → List ℕ
+workedText (accepted values) = reportText (ascii "number") (accepted (take 2 values)) ++ reportText (ascii " rest") (accepted (drop 2 values))
+workedText (refused number offset) = refusalText number offset
 
 -- a text, and bytes behind it
 abbrev pub withBytes : (text bytes : List ℕ) → List ℕ

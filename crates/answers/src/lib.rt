@@ -6,14 +6,16 @@ ghost use Rattle.lines.specs.Text.{Puts, decimal};
 ghost use Rattle.verdict.specs.Report.{accepted, verdictReport};
 ghost use Rattle.writer.specs.Encoding.{writtenReport};
 ghost use Rattle.lists.specs.Lists.{reversalsReport};
+ghost use Rattle.arithmetic.specs.Arithmetic.{workedReport};
 ghost use Rattle.operations.specs.Reports.{boundedReport, valuedReport};
-ghost use Rattle.answers.specs.Answers.{integerText, valuesText, refusalText, reportText, withBytes, badText};
+ghost use Rattle.answers.specs.Answers.{integerText, valuesText, refusalText, reportText, workedText, withBytes, badText};
 use number::integer;
 use shelf::Bounded;
 use shelf::Refusal;
 use shelf::Reversals;
 use shelf::Valued;
 use shelf::Verdict;
+use shelf::Worked;
 use shelf::Written;
 
 mod items; // items.rt: list items
@@ -38,13 +40,20 @@ fn put_value(out: &mut [u8], at: usize, n: u64) -> usize
     lines::put_whole(out, number, n)
 }
 
+// A whole number with its sign, behind a space.
+fn put_signed_value(out: &mut [u8], at: usize, x: i64) -> usize
+    ensures { λ r. ⌜ Puts (now (out .entry)) at (ascii " " ++ integerText x) (now (out .exit)) r ⌝ }
+{
+    let number = lines::put(out, at, b" ");
+    put_integer(out, number, x)
+}
+
 // Mantissa and exponent, each behind a space.
 pub fn put_number(out: &mut [u8], at: usize, mantissa: u64, exponent: i64) -> usize
     ensures { λ r. ⌜ Puts (now (out .entry)) at (valuesText (pos mantissa ∷ exponent ∷ [])) (now (out .exit)) r ⌝ }
 {
-    let space = put_value(out, at, mantissa);
-    let second = lines::put(out, space, b" ");
-    put_integer(out, second, exponent)
+    let second = put_value(out, at, mantissa);
+    put_signed_value(out, second, exponent)
 }
 
 // `refused N at O`.
@@ -115,6 +124,27 @@ pub fn put_valued(out: &mut [u8], at: usize, answer: Valued) -> usize
             put_number(out, space, mantissa, exponent)
         }
         Valued::Refused(why) => put_refusal(out, at, why),
+    }
+}
+
+// `number M E rest R X`.
+pub fn put_worked(out: &mut [u8], at: usize, answer: Worked) -> usize
+    ensures { λ r. ⌜ Puts (now (out .entry)) at (workedText (workedReport answer)) (now (out .exit)) r ⌝ }
+{
+    match answer {
+        Worked::Result {
+            mantissa,
+            exponent,
+            rest,
+            rest_exponent,
+        } => {
+            let space = lines::put(out, at, b"number");
+            let behind = put_number(out, space, mantissa, exponent);
+            let first = lines::put(out, behind, b" rest");
+            let second = put_signed_value(out, first, rest);
+            put_signed_value(out, second, rest_exponent)
+        }
+        Worked::Refused(why) => put_refusal(out, at, why),
     }
 }
 

@@ -21,8 +21,8 @@ use Rattle.words.specs.Walk.{carry, carryLetter}
 use Rattle.words.proofs.Counts.{total-append}
 use Rattle.words.proofs.Related.{letterCost}
 use Rattle.words.proofs.Walks.{All, all-behind}
-use Rattle.lists.specs.Lists.{vectorOf}
-use Rattle.lists.specs.Carrying.{SameItems, Carries, ItemsRanged, carryReach, workingReach}
+use Rattle.items.specs.Items.{vectorOf, ItemsRanged}
+use Rattle.lists.specs.Carrying.{SameItems, Carries, carryReach, workingReach}
 use Rattle.lists.proofs.LetterReach.{StoredLetter, reachOf, carry-reach}
 use Rattle.lists.proofs.Vectors.{vector-here, vector-other}
 

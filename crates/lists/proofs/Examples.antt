@@ -8,7 +8,7 @@ use Rattle.number.specs.Number.{round, renormalised, sumOf, productOf, inRange}
 use Rattle.number.specs.Signed.{signedRound, signedSum, signedProduct, withSign}
 use Rattle.words.specs.Word.{ascending, descending, word}
 use Rattle.words.specs.Walk.{carry, carryLetter}
-use Rattle.lists.specs.Items.{storable, signedItem, listOf, listNumbers}
+use Rattle.items.specs.Items.{storable, signedItem, listOf, listNumbers}
 use Rattle.reversals.specs.Reversals.{opposite, reversalsBehind}
 use Rattle.lists.specs.Lists.{carriedVector, anyOutside, itemsAfterCarry, reversalsCall}
 use Rattle.lists.specs.Examples.{listTable}

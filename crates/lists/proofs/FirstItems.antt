@@ -11,7 +11,8 @@ use Rattle.number.specs.declared.Number.{Number}
 use Rattle.number.specs.declared.signed.Signed.{Signed}
 use Rattle.words.specs.Word.{Factors, ascending}
 use Rattle.words.proofs.Walks.{All}
-use Rattle.lists.specs.Lists.{signedWord, vectorOf, firstItems, carriedVector, carriedList}
+use Rattle.items.specs.Items.{vectorOf}
+use Rattle.lists.specs.Lists.{signedWord, firstItems, carriedVector, carriedList}
 use Rattle.lists.specs.Carrying.{Carries}
 use Rattle.lists.proofs.LetterReach.{StoredLetter}
 use Rattle.lists.proofs.Carried.{carry-agree}

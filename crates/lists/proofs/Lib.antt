@@ -1,5 +1,3 @@
-pub mod ItemForms
-pub mod Reading
 pub mod Fronts
 pub mod Vectors
 pub mod Outcomes

@@ -12,7 +12,7 @@ use Rattle.words.specs.Word.{Factors}
 use Rattle.arrays.proofs.Filled.{read-any}
 use Rattle.table.specs.Table.{factorsOf, absent}
 use Rattle.table.proofs.Table.{factor-read}
-use Rattle.lists.specs.Lists.{vectorOf}
+use Rattle.items.specs.Items.{vectorOf}
 use Rattle.lists.specs.Carrying.{Scaled}
 use Rattle.lists.proofs.Vectors.{vector-here, vector-other}
 

@@ -23,7 +23,8 @@ use Rattle.walk.specs.declared.Way.the-variants.{Plain}
 use Rattle.walk.specs.declared.letters.Move.{Move}
 use Rattle.walk.proofs.Acts.{each-length, each-at}
 use Rattle.walk.proofs.Spelling.{IsMove, IsDiagonal, word-length, letter-move, letter-diagonal}
-use Rattle.lists.specs.Lists.{signedWord, vectorOf}
+use Rattle.items.specs.Items.{vectorOf}
+use Rattle.lists.specs.Lists.{signedWord}
 use Rattle.lists.specs.Carrying.{Carries, Scaled, letterOf}
 use Rattle.lists.proofs.Carried.{added-agrees}
 

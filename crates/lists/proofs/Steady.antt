@@ -20,13 +20,13 @@ use Rattle.words.specs.Word.{Factors}
 use Rattle.words.specs.Sources.{Each}
 use Rattle.words.proofs.Walks.{All}
 use Rattle.words.proofs.Stages.{word-all, word-rows}
+use Rattle.items.specs.Items.{listOf, itemsOf, proper, vectorOf}
+use Rattle.items.proofs.Reading.{Numbered, list-numbered}
 use Rattle.reversals.specs.Reversals.{reversals}
 use Rattle.reversals.proofs.Steady.{Unsigned, word-steady}
-use Rattle.lists.specs.Items.{listOf, proper}
-use Rattle.lists.specs.Lists.{signedWord, vectorOf, carriedVector, carriedList, itemsOf, carryTests, itemsAfterCarry, reversalsCall}
+use Rattle.lists.specs.Lists.{signedWord, carriedVector, carriedList, carryTests, itemsAfterCarry, reversalsCall}
 use Rattle.lists.specs.Promise.{NoMoreReversals}
 use Rattle.lists.proofs.FirstItems.{first-length, first-back}
-use Rattle.lists.proofs.Reading.{Numbered, list-numbered}
 use Rattle.lists.proofs.Outcomes.{carry-accepted}
 use Rattle.lists.proofs.RoundTrip.{carry-back}
 

@@ -1,16 +1,17 @@
--- What it means that eight items are carried through a word (`Carries`): those of the n rows agree with the carried vector. And how far their exponents
--- may be meanwhile (`ItemsRanged`).
+-- What it means that eight items are carried through a word (`Carries`): those of the n rows agree with the carried vector. One letter of it (`Scaled`,
+-- `letterOf`), and how far the exponents of the items may be meanwhile (`carryReach`, `workingReach`).
 use mathlib.Core.Path.{_≡_}
 use mathlib.Core.List.{List}
 use Prim.Native.Nat.{ℕ, _<_}
 use lib.ListN.{length, getD}
-use Rattle.number.specs.Signed.{plain, zeroSigned, signedProduct, signedArithmetic, SignedRanged}
+use Rattle.number.specs.Signed.{plain, zeroSigned, signedProduct, signedArithmetic}
 use Rattle.number.specs.declared.Number.{Number}
 use Rattle.number.specs.declared.signed.Signed.{Signed}
 use Rattle.words.specs.RowSet.{In}
 use Rattle.words.specs.Word.{Factors, Letter, D, Word}
 use Rattle.words.specs.Walk.{carry}
-use Rattle.lists.specs.Lists.{signedWord, vectorOf}
+use Rattle.items.specs.Items.{vectorOf}
+use Rattle.lists.specs.Lists.{signedWord}
 
 -- the items 1 .. n of two vectors are the same
 abbrev pub SameItems : ℕ → (v w : ℕ → Signed) → Type 0
@@ -30,11 +31,6 @@ pub record Scaled (k : ℕ) (b : Factors Number) (v u : List Signed) : Type 0 wh
 -- letter number t of the word, counted from 0
 unfoldable pub letterOf : ℕ → Factors Number → ℕ → Letter Signed
 letterOf n b t = getD (signedWord n b) t (D (λ i. zeroSigned))
-
--- the exponents of the n items are within r
-pub record ItemsRanged (r n : ℕ) (v : List Signed) : Type 0 where
-  pub eight : length v ≡ 8
-  pub ranged : (i : ℕ) → In n i → SignedRanged r (vectorOf v i)
 
 -- a letter takes exponents at most that far: a product by a stored number 1033, and a sum 31
 abbrev pub carryReach : ℕ

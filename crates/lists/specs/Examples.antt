@@ -8,17 +8,8 @@ use Rattle.number.specs.Examples.{Row, row, up}
 use Rattle.number.specs.declared.Number.{Number}
 use Rattle.words.specs.Examples.{ones}
 use Rattle.words.specs.Word.{Factors}
+use Rattle.items.specs.Examples.{plusOneItem, minusOneItem, zeroItem}
 use Rattle.lists.specs.Lists.{carryTests, itemsAfterCarry, reversalsCall}
-
--- 1, -1 and 0 as they are lent: sign, mantissa, exponent
-abbrev pub plusOneItem : List ℤ
-plusOneItem = pos 1 ∷ pos (2 ^ 31) ∷ negsuc 30 ∷ []
-
-abbrev pub minusOneItem : List ℤ
-minusOneItem = negsuc 0 ∷ pos (2 ^ 31) ∷ negsuc 30 ∷ []
-
-abbrev pub zeroItem : List ℤ
-zeroItem = pos 0 ∷ pos 0 ∷ pos 0 ∷ []
 
 -- a lent output of six numbers and one more
 abbrev pub lentSeven : List ℤ

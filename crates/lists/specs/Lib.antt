@@ -1,4 +1,3 @@
-pub mod Items
 pub mod Lists
 pub mod Promise
 pub mod Carrying

@@ -2,31 +2,27 @@
 -- `reversalsTests`), what a carry writes (`itemsAfterCarry`), and what a count returns (`reversalsCall`).
 use mathlib.Core.Bool.{Bool, false, not, _&&_, _||_}
 use mathlib.Core.List.{List, [], _∷_}
-use mathlib.Core.Option.{Option·getD}
-use Prim.Native.Nat.{ℕ, _-_, _*_}
+use Prim.Native.Nat.{ℕ, _*_}
 use lib.Dec.{ltb}
 use lib.IntN.{ℤ, pos}
-use lib.ListN.{length, getD}
+use lib.ListN.{length}
 use lib.Seq.{sets}
 use Rattle.verdict.specs.declared.Verdict.{Verdict}
 use Rattle.verdict.specs.Verdict.{when, firstOf, after}
 use Rattle.verdict.specs.Report.{Report, accepted, refused, reportOf}
 use Rattle.number.specs.Number.{inRange}
-use Rattle.number.specs.Signed.{plain, zeroSigned, signedArithmetic}
+use Rattle.number.specs.Signed.{plain, signedArithmetic}
 use Rattle.number.specs.declared.Number.{Number}
 use Rattle.number.specs.declared.signed.Signed.{Signed}
 use Rattle.words.specs.Word.{Factors, Word, word, forUp}
 use Rattle.words.specs.Walk.{carry}
-use Rattle.reversals.specs.Reversals.{isZeroItem, reversals}
-use Rattle.lists.specs.Items.{listOf, listNumbers, proper}
+use Rattle.items.specs.Items.{isZeroItem, listOf, itemsOf, listNumbers, proper, vectorOf}
+use Rattle.reversals.specs.Reversals.{reversals}
 use Rattle.lists.specs.declared.Reversals.{Reversals}
 use Rattle.lists.specs.declared.Reversals.the-variants.{Count, Refused}
 
 -- ---- carrying
--- the items of a list as a vector, counted from 1, and the first n of a vector as a list
-abbrev pub vectorOf : List Signed → ℕ → Signed
-vectorOf L i = getD L (i - 1) zeroSigned
-
+-- the first n items of a vector as a list
 abbrev pub firstItems : ℕ → (ℕ → Signed) → List Signed
 firstItems n v = forUp 1 n (λ i. v i ∷ [])
 
@@ -39,10 +35,6 @@ carriedVector n b v = carry signedArithmetic (signedWord n b) v
 
 abbrev pub carriedList : ℕ → Factors Number → List Signed → List Signed
 carriedList n b L = firstItems n (carriedVector n b (vectorOf L))
-
--- the items of a row of numbers, none where it is not well formed
-abbrev pub itemsOf : List ℤ → List Signed
-itemsOf items = Option·getD (listOf items) []
 
 -- an item is not zero, and its exponent lies outside the stored range
 abbrev pub itemOutside : Signed → Bool

@@ -8,8 +8,9 @@ ghost use Rattle.number.specs.Signed.{plain, signedSum, signedProduct, SignedRa
 ghost use Rattle.words.specs.Sources.{Each};
 ghost use Rattle.table.specs.Table.{factorsOf};
 ghost use Rattle.walk.specs.Letters.{middle};
-ghost use Rattle.lists.specs.Lists.{vectorOf, carriedList};
-ghost use Rattle.lists.specs.Carrying.{Carries, Scaled, ItemsRanged, letterOf, workingReach};
+ghost use Rattle.items.specs.Items.{vectorOf, ItemsRanged};
+ghost use Rattle.lists.specs.Lists.{carriedList};
+ghost use Rattle.lists.specs.Carrying.{Carries, Scaled, letterOf, workingReach};
 use number::Number;
 use number::signed::Signed;
 use walk::Way;

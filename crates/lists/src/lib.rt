@@ -15,7 +15,6 @@ use verdict::Verdict;
 use verdict::test;
 
 mod carrying; // carrying.rt: items through a word
-mod items; // items.rt: items as three whole numbers
 
 // How many reversals, or a refusal.
 pub enum Reversals {

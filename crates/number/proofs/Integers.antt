@@ -1,7 +1,7 @@
 -- Laws of whole numbers with a sign, as the code steps through them: their signs (`below-zero`, `not-negative`), a negative number without its sign (`Flipped`,
 -- `flipped`), a sign put on (`minus-fits`, `minus-is`), and kept exponents (`biased-negative`, `biased-plain`, `biased-near`,
--- `exponent-near`, `biased-exponent`).
-use mathlib.Core.Path.{_≡_, refl, _∙_}
+-- `exponent-near`, `biased-exponent`, `exponent-biased`).
+use mathlib.Core.Path.{_≡_, refl, ap, _∙_}
 use mathlib.Core.Bool.{true, false, true≢false, false≢true}
 use mathlib.Core.List.{List}
 use Prim.Native.Nat.{ℕ, zero, suc, _+_, _-_, _<_, _≤_, _^_}
@@ -15,7 +15,7 @@ use lib.Signed.{mag, ltZ, nonNeg}
 use mir.Syntax.{w64}
 use mir.Val.{SFits, toZ, ofZ}
 use mir.Facts.{toZ-ofZ}
-use Rattle.number.specs.Number.{bias}
+use Rattle.number.specs.Number.{bias, unbiased}
 use Rattle.number.specs.Integer.{isNegative, biased}
 
 -- what a local holds that was given a number
@@ -81,6 +81,16 @@ biased-exponent x = go (decLt x bias)
     go : Dec (x < bias) → biased (subℕ x bias) ≡ x
     go (yes h) = simp (lt-ltb x bias h) (omega arith)
     go (no h) = let l : bias ≤ x = omega arith in simp (le-ltb x bias l) (omega arith)
+
+pub exponent-biased : (e : ℤ) → natAbs e ≤ 1000 → unbiased (biased e) ≡ e
+exponent-biased (pos n) h =
+    let l : bias ≤ bias + n = omega arith in
+    let d : bias + n - bias ≡ n = omega arith in
+    simp (le-ltb (bias + n) bias l) (ap pos d)
+exponent-biased (negsuc n) h =
+    let l : bias - suc n < bias = omega arith in
+    let d : bias - suc (bias - suc n) ≡ n = omega arith in
+    simp (lt-ltb (bias - suc n) bias l) (ap negsuc d)
 
 pub exponent-near : (x : ℕ) → bias ≤ x + 1000 → x ≤ bias + 1000 → natAbs (subℕ x bias) ≤ 1000
 exponent-near x p q = go (decLt x bias)

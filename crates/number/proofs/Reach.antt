@@ -1,5 +1,6 @@
--- How far each operation takes the exponents: `ranged-sum`, `ranged-product`, `ranged-quotient`, `ranged-difference`; `ranged-more` widens a range;
--- `ranged-zero`, `ranged-one` and `ranged-stored` start one; `in-range-stored` and `stored-in-range` tie the code's test to stored numbers.
+-- How far each operation takes the exponents: `sum-spans`, `product-spans`, `quotient-spans` of operands that are not zero, `ranged-sum`, `ranged-product`,
+-- `ranged-quotient`, `ranged-difference` of any; `ranged-more` widens a range; `ranged-zero`, `ranged-one` and `ranged-stored` start one; `in-range-stored` and
+-- `stored-in-range` tie the code's test to stored numbers.
 use mathlib.Core.Path.{_≡_, refl, sym, ap, _∙_, subst}
 use mathlib.Core.Bool.{true, false}
 use Prim.Native.Nat.{ℕ, zero, suc, _+_, _-_, _*_, _^_, _≤_, _<_, min}
@@ -28,6 +29,16 @@ ranged-zero r = record { zero = λ e. refl; low = λ h. absurd (omega arith); hi
 normal : (r : ℕ) (a : Number) → 2 ^ 31 ≤ a .m → a .m < 2 ^ 32 → bias ≤ a .x + r → a .x ≤ bias + r → Ranged r a
 normal r a l h s t = record { zero = λ e. absurd (omega arith); low = λ p. l; high = h; start = s; stop = t }
 
+-- the same at an exponent from i to j
+pub record Spans (i j : ℕ) (a : Number) : Type 0 where
+  pub low : 2 ^ 31 ≤ a .m
+  pub high : a .m < 2 ^ 32
+  pub start : i ≤ a .x
+  pub stop : a .x ≤ j
+
+spanned : {r i j : ℕ} {a : Number} → Spans i j a → bias ≤ i + r → j ≤ bias + r → Ranged r a
+spanned {r} {i} {j} {a} s g h = normal r a (s .low) (s .high) (omega (arith, s .start)) (omega (arith, s .stop))
+
 pub ranged-one : Ranged 31 oneNumber
 ranged-one = normal 31 oneNumber (omega arith) (omega arith) (omega arith) (omega arith)
 
@@ -47,9 +58,9 @@ in-range-stored {r} {a} u p e =
 
 -- ---- products and quotients
 module _ {r s : ℕ} {a b : Number} (u : Ranged r a) (v : Ranged s b) (small : r + s + 64 ≤ bias) where
-  nonzero-product : 0 < a .m → 0 < b .m → Ranged (r + s + 33) (productOf a b)
+  pub product-spans : 0 < a .m → 0 < b .m → let x = a .x + b .x - bias in Spans (x + 31) (x + 33) (productOf a b)
   unfolding productOf
-  nonzero-product p q =
+  product-spans p q =
       let la : 2 ^ 31 ≤ a .m = u .low p in
       let lb : 2 ^ 31 ≤ b .m = v .low q in
       let ha : a .m ≤ 2 ^ 32 - 1 = omega (arith, u .high) in
@@ -61,7 +72,7 @@ module _ {r s : ℕ} {a b : Number} (u : Ranged r a) (v : Ranged s b) (small : r
       let c = round-represents n 1 x (omega arith) (omega arith) (omega arith) in
       let g = round-start n 1 x (omega arith) (omega arith) (omega arith) 94 (omega arith) in
       let h = round-stop n 1 x (omega arith) (omega arith) (omega arith) 96 (omega arith) (omega (arith, u .start, v .start)) in
-      normal (r + s + 33) (round n 1 x) (c .low) (c .high) (omega (arith, g, u .start, v .start)) (omega (arith, h, u .stop, v .stop, u .start, v .start))
+      record { low = c .low; high = c .high; start = omega arith; stop = omega arith }
 
   pub ranged-product : Ranged (r + s + 33) (productOf a b)
   ranged-product = go (a .m) (b .m) refl refl
@@ -69,11 +80,12 @@ module _ {r s : ℕ} {a b : Number} (u : Ranged r a) (v : Ranged s b) (small : r
       go : (i j : ℕ) → a .m ≡ i → b .m ≡ j → Ranged (r + s + 33) (productOf a b)
       go zero j e f = subst (Ranged (r + s + 33)) (sym (product-zero-left a b e)) (ranged-zero (r + s + 33))
       go (suc i) zero e f = subst (Ranged (r + s + 33)) (sym (product-zero-right a b f)) (ranged-zero (r + s + 33))
-      go (suc i) (suc j) e f = nonzero-product (omega arith) (omega arith)
+      go (suc i) (suc j) e f =
+          spanned (product-spans (omega arith) (omega arith)) (omega (arith, u .start, v .start)) (omega (arith, u .stop, v .stop, u .start, v .start))
 
-  nonzero-quotient : 0 < a .m → 0 < b .m → Ranged (r + s + 32) (quotientOf a b)
+  pub quotient-spans : 0 < a .m → 0 < b .m → let x = a .x + bias - b .x in Spans (x - 32) (x - 30) (quotientOf a b)
   unfolding quotientOf
-  nonzero-quotient p q =
+  quotient-spans p q =
       let la : 2 ^ 31 ≤ a .m = u .low p in
       let lb : 2 ^ 31 ≤ b .m = v .low q in
       let ha : a .m < 2 ^ 32 = u .high in
@@ -82,19 +94,19 @@ module _ {r s : ℕ} {a b : Number} (u : Ranged r a) (v : Ranged s b) (small : r
       let c = round-represents (a .m) (b .m) x p q (omega arith) in
       let g = round-start (a .m) (b .m) x p q (omega arith) 31 (omega arith) in
       let h = round-stop (a .m) (b .m) x p q (omega arith) 33 (omega arith) (omega (arith, u .start, v .stop)) in
-      normal (r + s + 32) (round (a .m) (b .m) x) (c .low) (c .high) (omega (arith, g, u .start, v .stop)) (omega (arith, h, u .stop, v .start))
+      record { low = c .low; high = c .high; start = omega arith; stop = omega arith }
 
   pub ranged-quotient : 0 < b .m → Ranged (r + s + 32) (quotientOf a b)
   ranged-quotient q = go (a .m) refl
     where
       go : (i : ℕ) → a .m ≡ i → Ranged (r + s + 32) (quotientOf a b)
       go zero e = subst (Ranged (r + s + 32)) (sym (quotient-zero-left a b e)) (ranged-zero (r + s + 32))
-      go (suc i) e = nonzero-quotient (omega arith) q
+      go (suc i) e = spanned (quotient-spans (omega arith) q) (omega (arith, u .start, v .stop)) (omega (arith, u .stop, v .start))
 
 -- ---- sums
 -- the lower exponent second
-ordered-sum : (r : ℕ) (a b : Number) → Ranged r a → Ranged r b → 0 < a .m → r + 64 ≤ bias → b .x ≤ a .x → Ranged (r + 2) (sumOf a b)
-ordered-sum r a b u v p small l =
+pub sum-spans : (r : ℕ) (a b : Number) → Ranged r a → Ranged r b → 0 < a .m → r + 64 ≤ bias → b .x ≤ a .x → Spans (a .x) (a .x + 2) (sumOf a b)
+sum-spans r a b u v p small l =
     let k : ℕ = a .x - b .x in
     let n : ℕ = a .m * 2 ^ k + b .m in
     let la : 2 ^ 31 ≤ a .m = u .low p in
@@ -106,7 +118,10 @@ ordered-sum r a b u v p small l =
     let c = round-represents n 1 (b .x) (omega arith) (omega arith) (omega arith) in
     let g = round-start n 1 (b .x) (omega arith) (omega arith) (omega arith) (63 + k) (rw (pow-add 2 63 k) (omega arith)) in
     let h = round-stop n 1 (b .x) (omega arith) (omega arith) (omega arith) (65 + k) (rw (pow-add 2 65 k) (omega arith)) (omega (arith, v .start)) in
-    subst (Ranged (r + 2)) (sym (sum-is a b l)) (normal (r + 2) (round n 1 (b .x)) (c .low) (c .high) (omega (arith, g, u .start)) (omega (arith, h, u .stop)))
+    subst (Spans (a .x) (a .x + 2)) (sym (sum-is a b l)) (record { low = c .low; high = c .high; start = omega arith; stop = omega arith })
+
+ordered-sum : (r : ℕ) (a b : Number) → Ranged r a → Ranged r b → 0 < a .m → r + 64 ≤ bias → b .x ≤ a .x → Ranged (r + 2) (sumOf a b)
+ordered-sum r a b u v p small l = spanned (sum-spans r a b u v p small l) (omega (arith, u .start)) (omega (arith, u .stop))
 
 pub ranged-sum : {r : ℕ} {a b : Number} → Ranged r a → Ranged r b → r + 64 ≤ bias → Ranged (r + 2) (sumOf a b)
 ranged-sum {r} {a} {b} u v small = go (a .m) (b .m) refl refl (decLe (b .x) (a .x))

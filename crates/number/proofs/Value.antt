@@ -61,7 +61,7 @@ module _ (a b : Number) where
   B = value b
 
   -- both operands brought to the lower exponent
-  sum-over : let l = min (a .x) (b .x) in Over (1 * scale) (fractionSum (value a) (value b)) ((a .m * 2 ^ (a .x - l) + b .m * 2 ^ (b .x - l)) * 2 ^ l)
+  pub sum-over : let l = min (a .x) (b .x) in Over (1 * scale) (fractionSum (value a) (value b)) ((a .m * 2 ^ (a .x - l) + b .m * 2 ^ (b .x - l)) * 2 ^ l)
   sum-over =
       let l : ℕ = min (a .x) (b .x) in
       let fa : a .x - l + l ≡ a .x = omega (arith, min-le-left (a .x) (b .x)) in
@@ -74,7 +74,7 @@ module _ (a b : Number) where
       ap (λ (z : ℕ). b .m * z * (A .low * B .low)) (sym eb) in
       omega (arith, ap (λ (z : ℕ). z * B .low) (value-over a), ap (λ (z : ℕ). z * A .low) (value-over b))
 
-  product-over : bias ≤ a .x + b .x → Over (1 * scale) (fractionProduct (value a) (value b)) (a .m * b .m * 2 ^ (a .x + b .x - bias))
+  pub product-over : bias ≤ a .x + b .x → Over (1 * scale) (fractionProduct (value a) (value b)) (a .m * b .m * 2 ^ (a .x + b .x - bias))
   product-over h =
       let x : ℕ = a .x + b .x - bias in
       let f : a .x + b .x ≡ x + bias = omega arith in

@@ -9,7 +9,7 @@ abbrev pub isNegative : ℤ → Bool
 isNegative (pos n) = false
 isNegative (negsuc n) = true
 
--- an exponent e as it is kept, e + bias; `exponentOf` gives it back
+-- an exponent e as it is kept, e + bias; `unbiased` gives it back
 abbrev pub biased : ℤ → ℕ
 biased (pos n) = bias + n
 biased (negsuc n) = bias - suc n

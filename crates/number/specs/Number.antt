@@ -54,9 +54,12 @@ quotientOf a b = round (a .m) (b .m) (a .x + bias - b .x)
 abbrev pub rounded : Arithmetic
 rounded = record { Num = Number; zero = zeroNumber; one = oneNumber; add = sumOf; mul = productOf; div = quotientOf }
 
--- the exponent e, which is kept as e + bias
+-- the exponent e, which is kept as x = e + bias
+abbrev pub unbiased : ℕ → ℤ
+unbiased x = subℕ x bias
+
 abbrev pub exponentOf : Number → ℤ
-exponentOf a = subℕ (a .x) bias
+exponentOf a = unbiased (a .x)
 
 -- the fraction m × 2 ^ e that a number stands for
 unfoldable pub value : Number → Fraction

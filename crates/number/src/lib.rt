@@ -3,7 +3,8 @@
 ghost use mathlib.Core.Path.{_≡_};
 ghost use mathlib.Core.Bool.{false, cond};
 ghost use Prim.Native.Nat.{_+_, _-_, _*_, _^_, _≤_, _<_, min};
-ghost use Rattle.number.specs.Number.{zeroNumber, oneNumber, renormalised, round, sumOf, productOf, quotientOf, Ranged, reach, exponentOf, inRange};
+ghost use Rattle.number.specs.Number.{zeroNumber, oneNumber, unbiased, renormalised, round, sumOf, productOf, quotientOf, Ranged, reach, exponentOf};
+ghost use Rattle.number.specs.Number.{inRange};
 ghost use Rattle.number.specs.Signed.{below, differenceOf};
 ghost use Rattle.number.specs.Digits.{unlikeOf, alignedOf};
 
@@ -19,6 +20,14 @@ pub const BIAS: u64 = 4194304;
 pub struct Number {
     pub m: u64,
     pub x: u64,
+}
+
+// The exponent that is kept as x.
+pub fn unbiased(x: u64) -> i64
+    requires { ⌜ x < 2 ^ 32 ⌝ }
+    ensures { λ r. ⌜ r ≡ unbiased x ⌝ }
+{
+    x as i64 - BIAS as i64
 }
 
 // A mantissa that was rounded up to 2^32 is 2^31 one exponent higher.
@@ -53,7 +62,7 @@ fn round(q: u64, rest: u64, d: u64, x: u64) -> Number
     renormalised(q, x)
 }
 
-fn power(k: u64) -> u64
+pub fn power(k: u64) -> u64
     requires { ⌜ k < 64 ⌝ }
     ensures { λ r. ⌜ r ≡ 2 ^ k ⌝ }
 {
@@ -188,7 +197,7 @@ impl Number {
         requires { ⌜ self .x < 2 ^ 32 ⌝ }
         ensures { λ r. ⌜ r ≡ exponentOf self ⌝ }
     {
-        self.x as i64 - BIAS as i64
+        unbiased(self.x)
     }
 
     // Whether the exponent may be stored: from -1000 to 1000.

@@ -1,4 +1,4 @@
--- An item by the indices of its commas (`item-is`), and a loop over the words of a list (`Passed`).
+-- An item by the indices of its commas (`item-is`), how many numbers a list has (`counted`), and a loop over its words (`Passed`).
 use Prim.Native.Nat.{ℕ, zero, suc, _+_, _-_, _*_, _^_, _≤_, _<_}
 use native.Mathlib.Omega.{arith}
 use mathlib.Core.Path.{_≡_, refl, sym, ap, _∙_}
@@ -14,6 +14,7 @@ use mir.Facts.{toZ-ofZ}
 use Rattle.lines.specs.Words.{before, wordAt, nextWord}
 use Rattle.lines.proofs.Words.{take-before}
 use Rattle.requests.specs.declared.items.ReadNumber.{ReadNumber}
+use Rattle.requests.specs.declared.items.ReadItem.{ReadItem}
 use Rattle.requests.specs.declared.items.ReadItem.the-variants as item
 use Rattle.requests.specs.Words.{wordsAt}
 use Rattle.requests.specs.Items.{spelledNumber, spelledBy, spelledItem, itemThen, spelledItems}
@@ -46,6 +47,22 @@ module _ (w rest last : List ℕ) (a b : ℕ) (x y z : ReadNumber) where
       let er2 : rest ≡ drop (length (before 44 w) + 1) w = rw ea at er in
       let eb2 : last ≡ drop (length (before 44 rest) + 1) rest = rw eb at el in
       rw (ex, ey, ez, part-before w a ea, part-before rest b eb, eb2, er2)
+
+-- a list of items has three numbers for each of n words
+abbrev pub Counted : Option (List ℤ) → ℕ → Type 0
+Counted none n = Unit {0}
+Counted (some l) n = length l ≡ n * 3
+
+counted-more : (i : ReadItem) (o : Option (List ℤ)) (n : ℕ) → Counted o n → Counted (itemThen i o) (suc n)
+counted-more (item.Value a b c) none n h = tt
+counted-more (item.Value a b c) (some l) n h = omega arith
+counted-more item.Malformed o n h = tt
+
+pub counted : (n : ℕ) (ws : List (List ℕ)) → Counted (spelledItems n ws) (length ws)
+unfolding spelledItems
+counted n [] = refl
+counted zero (w ∷ ws) = tt
+counted (suc n) (w ∷ ws) = counted-more (spelledItem w) (spelledItems n ws) (length ws) (counted n ws)
 
 -- items in front of others
 abbrev pub front : List ℤ → Option (List ℤ) → Option (List ℤ)

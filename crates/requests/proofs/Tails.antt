@@ -1,12 +1,13 @@
--- What stands behind the numbers of a request: nothing (`nothing-left`), bytes (`bytes-read`), and the whole request by its parts (`request-is`).
-use Prim.Native.Nat.{ℕ, _+_, _/_, _≤_, _<_}
+-- What stands behind a request's numbers: nothing (`nothing-left`), bytes (`bytes-read`), two items (`two-read`); the request by its parts (`request-is`).
+use Prim.Native.Nat.{ℕ, _+_, _*_, _/_, _≤_, _<_}
 use native.Mathlib.Omega.{arith}
 use mathlib.Core.Path.{_≡_, refl, sym, ap, _∙_}
 use mathlib.Core.Bool.{Bool, true, false, cond, not, _&&_}
 use mathlib.Core.List.{List, [], _∷_}
-use mathlib.Core.Option.{Option}
+use mathlib.Core.Option.{Option, none, some}
 use lib.Dec.{ltb}
-use lib.ListN.{length, take, drop}
+use lib.IntN.{ℤ}
+use lib.ListN.{length, take, drop, length-take}
 use lib.Seq.{sets, sets-eq, take-at}
 use borrow.Author.Tests.{ltb-true, ltb-false, not-true}
 use Rattle.number.proofs.Tests.{both}
@@ -15,9 +16,12 @@ use Rattle.lines.specs.Words.{wordAt, nextWord}
 use Rattle.lines.specs.Hexadecimal.{hexadecimal, spelledBytes, bytesRead, bytesInto}
 use Rattle.requests.specs.declared.commands.Command.{Command}
 use Rattle.requests.specs.declared.commands.Form.{Form}
+use Rattle.requests.specs.declared.request.Request.{Request}
 use Rattle.requests.specs.Words.{wordsOf, wordsAt, firstWord, wordsBehind}
 use Rattle.requests.specs.Commands.{formOf}
-use Rattle.requests.specs.Requests.{Asked, Values, bad, withNothing, withBytes, withTail, letterNumbers, requestOf}
+use Rattle.requests.specs.Items.{spelledItems}
+use Rattle.requests.specs.Requests.{Asked, Values, asked, bad, withNothing, withBytes, withList, withItems, withTwo, withTail, letterNumbers, requestOf}
+use Rattle.requests.proofs.Listed.{Counted, counted}
 use Rattle.requests.proofs.Words.{words-at, words-past, word-past, words-all, first-word, words-behind}
 
 module _ (command : Command) (values line : List ℕ) (at : ℕ) where
@@ -103,6 +107,41 @@ module _ (command : Command) (values line : List ℕ) (at : ℕ) (h : length lin
       let w : List ℕ = wordAt line at in
       other-by (record { command = command; values = values; bytes = spelledBytes w; items = [] }) (length w / 2)
       (hexadecimal w && not (ltb 2048 (length w / 2))) (rw long at e) ∙ one-word command values line at h
+
+-- two items are six numbers
+module _ (command : Command) (values : List ℕ) where
+  two-words : (o : Option (List ℤ)) (n : ℕ) → Counted o n → length (withList command values o .items) ≡ 6 → n ≡ 2
+  two-words none n h six = absurd (omega arith)
+  two-words (some l) n h six = omega arith
+
+  two-kept : (ws : List (List ℕ)) → length ws ≡ 2 → withItems command values ws ≡ withTwo command values ws
+  two-kept [] e = absurd (omega arith)
+  two-kept (w ∷ []) e = absurd (omega arith)
+  two-kept (w ∷ v ∷ []) e = refl
+  two-kept (w ∷ v ∷ u ∷ ws) e = absurd (omega arith)
+
+  two-none : (o : Option (List ℤ)) → Counted o 2 → (length (withList command values o .items) ≡ 6 → ⊥) → bad ≡ withList command values o
+  two-none none h other = refl
+  two-none (some l) h other = absurd (other h)
+
+  two-bad : (ws : List (List ℕ)) → (length (withItems command values ws .items) ≡ 6 → ⊥) → bad ≡ withTwo command values ws
+  two-bad [] other = refl
+  two-bad (w ∷ []) other = refl
+  two-bad (w ∷ v ∷ []) other = two-none (spelledItems 16 (w ∷ v ∷ [])) (counted 16 (w ∷ v ∷ [])) other
+  two-bad (w ∷ v ∷ u ∷ ws) other = refl
+
+  module _ (ws : List (List ℕ)) (r : Request) (bytes : List ℕ) (list : List ℤ) (room : 48 ≤ length list)
+      (read : asked r bytes list ≡ withItems command values ws) where
+    read-length : length (withItems command values ws .items) ≡ length (take (r .items * 3) list)
+    read-length = ap (λ a. length (a .items)) (sym read)
+
+    pub two-read : r .items ≡ 2 → asked r bytes list ≡ withTwo command values ws
+    two-read e =
+        let six : length (withItems command values ws .items) ≡ 6 = omega (arith, read-length, length-take (r .items * 3) list) in
+        read ∙ two-kept ws (two-words (spelledItems 16 ws) (length ws) (counted 16 ws) six)
+
+    pub two-other : (r .items ≡ 2 → ⊥) → bad ≡ withTwo command values ws
+    two-other e = two-bad ws (λ six. e (omega (arith, read-length, length-take (r .items * 3) list)))
 
 module _ (line : List ℕ) (form : Form) (next : ℕ) (o : Option Values) where
   pub request-is : form ≡ formOf (wordAt line 0) → next ≡ nextWord line 0 → o ≡ letterNumbers (form .letters) (wordsAt line next)

@@ -6,10 +6,10 @@ use mathlib.Core.List.{List, [], _∷_}
 use Rattle.lines.specs.Ascii.{ascii}
 use Rattle.requests.specs.declared.commands.Command.{Command}
 use Rattle.requests.specs.declared.commands.Command.the-variants.{Load, Write, Drop, Product, Inverse, Converse, Transpose, Submatrix}
-use Rattle.requests.specs.declared.commands.Command.the-variants.{Minor, Carry, Reversals, Rest, Show, Bad}
+use Rattle.requests.specs.declared.commands.Command.the-variants.{Minor, Carry, Reversals, Add, Multiply, Divide, Rest, Show, Bad}
 use Rattle.requests.specs.declared.commands.Form.{Form}
 use Rattle.requests.specs.declared.commands.Tail.{Tail}
-use Rattle.requests.specs.declared.commands.Tail.the-variants.{None, Bytes, Items}
+use Rattle.requests.specs.declared.commands.Tail.the-variants.{None, Bytes, Items, Two}
 use Rattle.requests.specs.Words.{same}
 
 -- a word, and its form: a command, the letters of its numbers (P a place, M a mask, C a length to lend, - no number), and what stands behind them
@@ -37,6 +37,9 @@ secondForms =
     entry "minor" Minor "PMM-" None
     ∷ entry "carry" Carry "PC--" Items
     ∷ entry "reversals" Reversals "----" Items
+    ∷ entry "add" Add "----" Two
+    ∷ entry "multiply" Multiply "----" Two
+    ∷ entry "divide" Divide "----" Two
     ∷ entry "rest" Rest "----" Bytes
     ∷ entry "show" Show "P---" None
     ∷ []

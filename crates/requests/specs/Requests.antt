@@ -16,7 +16,7 @@ use Rattle.requests.specs.declared.commands.Command.{Command}
 use Rattle.requests.specs.declared.commands.Command.the-variants.{Bad}
 use Rattle.requests.specs.declared.commands.Form.{Form}
 use Rattle.requests.specs.declared.commands.Tail.{Tail}
-use Rattle.requests.specs.declared.commands.Tail.the-variants.{None, Bytes, Items}
+use Rattle.requests.specs.declared.commands.Tail.the-variants.{None, Bytes, Items, Two}
 use Rattle.requests.specs.declared.request.Numbers.{Numbers}
 use Rattle.requests.specs.declared.request.Request.{Request}
 use Rattle.requests.specs.Words.{wordsOf, wordsAt, firstWord, wordsBehind}
@@ -103,11 +103,19 @@ withList command values none = bad
 abbrev pub withItems : Command → List ℕ → List (List ℕ) → Asked
 withItems command values ws = withList command values (spelledItems 16 ws)
 
+-- exactly two items
+abbrev pub withTwo : Command → List ℕ → List (List ℕ) → Asked
+withTwo command values [] = bad
+withTwo command values (w ∷ []) = bad
+withTwo command values (w ∷ v ∷ []) = withItems command values (w ∷ v ∷ [])
+withTwo command values (w ∷ v ∷ u ∷ ws) = bad
+
 abbrev pub withTail : Command → Tail → Option Values → Asked
 withTail command t none = bad
 withTail command None (some v) = withNothing command (v .values) (v .left)
 withTail command Bytes (some v) = withBytes command (v .values) (v .left)
 withTail command Items (some v) = withItems command (v .values) (v .left)
+withTail command Two (some v) = withTwo command (v .values) (v .left)
 
 -- the request of a form with the words behind the first
 abbrev pub formRequest : Form → List (List ℕ) → Asked

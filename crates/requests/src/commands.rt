@@ -14,6 +14,9 @@ pub enum Command {
     Minor,
     Carry,
     Reversals,
+    Add,
+    Multiply,
+    Divide,
     Rest,
     Show,
     // None of these.
@@ -25,6 +28,8 @@ pub enum Tail {
     None,
     Bytes,
     Items,
+    // Exactly two items.
+    Two,
 }
 
 // A command, the letters of its numbers (P a place, M a mask, C a length to lend, - no number), and what stands behind them.
@@ -76,6 +81,9 @@ fn second_forms(w: &[u8], before: Form) -> Form
     let f = named(w, before, b"minor", Command::Minor, b"PMM-", Tail::None);
     let f = named(w, f, b"carry", Command::Carry, b"PC--", Tail::Items);
     let f = named(w, f, b"reversals", Command::Reversals, b"----", Tail::Items);
+    let f = named(w, f, b"add", Command::Add, b"----", Tail::Two);
+    let f = named(w, f, b"multiply", Command::Multiply, b"----", Tail::Two);
+    let f = named(w, f, b"divide", Command::Divide, b"----", Tail::Two);
     let f = named(w, f, b"rest", Command::Rest, b"----", Tail::Bytes);
     named(w, f, b"show", Command::Show, b"P---", Tail::None)
 }

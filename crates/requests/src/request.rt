@@ -4,7 +4,7 @@ ghost use lib.ListN.{length};
 ghost use Prim.Native.Nat.{_≤_};
 ghost use Rattle.requests.specs.Words.{wordsAt};
 ghost use Rattle.requests.specs.Requests.{most, numberBy, indexBehind, letterNumbers, numbersRead, asked, Asks, AsksBytes, AsksItems};
-ghost use Rattle.requests.specs.Requests.{bad, withNothing, withBytes, withItems, withTail, requestOf};
+ghost use Rattle.requests.specs.Requests.{bad, withNothing, withBytes, withItems, withTwo, withTail, requestOf};
 use crate::commands;
 use crate::commands::Command;
 use crate::commands::Form;
@@ -165,6 +165,24 @@ fn with_items(
     }
 }
 
+// The words that are left as exactly two items.
+fn with_two(
+    line: &[u8],
+    command: Command,
+    values: [usize; 4],
+    at: usize,
+    list: &mut [i64],
+) -> Request
+    requires { ⌜ 48 ≤ length (now list) ⌝ }
+    ensures { λ r. ⌜ AsksItems r (now (list .exit)) (withTwo command values (wordsAt (now (line .entry)) at)) ⌝ }
+{
+    let request = with_items(line, command, values, at, list);
+    if request.items != 2 {
+        return bad();
+    }
+    request
+}
+
 // The request of a form whose numbers were read, with what stands behind them.
 fn with_tail(
     line: &[u8],
@@ -185,6 +203,7 @@ fn with_tail(
     match tail {
         Tail::Bytes => with_bytes(line, command, values, next, bytes),
         Tail::Items => with_items(line, command, values, next, list),
+        Tail::Two => with_two(line, command, values, next, list),
         Tail::None => with_nothing(line, command, values, next),
     }
 }

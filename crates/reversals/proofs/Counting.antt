@@ -9,10 +9,6 @@ use Rattle.arrays.proofs.Fronts.{front-next}
 use Rattle.number.specs.declared.signed.Signed.{Signed}
 use Rattle.reversals.specs.Reversals.{opposite, turn, latest, reversalsBehind}
 
--- what the code would read past the end
-abbrev pub unset : Signed
-unset = record { negative = false; size = record { m = 0; x = 0 } }
-
 module _ (v : List Signed) (n k : ℕ) (d : Signed) (h : k < n) (g : n ≤ length v) where
   pub count-next : (r found t : ℕ) (last : Signed) → t ≡ turn last (getD v k d) → r ≡ found + reversalsBehind last (drop k (take n v))
       → r ≡ found + t + reversalsBehind (latest last (getD v k d)) (drop (k + 1) (take n v))

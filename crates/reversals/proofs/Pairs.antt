@@ -9,7 +9,8 @@ use lib.ListN.{length, getD, take, drop, length-take, drop-of-length-le}
 use lib.Seq.{take-suc, drop-cons, drop-append-le, drop-length}
 use Rattle.number.specs.Signed.{zeroSigned}
 use Rattle.number.specs.declared.signed.Signed.{Signed}
-use Rattle.reversals.specs.Reversals.{isZeroItem, opposite, turn, latest, reversalsBehind, reversals}
+use Rattle.items.specs.Items.{isZeroItem}
+use Rattle.reversals.specs.Reversals.{opposite, turn, latest, reversalsBehind, reversals}
 use Rattle.reversals.specs.Reversals.{between, allZero, isReversal, howManyBelow, pairsBelow, reversalPairs}
 
 -- ---- counting

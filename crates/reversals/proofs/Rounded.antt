@@ -14,7 +14,7 @@ use Rattle.number.specs.Signed.{plain, integerAt, positivePart, negativePart, s
 use Rattle.number.proofs.Rounding.{round-zero}
 use Rattle.number.proofs.Signs.{signed-product-comm}
 use Rattle.number.proofs.Zero.{product-zero-left, quotient-zero-left}
-use Rattle.reversals.specs.Reversals.{isZeroItem}
+use Rattle.items.specs.Items.{isZeroItem}
 use Rattle.reversals.proofs.Signs.{Sign, minus, none, plus, signBy, sign, Between, own, other, neither, by-none}
 
 between-own : {p q x : Sign} → q ≡ x → Between p q x

@@ -9,7 +9,8 @@ use native.Mathlib.Decide.{ℕ-discrete}
 use native.Mathlib.Omega.{arith}
 use Rattle.number.specs.declared.signed.Signed.{Signed}
 use Rattle.words.specs.Word.{ascending}
-use Rattle.reversals.specs.Reversals.{isZeroItem, opposite, turn, latest, reversalsBehind}
+use Rattle.items.specs.Items.{isZeroItem}
+use Rattle.reversals.specs.Reversals.{opposite, turn, latest, reversalsBehind}
 
 pub data Sign : Type 0 where
   minus none plus : Sign

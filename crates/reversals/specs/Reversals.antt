@@ -3,14 +3,10 @@
 use mathlib.Core.Bool.{Bool, true, not, cond, xor, _&&_}
 use mathlib.Core.List.{List, [], _∷_}
 use Prim.Native.Nat.{ℕ, zero, suc, _+_}
-use lib.Dec.{eqb}
 use lib.ListN.{length, getD, take, drop}
 use Rattle.number.specs.Signed.{zeroSigned}
 use Rattle.number.specs.declared.signed.Signed.{Signed}
-
--- an item is zero
-abbrev pub isZeroItem : Signed → Bool
-isZeroItem a = eqb (a .size .m) 0
+use Rattle.items.specs.Items.{isZeroItem}
 
 -- neither is zero, and one is positive and one negative
 unfoldable pub opposite : Signed → Signed → Bool

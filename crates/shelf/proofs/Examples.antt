@@ -13,7 +13,7 @@ use Rattle.words.specs.Formula.{onDiagonal, belowDiagonal, newFactor}
 use Rattle.words.specs.Operation.{joinedWord, rowByRow, result}
 use Rattle.table.specs.Table.{factorsOf, tableOf}
 use Rattle.verdict.specs.Verdict.{firstBehind}
-use Rattle.lists.specs.Items.{storable, signedItem, listOf, listNumbers}
+use Rattle.items.specs.Items.{storable, signedItem, listOf, listNumbers}
 use Rattle.lists.specs.Lists.{carriedVector, anyOutside}
 use Rattle.table.specs.Table.{outside}
 use Rattle.places.specs.Shelf.{rowsAt, tableAt, withTable, emptyShelf}

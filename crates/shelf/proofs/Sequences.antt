@@ -10,7 +10,8 @@ use Rattle.operations.specs.Operations.{productAt, inverseAt, converseAt, subma
 use Rattle.operations.proofs.Proposals.{transpose-good}
 use Rattle.operations.proofs.Results.{product-ready, whole-ready, submatrix-ready, operation-good}
 use Rattle.shelf.specs.Calls.{writeCall, carryCall}
-use Rattle.shelf.specs.Run.{Call, load, write, drop, product, inverse, converse, submatrix, transpose, minor, carry, reversals, rest, rows, factor}
+use Rattle.shelf.specs.Run.{Call, load, write, drop, product, inverse, converse, submatrix, transpose, minor}
+use Rattle.shelf.specs.Run.{carry, reversals, arithmetic, rest, rows, factor}
 use Rattle.shelf.specs.Run.{Given, AllGiven, run, afterEach, afterCalls}
 use Rattle.shelf.proofs.Loading.{load-good}
 use Rattle.shelf.proofs.Dropping.{drop-good}
@@ -28,6 +29,7 @@ run-good s g (transpose p t) h = transpose-good s p t g
 run-good s g (minor p I J) h = g
 run-good s g (carry p items out) h = g
 run-good s g (reversals items) h = g
+run-good s g (arithmetic o items) h = g
 run-good s g (rest bytes) h = g
 run-good s g (rows p) h = g
 run-good s g (factor p i j) h = g

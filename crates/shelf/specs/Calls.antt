@@ -12,8 +12,8 @@ use Rattle.number.specs.Number.{zeroNumber, exponentOf}
 use Rattle.words.specs.Operation.{rowByRow}
 use Rattle.writer.specs.Encoding.{encoding}
 use Rattle.reader.specs.Matrix.{Reading, matrix, fault, matrixOf}
-use Rattle.lists.specs.Items.{listNumbers}
-use Rattle.lists.specs.Lists.{carryTests, carriedList, itemsOf}
+use Rattle.items.specs.Items.{listNumbers, itemsOf}
+use Rattle.lists.specs.Lists.{carryTests, carriedList}
 use Rattle.verdict.specs.declared.Verdict.{Verdict}
 use Rattle.verdict.specs.declared.Verdict.the-variants.{Accepted}
 use Rattle.verdict.specs.Verdict.{firstOf, after, when, refusedAt}

@@ -8,7 +8,8 @@ use Rattle.number.specs.Number.{oneNumber, sumOf, productOf}
 use Rattle.number.specs.Examples.{Row, row, up, down}
 use Rattle.words.specs.Operation.{rowByRow}
 use Rattle.words.specs.Examples.{ones, higher, half, threeHalves, two, fiveHalves, three, large}
-use Rattle.lists.specs.Examples.{plusOneItem, minusOneItem, zeroItem, lentSeven}
+use Rattle.items.specs.Examples.{plusOneItem, minusOneItem, zeroItem}
+use Rattle.lists.specs.Examples.{lentSeven}
 use Rattle.verdict.specs.Report.{accepted, refused}
 use Rattle.places.specs.declared.Shelf.{Shelf}
 use Rattle.places.specs.Shelf.{factorsAt, holding, emptyShelf}

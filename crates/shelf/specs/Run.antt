@@ -7,13 +7,15 @@ use lib.IntN.{ℤ}
 use Rattle.group.specs.Group.{Bytes}
 use Rattle.reader.specs.Matrix.{behindOf}
 use Rattle.lists.specs.Lists.{reversalsCall}
+use Rattle.rests.specs.declared.Operator.{Operator}
+use Rattle.arithmetic.specs.Arithmetic.{arithmeticCall}
 use Rattle.verdict.specs.Report.{accepted}
 use Rattle.places.specs.declared.Shelf.{Shelf}
 use Rattle.places.specs.Outcome.{Outcome, outcome}
 use Rattle.operations.specs.Operations.{transposeCall, productCall, inverseCall, converseCall, submatrixCall, minorCall}
 use Rattle.shelf.specs.Calls.{loadCall, dropCall, writeCall, carryCall, rowsCall, factorCall}
 
--- a call with what it is given: places, masks, bytes, items, and last the bytes or items that it is lent to write to
+-- a call with what it is given: places, masks, bytes, an operator, items, and last the bytes or items that it is lent to write to
 pub data Call : Type 0 where
   load : ℕ → List ℕ → Call
   write : ℕ → List ℕ → Call
@@ -26,6 +28,7 @@ pub data Call : Type 0 where
   minor : ℕ → ℕ → ℕ → Call
   carry : ℕ → List ℤ → List ℤ → Call
   reversals : List ℤ → Call
+  arithmetic : Operator → List ℤ → Call
   rest : List ℕ → Call
   rows : ℕ → Call
   factor : ℕ → ℕ → ℕ → Call
@@ -43,6 +46,7 @@ run s (transpose p t) = transposeCall s p t
 run s (minor p I J) = outcome s (minorCall s p I J)
 run s (carry p items out) = carryCall s p items out
 run s (reversals items) = outcome s (reversalsCall items)
+run s (arithmetic o items) = outcome s (arithmeticCall o items)
 run s (rest bytes) = record { shelf = s; report = accepted []; bytes = behindOf bytes; items = [] }
 run s (rows p) = outcome s (rowsCall s p)
 run s (factor p i j) = outcome s (factorCall s p i j)
@@ -60,6 +64,7 @@ Given (transpose p t) = Unit {0}
 Given (minor p I J) = Unit {0}
 Given (carry p items out) = Unit {0}
 Given (reversals items) = Unit {0}
+Given (arithmetic o items) = Unit {0}
 Given (rest bytes) = Unit {0}
 Given (rows p) = Unit {0}
 Given (factor p i j) = Unit {0}

@@ -4,14 +4,14 @@ use Prim.Native.Nat.{ℕ, _*_}
 use native.Mathlib.Omega.{arith}
 use mathlib.Core.Path.{_≡_, subst}
 use mathlib.Core.Bool.{false, not}
-use mathlib.Core.List.{List}
+use mathlib.Core.List.{List, []}
 use lib.Dec.{ltb}
 use lib.IntN.{ℤ}
 use lib.ListN.{length}
 use Rattle.verdict.specs.declared.Verdict.the-variants.{Accepted}
 use Rattle.verdict.specs.Verdict.{firstOf}
-use Rattle.lists.specs.Items.{listOf, proper}
-use Rattle.lists.specs.Lists.{itemsOf, carriedList, anyOutside, carryTests}
+use Rattle.items.specs.Items.{listOf, itemsOf, proper}
+use Rattle.lists.specs.Lists.{carriedList, anyOutside, carryTests}
 use Rattle.places.specs.declared.Shelf.{Shelf}
 use Rattle.places.specs.Shelf.{rowsAt, factorsAt, Good}
 use Rattle.places.specs.Check.{isGood}
@@ -43,7 +43,7 @@ module _ (s : Shelf) (p : ℕ) (given out : List ℤ) where
   unfolding carryCall
   own good z =
       let v = firstOf (placeCarryTests s p given out) in
-      call-steady s p given out good (numbered-accepted v (behind-numbered Accepted (placeCarryTests s p given out) tt tests-numbered) z)
+      call-steady s p given out good (numbered-accepted v [] (behind-numbered Accepted (placeCarryTests s p given out) tt tests-numbered) z)
 
   pub carry-answered : Good s → SteadyOutcome (checked s (carry p given out))
   unfolding run

@@ -3,4 +3,5 @@ pub mod Checked
 pub mod Numbers
 pub mod Answered
 pub mod Carried
+pub mod Logged
 pub mod Chains

@@ -5,10 +5,11 @@ use native.Mathlib.Omega.{arith}
 use mathlib.Core.Path.{_≡_, refl}
 use mathlib.Core.Bool.{Bool, true, false}
 use mathlib.Core.List.{List, [], _∷_, _++_}
+use lib.IntN.{ℤ}
 use Rattle.verdict.specs.declared.Verdict.{Verdict}
 use Rattle.verdict.specs.declared.Verdict.the-variants.{Accepted, Refused}
 use Rattle.verdict.specs.Verdict.{when, orElse, firstBehind}
-use Rattle.verdict.specs.Report.{verdictReport}
+use Rattle.verdict.specs.Report.{reportOf}
 use Rattle.tnb_c.specs.Answers.{numberOf}
 
 -- a verdict that turns down has a number above 0
@@ -39,6 +40,6 @@ one-more [] b k h = (numbered b k, tt)
 one-more (v ∷ L) b k h = (h .0, one-more L b k (h .1))
 
 -- so a number 0 is that of an accepted call
-pub numbered-accepted : (v : Verdict) → Numbered v → numberOf (verdictReport v) ≡ 0 → v ≡ Accepted
-numbered-accepted Accepted n z = refl
-numbered-accepted (Refused w) n z = absurd (omega arith)
+pub numbered-accepted : (v : Verdict) (values : List ℤ) → Numbered v → numberOf (reportOf v values) ≡ 0 → v ≡ Accepted
+numbered-accepted Accepted values n z = refl
+numbered-accepted (Refused w) values n z = absurd (omega arith)

@@ -1,6 +1,7 @@
 -- What the calls for C and Rust answer. Nothing vouches for the shelf that such a caller hands over, so it is tested first (`checked`): on a good shelf the
 -- call is run (`run`, the one list of calls), any other is turned away with 255 (`foreign`). What a call does as a struct that C can hold: `answerOf`,
--- `lengthOf`, `valueOf`, `statusOf`. Demand 3 of an answer: `Answered`; the promise of a carry: `SteadyStatus`. Any sequence of calls: `afterAnswers`.
+-- `lengthOf`, `valueOf`, `workedOf`, `statusOf`. Demand 3 of an answer: `Answered`; the promise of a carry: `SteadyStatus`; of a worked number: `LoggedAnswer`.
+-- Any sequence of calls: `afterAnswers`.
 use Prim.Native.Nat.{ℕ}
 use mathlib.Core.Path.{_≡_}
 use mathlib.Core.Bool.{cond}
@@ -10,17 +11,21 @@ use lib.ListN.{length, take, getD}
 use Rattle.number.specs.declared.Number.{Number}
 use Rattle.words.specs.Operation.{Operation}
 use Rattle.verdict.specs.Report.{Report, accepted, refused}
+use Rattle.rests.specs.Balance.{dyadic, Balanced}
+use Rattle.rests.specs.declared.Operator.{Operator}
+use Rattle.arithmetic.specs.Promise.{itemValue}
 use Rattle.places.specs.declared.Shelf.{Shelf}
 use Rattle.places.specs.Check.{isGood}
 use Rattle.places.specs.Outcome.{Outcome}
 use Rattle.lists.specs.Promise.{NoMoreReversals}
 use Rattle.operations.specs.Promise.{Met}
-use Rattle.shelf.specs.Run.{Call, load, write, drop, product, inverse, converse, submatrix, transpose, minor, carry, reversals, rest, rows, factor}
-use Rattle.shelf.specs.Run.{run, afterEach}
+use Rattle.shelf.specs.Run.{Call, load, write, drop, product, inverse, converse, submatrix, transpose, minor, run, afterEach}
+use Rattle.shelf.specs.Run.{carry, reversals, arithmetic, rest, rows, factor}
 use Rattle.tnb_c.specs.declared.Answer.{Answer}
 use Rattle.tnb_c.specs.declared.Length.{Length}
 use Rattle.tnb_c.specs.declared.Status.{Status}
 use Rattle.tnb_c.specs.declared.Value.{Value}
+use Rattle.tnb_c.specs.declared.Worked.{Worked}
 
 -- A SHELF THAT IS NOT GOOD is handed back with 255, and with what the call was lent
 abbrev pub turnedAway : Shelf → List ℕ → List ℤ → Outcome
@@ -38,6 +43,7 @@ foreign s (transpose p t) = turnedAway s [] []
 foreign s (minor p I J) = turnedAway s [] []
 foreign s (carry p items out) = turnedAway s [] out
 foreign s (reversals items) = turnedAway s [] []
+foreign s (arithmetic o items) = turnedAway s [] []
 foreign s (rest bytes) = turnedAway s [] []
 foreign s (rows p) = turnedAway s [] []
 foreign s (factor p i j) = turnedAway s [] []
@@ -73,6 +79,16 @@ lengthOf r = record { number = numberOf r; offset = offsetOf r; length = natAbs 
 abbrev pub valueOf : Report → Value
 valueOf r = record { number = numberOf r; offset = offsetOf r; mantissa = natAbs (valueAt 0 r); exponent = valueAt 1 r }
 
+abbrev pub workedOf : Report → Worked
+workedOf r = record {
+  number = numberOf r;
+  offset = offsetOf r;
+  mantissa = natAbs (valueAt 0 r);
+  exponent = valueAt 1 r;
+  rest = valueAt 2 r;
+  «rest_exponent» = valueAt 3 r;
+}
+
 abbrev pub statusOf : Report → Status
 statusOf r = record { number = numberOf r; offset = offsetOf r }
 
@@ -84,3 +100,8 @@ Answered a t n o = a .number ≡ 0 → Met (a .shelf) t n o (a .bound)
 -- THE PROMISE OF A CARRY (document 02, request (b)): where its number is 0, the list that was written has no more reversals than the list that was given
 abbrev pub SteadyStatus : Status → (given out : List ℤ) → Type 0
 SteadyStatus a given out = a .number ≡ 0 → NoMoreReversals given (take (length given) out)
+
+-- THE PROMISE OF A WORKED NUMBER (document 02, request (c)): where its number is 0, the log balances to the last bit, in the numbers that go in and come out
+abbrev pub LoggedAnswer : Operator → Worked → (given : List ℤ) → Type 0
+LoggedAnswer o a given =
+    a .number ≡ 0 → Balanced o (itemValue given 0) (itemValue given 1) (dyadic (pos (a .mantissa)) (a .exponent)) (a .rest) (a .«rest_exponent»)

@@ -5,13 +5,15 @@ ghost use lib.IntN.{pos};
 ghost use Rattle.verdict.specs.Report.{accepted, refused, verdictReport};
 ghost use Rattle.writer.specs.Encoding.{writtenReport};
 ghost use Rattle.lists.specs.Lists.{reversalsReport};
+ghost use Rattle.arithmetic.specs.Arithmetic.{workedReport};
 ghost use Rattle.operations.specs.Reports.{operatedOutcome, valuedReport};
 ghost use Rattle.shelf.specs.Reports.{changedOutcome, factorReport};
-ghost use Rattle.tnb_c.specs.Answers.{turnedAway, answerOf, lengthOf, valueOf, statusOf};
+ghost use Rattle.tnb_c.specs.Answers.{turnedAway, answerOf, lengthOf, valueOf, workedOf, statusOf};
 use crate::Answer;
 use crate::Length;
 use crate::Status;
 use crate::Value;
+use crate::Worked;
 use lists::Reversals;
 use operations::Bounded;
 use operations::Operated;
@@ -150,6 +152,34 @@ pub fn counted(x: Reversals) -> Length
     match x {
         Reversals::Count(k) => length(k as usize),
         Reversals::Refused(why) => no_length(why.number, why.offset),
+    }
+}
+
+pub fn worked(x: arithmetic::Worked) -> Worked
+    ensures { λ r. ⌜ r ≡ workedOf (workedReport x) ⌝ }
+{
+    match x {
+        arithmetic::Worked::Result {
+            mantissa,
+            exponent,
+            rest,
+            rest_exponent,
+        } => Worked {
+            number: 0,
+            offset: 0,
+            mantissa,
+            exponent,
+            rest,
+            rest_exponent,
+        },
+        arithmetic::Worked::Refused(why) => Worked {
+            number: why.number,
+            offset: why.offset,
+            mantissa: 0,
+            exponent: 0,
+            rest: 0,
+            rest_exponent: 0,
+        },
     }
 }
 

@@ -1,13 +1,15 @@
-// The shelf's calls for programs in C and Rust. Nothing proves what such a caller hands over, so each call tests the shelf first:
+// The shelf's calls for programs in C and Rust. Nothing proves what such a caller hands over, so each call that takes a shelf tests it first:
 // one that these calls cannot have made is answered with 255 and handed back.
 ghost use mathlib.Core.Path.{_≡_};
 ghost use lib.ListN.{length};
 ghost use Rattle.reader.specs.Matrix.{behindOf};
 ghost use Rattle.places.specs.Shelf.{emptyShelf, rowsAt};
 ghost use Rattle.lists.specs.Lists.{reversalsCall};
+ghost use Rattle.arithmetic.specs.Arithmetic.{arithmeticCall};
 ghost use Rattle.operations.specs.Operations.{productAt, inverseAt, converseAt, submatrixAt};
 ghost use Rattle.shelf.specs.Run.{load, drop, write, product, inverse, converse, submatrix, transpose, minor, carry, rows, factor};
-ghost use Rattle.tnb_c.specs.Answers.{checked, answerOf, lengthOf, valueOf, statusOf, Answered, SteadyStatus};
+ghost use Rattle.tnb_c.specs.Answers.{checked, answerOf, lengthOf, valueOf, workedOf, statusOf, Answered, SteadyStatus, LoggedAnswer};
+use arithmetic::Operator;
 use places::Shelf;
 use places::check;
 
@@ -44,6 +46,17 @@ pub struct Value {
     pub offset: usize,
     pub mantissa: u64,
     pub exponent: i64,
+}
+
+// A number worked from two others, and its rest: an odd whole number with a sign and an exponent, or 0 with exponent 0.
+#[repr(C)]
+pub struct Worked {
+    pub number: u8,
+    pub offset: usize,
+    pub mantissa: u64,
+    pub exponent: i64,
+    pub rest: i64,
+    pub rest_exponent: i64,
 }
 
 // A shelf with all places empty.
@@ -217,4 +230,39 @@ pub extern "C" fn tnb_reversals(items: &[i64]) -> Length
     ensures { λ r. ⌜ r ≡ lengthOf (reversalsCall (now (items .entry))) ⌝ }
 {
     answers::counted(lists::count_reversals(items))
+}
+
+// Works two positive items. No shelf is handed over, so there is none to test.
+fn worked_by(operator: Operator, items: &[i64]) -> Worked
+    ensures { λ r. ⌜ r ≡ workedOf (arithmeticCall operator (now (items .entry))) ⌝ }
+    ensures { λ r. ⌜ LoggedAnswer operator r (now (items .entry)) ⌝ }
+{
+    answers::worked(arithmetic::arithmetic(operator, items))
+}
+
+// The sum of two positive items. The rest: first plus second, minus the result.
+#[no_mangle]
+pub extern "C" fn tnb_add(items: &[i64]) -> Worked
+    ensures { λ r. ⌜ r ≡ workedOf (arithmeticCall Operator.Add (now (items .entry))) ⌝ }
+    ensures { λ r. ⌜ LoggedAnswer Operator.Add r (now (items .entry)) ⌝ }
+{
+    worked_by(Operator::Add, items)
+}
+
+// Their product. The rest: first times second, minus the result.
+#[no_mangle]
+pub extern "C" fn tnb_multiply(items: &[i64]) -> Worked
+    ensures { λ r. ⌜ r ≡ workedOf (arithmeticCall Operator.Multiply (now (items .entry))) ⌝ }
+    ensures { λ r. ⌜ LoggedAnswer Operator.Multiply r (now (items .entry)) ⌝ }
+{
+    worked_by(Operator::Multiply, items)
+}
+
+// Their quotient, first over second. The rest: first, minus the result times second.
+#[no_mangle]
+pub extern "C" fn tnb_divide(items: &[i64]) -> Worked
+    ensures { λ r. ⌜ r ≡ workedOf (arithmeticCall Operator.Divide (now (items .entry))) ⌝ }
+    ensures { λ r. ⌜ LoggedAnswer Operator.Divide r (now (items .entry)) ⌝ }
+{
+    worked_by(Operator::Divide, items)
 }

@@ -7,15 +7,16 @@ use lib.IntN.{ℤ}
 use lib.ListN.{getD}
 use Rattle.lines.specs.Ascii.{ascii}
 use Rattle.lines.specs.Text.{Puts}
+use Rattle.rests.specs.declared.Operator.the-variants as Operator
 use Rattle.places.specs.declared.Shelf.{Shelf}
 use Rattle.places.specs.Outcome.{Outcome}
-use Rattle.shelf.specs.Run.{run, load, write, drop, product, inverse, converse, transpose, submatrix, minor, carry, reversals, rest}
-use Rattle.answers.specs.Answers.{reportText, withBytes, badText}
+use Rattle.shelf.specs.Run.{run, load, write, drop, product, inverse, converse, transpose, submatrix, minor, carry, reversals, arithmetic, rest}
+use Rattle.answers.specs.Answers.{reportText, workedText, withBytes, badText}
 use Rattle.answers.specs.Items.{withItems}
 use Rattle.tnb_console.specs.declared.calls.Answered.{Answered}
 use Rattle.requests.specs.declared.commands.Command.{Command}
 use Rattle.requests.specs.declared.commands.Command.the-variants.{Load, Write, Drop, Product, Inverse, Converse, Transpose, Submatrix}
-use Rattle.requests.specs.declared.commands.Command.the-variants.{Minor, Carry, Reversals, Rest, Show, Bad}
+use Rattle.requests.specs.declared.commands.Command.the-variants.{Minor, Carry, Reversals, Add, Multiply, Divide, Rest, Show, Bad}
 use Rattle.requests.specs.Requests.{Asked}
 use Rattle.tnb_console.specs.Calls.{lentCount, lentBytes, lentItems, showText}
 
@@ -31,6 +32,10 @@ pub record Replied (reply : Reply) (out : List ℕ) (at : ℕ) (after : List ℕ
 -- the reply to a call, by what it did: the shelf, and the text of its report
 abbrev pub told : (word : List ℕ) → Outcome → Reply
 told word o = record { shelf = o .shelf; text = reportText word (o .report) }
+
+-- the same for a result with its rest
+abbrev pub toldWorked : Outcome → Reply
+toldWorked o = record { shelf = o .shelf; text = workedText (o .report) }
 
 -- and behind that all the bytes, or items, as the call left them
 abbrev pub toldBytes : (word : List ℕ) → Outcome → Reply
@@ -60,6 +65,9 @@ replyBy s Submatrix v bytes items = told (ascii "bound") (run s (submatrix (getD
 replyBy s Minor v bytes items = told (ascii "number") (run s (minor (getD v 0 0) (mask (getD v 1 0)) (mask (getD v 2 0))))
 replyBy s Carry v bytes items = toldItems (ascii "carried") (run s (carry (getD v 0 0) items (lentItems (lentCount (getD v 1 0)))))
 replyBy s Reversals v bytes items = told (ascii "reversals") (run s (reversals items))
+replyBy s Add v bytes items = toldWorked (run s (arithmetic Operator.Add items))
+replyBy s Multiply v bytes items = toldWorked (run s (arithmetic Operator.Multiply items))
+replyBy s Divide v bytes items = toldWorked (run s (arithmetic Operator.Divide items))
 replyBy s Rest v bytes items = toldBytes (ascii "rest") (run s (rest bytes))
 replyBy s Show v bytes items = reply s (showText s (getD v 0 0))
 replyBy s Bad v bytes items = reply s badText

@@ -11,6 +11,7 @@ use crate::calls;
 use crate::calls::Answered;
 use requests::Command;
 use requests::Request;
+use shelf::Operator;
 use shelf::Shelf;
 
 // Masks are read as numbers of at most 255.
@@ -64,7 +65,7 @@ fn to_command(
     let c = v[2];
     let d = v[3];
     let rows = mask(b);
-    let columns = mask(c);
+    let cols = mask(c);
     match command {
         Command::Load => calls::load(shelf, a, bytes, out, at),
         Command::Write => calls::write(shelf, a, b, out, at),
@@ -73,12 +74,13 @@ fn to_command(
         Command::Inverse => calls::operated(shelf::inverse(shelf, a, b), out, at),
         Command::Converse => calls::operated(shelf::converse(shelf, a, b), out, at),
         Command::Transpose => calls::operated(shelf::transpose(shelf, a, b), out, at),
-        Command::Submatrix => {
-            calls::operated(shelf::submatrix(shelf, a, rows, columns, d), out, at)
-        }
-        Command::Minor => calls::minor(shelf, a, rows, columns, out, at),
+        Command::Submatrix => calls::operated(shelf::submatrix(shelf, a, rows, cols, d), out, at),
+        Command::Minor => calls::minor(shelf, a, rows, cols, out, at),
         Command::Carry => calls::carry(shelf, a, b, list, out, at),
         Command::Reversals => calls::reversals(shelf, list, out, at),
+        Command::Add => calls::arithmetic(shelf, Operator::Add, list, out, at),
+        Command::Multiply => calls::arithmetic(shelf, Operator::Multiply, list, out, at),
+        Command::Divide => calls::arithmetic(shelf, Operator::Divide, list, out, at),
         Command::Rest => calls::rest(shelf, bytes, out, at),
         Command::Show => calls::show(shelf, a, out, at),
         Command::Bad => calls::after(shelf, bad(out, at)),

@@ -5,12 +5,13 @@ ghost use Rattle.lines.specs.Text.{Puts};
 ghost use Rattle.places.specs.Shelf.{Good};
 ghost use Rattle.operations.specs.Reports.{operatedOutcome};
 ghost use Rattle.shelf.specs.Reports.{changedOutcome};
-ghost use Rattle.shelf.specs.Run.{run, load, write, drop, minor, carry, reversals, rest};
+ghost use Rattle.shelf.specs.Run.{run, load, write, drop, minor, carry, reversals, arithmetic, rest};
 ghost use Rattle.tnb_console.specs.Calls.{lentCount, lentBytes, lentItems, showText};
-ghost use Rattle.tnb_console.specs.Replies.{Replied, told, toldBytes, toldItems, reply};
+ghost use Rattle.tnb_console.specs.Replies.{Replied, told, toldWorked, toldBytes, toldItems, reply};
 use crate::items;
 use shelf::Changed;
 use shelf::Operated;
+use shelf::Operator;
 use shelf::Refusal;
 use shelf::Shelf;
 
@@ -163,6 +164,15 @@ pub fn reversals(shelf: Shelf, list: &[i64], out: &mut [u8], at: usize) -> Answe
 {
     let answer = shelf::count_reversals(list);
     after(shelf, answers::put_reversals(out, at, answer))
+}
+
+pub fn arithmetic(shelf: Shelf, op: Operator, list: &[i64], out: &mut [u8], at: usize) -> Answered
+    requires { ⌜ Good shelf ⌝ }
+    ensures { λ r. ⌜ Good (r .shelf) ⌝ }
+    ensures { λ r. ⌜ Replied (toldWorked (run shelf (arithmetic op (now (list .entry))))) (now (out .entry)) at (now (out .exit)) r ⌝ }
+{
+    let answer = shelf::arithmetic(op, list);
+    after(shelf, answers::put_worked(out, at, answer))
 }
 
 pub fn rest(shelf: Shelf, bytes: &[u8], out: &mut [u8], at: usize) -> Answered

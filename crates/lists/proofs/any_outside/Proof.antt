@@ -6,7 +6,7 @@ use native.Mathlib.Omega.{arith}
 use lib.ListN.{length, drop, take}
 use Rattle.lists.specs.Lists.{anyOutside}
 use Rattle.arrays.proofs.Fronts.{front-end}
-use Rattle.reversals.proofs.Counting.{unset}
+use Rattle.items.proofs.Fronts.{unset}
 use Rattle.lists.proofs.Fronts.{outside-here, outside-later}
 use Rattle.lists.proofs.any_outside.Statement.{statement}
 use Rattle.lists.proofs.any_outside.Tie as tie

@@ -9,10 +9,11 @@ use mathlib.Core.List.{List}
 use Rattle.verdict.specs.declared.Verdict.{Verdict}
 use Rattle.verdict.specs.Verdict.{firstBehind, firstOf}
 use Rattle.table.specs.Table.{factorsOf}
-use Rattle.lists.specs.Items.{listOf}
+use Rattle.items.specs.Items.{listOf}
+use Rattle.items.proofs.ListRead.{Read, read-is, read-ranged}
 use Rattle.lists.specs.Lists.{carryTests}
 use Rattle.lists.specs.Promise.{NoMoreReversals}
-use Rattle.lists.proofs.Outcomes.{Read, read-is, read-ranged, carry-judged, carry-written, carry-kept, carry-accepted}
+use Rattle.lists.proofs.Outcomes.{carry-judged, carry-written, carry-kept, carry-accepted}
 use Rattle.lists.proofs.Steady.{carry-steady}
 use Rattle.lists.proofs.carry.Statement.{statement}
 use Rattle.lists.proofs.carry.Tie as tie

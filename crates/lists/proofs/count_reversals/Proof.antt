@@ -9,8 +9,9 @@ use denote.Ref.{now}
 use lib.IntN.{pos}
 use Rattle.verdict.specs.Verdict.{when}
 use Rattle.verdict.specs.Report.{accepted}
-use Rattle.lists.specs.Items.{listOf}
-use Rattle.lists.proofs.Outcomes.{Read, read-is, reversals-counted, reversals-refused}
+use Rattle.items.specs.Items.{listOf}
+use Rattle.items.proofs.ListRead.{Read, read-is}
+use Rattle.lists.proofs.Outcomes.{reversals-counted, reversals-refused}
 use Rattle.lists.proofs.count_reversals.Statement.{statement}
 use Rattle.lists.proofs.count_reversals.Tie as tie
 

@@ -6,8 +6,9 @@ use native.Mathlib.Omega.{arith}
 use lib.ListN.{length, drop, take, getD}
 use Rattle.arrays.proofs.Fronts.{front-end}
 use Rattle.number.specs.declared.signed.Signed.{Signed}
+use Rattle.items.proofs.Fronts.{unset}
 use Rattle.reversals.specs.Reversals.{reversals, reversalsBehind}
-use Rattle.reversals.proofs.Counting.{unset, count-next, turn-le}
+use Rattle.reversals.proofs.Counting.{count-next, turn-le}
 use Rattle.reversals.proofs.count.Statement.{statement}
 use Rattle.reversals.proofs.count.Tie as tie
 

@@ -9,9 +9,9 @@ use Rattle.number.specs.Signed.{plain, zeroSigned, signedSum, signedProduct, Si
 use Rattle.number.specs.declared.signed.Signed.{Signed}
 use Rattle.number.proofs.Reach.{ranged-more, ranged-stored}
 use Rattle.number.proofs.SignedReach.{signed-ranged-more, signed-ranged-plain}
-use Rattle.lists.specs.Lists.{vectorOf}
+use Rattle.items.specs.Items.{vectorOf}
 use Rattle.arrays.proofs.Filled.{read-any}
-use Rattle.reversals.proofs.Counting.{unset}
+use Rattle.items.proofs.Fronts.{unset}
 use Rattle.lists.proofs.LetterReach.{product-reach}
 use Rattle.lists.proofs.carrying.added.Statement.{statement}
 use Rattle.lists.proofs.carrying.added.Tie as tie

@@ -12,7 +12,7 @@ use Rattle.number.proofs.Reach.{ranged-more, ranged-stored}
 use Rattle.number.proofs.SignedReach.{signed-ranged-more}
 use Rattle.table.specs.Table.{factorsOf, absent}
 use Rattle.lists.specs.Carrying.{Scaled}
-use Rattle.reversals.proofs.Counting.{unset}
+use Rattle.items.proofs.Fronts.{unset}
 use Rattle.lists.proofs.Scaled.{entry-is, scaled-none, scaled-old, scaled-next}
 use Rattle.lists.proofs.carrying.diagonal.Statement.{statement}
 use Rattle.lists.proofs.carrying.diagonal.Tie as tie

@@ -11,7 +11,7 @@ use Rattle.table.specs.Table.{factorsOf, absent}
 use Rattle.walk.specs.declared.Way.the-variants.{Plain}
 use Rattle.walk.proofs.Acts.{letter-stored}
 use Rattle.table.proofs.Table.{read-default}
-use Rattle.lists.specs.Lists.{vectorOf}
+use Rattle.items.specs.Items.{vectorOf}
 use Rattle.lists.specs.Carrying.{Carries, letterOf, workingReach}
 use Rattle.lists.proofs.Spelled.{carries-moved, carries-scaled}
 use Rattle.lists.proofs.carrying.letter.Statement.{statement}

@@ -8,9 +8,10 @@ use Rattle.number.specs.Signed.{zeroSigned}
 use Rattle.words.specs.Word.{D}
 use Rattle.walk.specs.Letters.{middle}
 use Rattle.table.specs.Table.{factorsOf}
+use Rattle.items.specs.Items.{ItemsRanged}
+use Rattle.items.proofs.Fronts.{items-ranged-more}
 use Rattle.lists.specs.Lists.{signedWord}
-use Rattle.lists.specs.Carrying.{Carries, ItemsRanged, letterOf, workingReach}
-use Rattle.lists.proofs.Vectors.{items-ranged-more}
+use Rattle.lists.specs.Carrying.{Carries, letterOf, workingReach}
 use Rattle.lists.proofs.LetterReach.{stored-letters, word-reach}
 use Rattle.lists.proofs.Carried.{carries-start, carries-letter, carries-ranged}
 use Rattle.lists.proofs.Spelled.{signed-length}

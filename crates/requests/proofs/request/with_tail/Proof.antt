@@ -26,6 +26,12 @@ with-items-requires c κs = search needs
 enum-told-3 : tie.Need-enum-told-3
 enum-told-3 c = search needs
 
+with-two-requires : tie.Need-with-two-requires
+with-two-requires c κs = search needs
+
+enum-told-4 : tie.Need-enum-told-4
+enum-told-4 c = search needs
+
 with-nothing-requires : tie.Need-with-nothing-requires
 with-nothing-requires c κs = search needs
 
@@ -41,8 +47,13 @@ returns-3 c =
 
 returns-4 : tie.Need-returns-4
 returns-4 c =
+    let well = c .before .before .before .before .before in
+    c .with-two .ensures _ ∙ rw (c .before .before .enum-told3 .given .1, not-false (well .before .before .before .args .read .well) (well .if1 .left))
+
+returns-5 : tie.Need-returns-5
+returns-5 c =
     let well = c .before .before .before .before in
-    c .with-nothing .ensures _ _ ∙ rw (c .before .enum-told3 .given .1, not-false (well .before .before .before .args .read .well) (well .if1 .left))
+    c .with-nothing .ensures _ _ ∙ rw (c .before .enum-told4 .given .1, not-false (well .before .before .before .args .read .well) (well .if1 .left))
 
 pub with-tail-spec : {M : Type 1} → statement M
 with-tail-spec =
@@ -55,7 +66,10 @@ with-tail-spec =
     enum-told-2
     with-items-requires
     enum-told-3
+    with-two-requires
+    enum-told-4
     with-nothing-requires
     returns-2
     returns-3
-    returns-4)
+    returns-4
+    returns-5)

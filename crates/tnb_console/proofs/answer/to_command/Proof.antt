@@ -110,17 +110,35 @@ reversals-requires c κs = search needs
 enum-told-12 : tie.Need-enum-told-12
 enum-told-12 c = search needs
 
-rest-requires : tie.Need-rest-requires
-rest-requires c κs = search needs
+arithmetic-requires : tie.Need-arithmetic-requires
+arithmetic-requires c κs = search needs
 
 enum-told-13 : tie.Need-enum-told-13
 enum-told-13 c = search needs
 
-show-requires : tie.Need-show-requires
-show-requires c κs = search needs
+arithmetic-requires-2 : tie.Need-arithmetic-requires-2
+arithmetic-requires-2 c κs = search needs
 
 enum-told-14 : tie.Need-enum-told-14
 enum-told-14 c = search needs
+
+arithmetic-requires-3 : tie.Need-arithmetic-requires-3
+arithmetic-requires-3 c κs = search needs
+
+enum-told-15 : tie.Need-enum-told-15
+enum-told-15 c = search needs
+
+rest-requires : tie.Need-rest-requires
+rest-requires c κs = search needs
+
+enum-told-16 : tie.Need-enum-told-16
+enum-told-16 c = search needs
+
+show-requires : tie.Need-show-requires
+show-requires c κs = search needs
+
+enum-told-17 : tie.Need-enum-told-17
+enum-told-17 c = search needs
 
 bad-requires : tie.Need-bad-requires
 bad-requires c κs = search needs
@@ -240,7 +258,7 @@ same-length-12 c = search needs
 returns-12 : tie.Need-returns-12
 unfolding replyBy
 returns-12 c =
-    let call = c .before .before .rest .ensures in
+    let call = c .before .before .arithmetic .ensures in
     (call .0, rw (c .before .before .before .before .enum-told12 .given .1) (call .1))
 
 same-length-13 : tie.Need-same-length-13
@@ -249,7 +267,7 @@ same-length-13 c = search needs
 returns-13 : tie.Need-returns-13
 unfolding replyBy
 returns-13 c =
-    let call = c .before .before .show .ensures in
+    let call = c .before .before .arithmetic2 .ensures in
     (call .0, rw (c .before .before .before .before .enum-told13 .given .1) (call .1))
 
 same-length-14 : tie.Need-same-length-14
@@ -258,8 +276,35 @@ same-length-14 c = search needs
 returns-14 : tie.Need-returns-14
 unfolding replyBy
 returns-14 c =
+    let call = c .before .before .arithmetic3 .ensures in
+    (call .0, rw (c .before .before .before .before .enum-told14 .given .1) (call .1))
+
+same-length-15 : tie.Need-same-length-15
+same-length-15 c = search needs
+
+returns-15 : tie.Need-returns-15
+unfolding replyBy
+returns-15 c =
+    let call = c .before .before .rest .ensures in
+    (call .0, rw (c .before .before .before .before .enum-told15 .given .1) (call .1))
+
+same-length-16 : tie.Need-same-length-16
+same-length-16 c = search needs
+
+returns-16 : tie.Need-returns-16
+unfolding replyBy
+returns-16 c =
+    let call = c .before .before .show .ensures in
+    (call .0, rw (c .before .before .before .before .enum-told16 .given .1) (call .1))
+
+same-length-17 : tie.Need-same-length-17
+same-length-17 c = search needs
+
+returns-17 : tie.Need-returns-17
+unfolding replyBy
+returns-17 c =
     let told = c .before .before .before .before .before in
-    (c .after .ensures .0, rw (told .enum-told14 .given .1) (replied refl (c .after .ensures .1) (c .before .before .before .bad .ensures)))
+    (c .after .ensures .0, rw (told .enum-told17 .given .1) (replied refl (c .after .ensures .1) (c .before .before .before .bad .ensures)))
 
 pub to-command-spec : {M : Type 1} → statement M
 to-command-spec =
@@ -299,10 +344,16 @@ to-command-spec =
     enum-told-11
     reversals-requires
     enum-told-12
-    rest-requires
+    arithmetic-requires
     enum-told-13
-    show-requires
+    arithmetic-requires-2
     enum-told-14
+    arithmetic-requires-3
+    enum-told-15
+    rest-requires
+    enum-told-16
+    show-requires
+    enum-told-17
     bad-requires
     after-requires
     same-length
@@ -332,4 +383,10 @@ to-command-spec =
     same-length-13
     returns-13
     same-length-14
-    returns-14)
+    returns-14
+    same-length-15
+    returns-15
+    same-length-16
+    returns-16
+    same-length-17
+    returns-17)

@@ -1,0 +1,3 @@
+pub mod Arithmetic
+pub mod Promise
+pub mod Examples

@@ -1,0 +1,3 @@
+pub mod Rest
+pub mod Balance
+pub mod Examples
