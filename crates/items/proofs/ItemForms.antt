@@ -1,7 +1,7 @@
 -- Laws of list items: what three numbers are by the code's tests (`Storable`, `item-zero`, `item-value`, `item-malformed`), that it is in range
 -- (`item-ranged`) and has these numbers (`item-numbers`), and three numbers written (`put-is`).
 use mathlib.Core.Path.{_≡_, refl, sym, ap, _∙_}
-use mathlib.Core.Bool.{Bool, true, false, not, cond, _&&_, false≢true}
+use mathlib.Core.Bool.{Bool, true, false, not, cond, _&&_}
 use mathlib.Core.List.{List, [], _∷_}
 use Prim.Native.Nat.{ℕ, zero, suc, _+_, _^_, _≤_, _<_}
 use native.Mathlib.Omega.{arith}
@@ -10,6 +10,7 @@ use lib.Dec.{eqb, leb, ltb}
 use lib.IntN.{ℤ, pos, negsuc, natAbs}
 use lib.ListN.{set}
 use lib.Seq.{sets}
+use lib.Signed.{pos-natAbs}
 use Rattle.number.specs.Signed.{zeroSigned, SignedRanged}
 use Rattle.number.proofs.Tests.{both, unless}
 use Rattle.number.proofs.SignedReach.{signed-ranged-zero}
@@ -17,7 +18,7 @@ use Rattle.number.specs.Integer.{isNegative, biased}
 use Rattle.items.specs.Items.{storable, signedItem, itemNumbers}
 use Rattle.items.specs.declared.ListItem.{ListItem}
 use Rattle.items.specs.declared.ListItem.the-variants.{Value, Malformed}
-use Rattle.number.proofs.Integers.{biased-near, exponent-biased}
+use Rattle.number.proofs.Integers.{not-negative, biased-near, exponent-biased}
 
 -- three numbers
 three : {a b c x y z : ℤ} → a ≡ x → b ≡ y → c ≡ z → (a ∷ b ∷ c ∷ []) ≡ (x ∷ y ∷ z ∷ [])
@@ -105,10 +106,6 @@ zero-integer : (z : ℤ) → natAbs z ≡ 0 → pos 0 ≡ z
 zero-integer (pos n) h = ap pos (sym h)
 zero-integer (negsuc n) h = absurd (omega arith)
 
-plain-integer : (z : ℤ) → isNegative z ≡ false → pos (natAbs z) ≡ z
-plain-integer (pos n) h = refl
-plain-integer (negsuc n) h = absurd (false≢true (sym h))
-
 unit-integer : (z : ℤ) → natAbs z ≡ 1 → cond (isNegative z) (negsuc 0) (pos 1) ≡ z
 unit-integer (pos n) h = ap pos (sym h)
 unit-integer (negsuc n) h = let e : 0 ≡ n = omega arith in ap negsuc e
@@ -130,7 +127,7 @@ item-numbers s m e = go (eqb (natAbs s) 0 && (eqb (natAbs m) 0 && eqb (natAbs e)
     go false true g h =
         let f = storable-facts s m e h in
         let n = ne-eqb (natAbs m) 0 (λ z. omega (arith, f .low)) in
-        three (ap (λ (t : Bool). cond t (pos 0) (cond (isNegative s) (negsuc 0) (pos 1))) n ∙ unit-integer s (f .sign)) (plain-integer m (f .plain))
+        three (ap (λ (t : Bool). cond t (pos 0) (cond (isNegative s) (negsuc 0) (pos 1))) n ∙ unit-integer s (f .sign)) (pos-natAbs m (not-negative m (f .plain)))
         (exponent-biased e (f .near))
     go false false g h = tt
 

@@ -17,11 +17,13 @@ use Rattle.number.proofs.Value.{scale, scale-positive, Over, value-over}
 use Rattle.number.specs.Integer.{isNegative}
 use Rattle.number.specs.Number.{bias, value, sumOf, productOf, quotientOf}
 use Rattle.number.specs.declared.Number.{Number}
-use Rattle.rests.specs.Rest.{sumRest, productRest, quotientRest, workedBy, restInteger, restExponent, PositivePair, Small}
+use Rattle.rests.specs.Rest.{sumRest, productRest, quotientRest, sumRounded, productRounded, quotientRounded, workedBy}
+use Rattle.rests.specs.Rest.{restInteger, restExponent, PositivePair, Small}
 use Rattle.rests.specs.Balance.{dyadic, OddOrNone, BelowSigned, ExactRest, covered, Balanced}
 use Rattle.rests.specs.declared.Operator.{Operator}
 use Rattle.rests.specs.declared.Operator.the-variants.{Add, Multiply, Divide}
 use Rattle.rests.specs.declared.Rest.{Rest}
+use Rattle.rests.specs.declared.Rounded.{Rounded}
 use Rattle.rests.proofs.Parts.{OddRest, plusOdd, minusOdd, plusPart, minusPart, rest-odd, rest-sign, rest-at-most, rest-place, rest-parts}
 use Rattle.rests.proofs.Dyadic.{dyadic-unique, rest-value, rest-size, rest-form, rest-negative}
 use Rattle.rests.proofs.Whole.{Works}
@@ -147,25 +149,11 @@ rounded-up a b r h = go (b .plus - b .minus) (b .minus - b .plus) refl
         (λ g. omega arith, λ g. omega arith)
 
 -- what an operation answers is small
+small : (r : Rounded) (E F : Fraction) → Works E F (r .rest) → r .number .x < 2 ^ 32 → Small r
+small r E F w h = record { exponent = h; odd = odd-small E F (r .rest) w; rest-exponent = place-small E F (r .rest) w }
+
 pub rounded-small : (o : Operator) (a b : Number) → PositivePair a b → Small (workedBy o a b)
-rounded-small Add a b g =
-    let w = sum-works a b g in
-    record {
-      exponent = omega (arith, ranged-sum (g .first) (g .second) (omega arith) .stop);
-      odd = odd-small _ _ _ w;
-      rest-exponent = place-small _ _ _ w;
-    }
-rounded-small Multiply a b g =
-    let w = product-works a b g in
-    record {
-      exponent = omega (arith, ranged-product (g .first) (g .second) (omega arith) .stop);
-      odd = odd-small _ _ _ w;
-      rest-exponent = place-small _ _ _ w;
-    }
+rounded-small Add a b g = small (sumRounded a b) _ _ (sum-works a b g) (omega (arith, ranged-sum (g .first) (g .second) (omega arith) .stop))
+rounded-small Multiply a b g = small (productRounded a b) _ _ (product-works a b g) (omega (arith, ranged-product (g .first) (g .second) (omega arith) .stop))
 rounded-small Divide a b g =
-    let w = quotient-works a b g in
-    record {
-      exponent = omega (arith, ranged-quotient (g .first) (g .second) (omega arith) (g .second-positive) .stop);
-      odd = odd-small _ _ _ w;
-      rest-exponent = place-small _ _ _ w;
-    }
+    small (quotientRounded a b) _ _ (quotient-works a b g) (omega (arith, ranged-quotient (g .first) (g .second) (omega arith) (g .second-positive) .stop))

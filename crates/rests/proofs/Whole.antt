@@ -1,5 +1,5 @@
--- An operation by whole numbers (`Works`): the exact side p and the result's side q at one exponent, both over one denominator; the rest is that of p and q, and
--- these lie less than 2 ^ 32 apart. What goes with it: a number at a lower exponent (`lowered`), and whole numbers within one unit rounding (`apart`).
+-- An operation by whole numbers (`Works`): the exact side p and the result's side q at one exponent, both over one denominator; the rest is that of p and q,
+-- and these lie less than 2 ^ 32 apart. What goes with it: a number at a lower exponent (`lowered`), and whole numbers within one unit rounding (`apart`).
 use mathlib.Core.Path.{_≡_, sym, ap, _∙_}
 use Prim.Native.Nat.{ℕ, _+_, _-_, _*_, _^_, _≤_, _<_}
 use native.Mathlib.Nat.{le-of-mul-le-mul-right, lt-of-mul-lt-mul-right, one-mul, mul-assoc}
