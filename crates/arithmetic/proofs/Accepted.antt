@@ -26,9 +26,8 @@ use Rattle.rests.specs.declared.Operator.{Operator}
 use Rattle.items.proofs.Reading.{RangedList, list-ranged, proper-exactly}
 use Rattle.items.proofs.RoundTrip.{Written, list-written}
 use Rattle.items.specs.Items.{isZeroItem, signOf, listNumbers, listOf, itemsOf, vectorOf, proper}
-use Rattle.arithmetic.specs.Arithmetic.{isPositive, firstItem, secondItem, arithmeticTests}
+use Rattle.arithmetic.specs.Arithmetic.{isPositive, firstItem, secondItem, arithmeticTests, resultOf}
 use Rattle.arithmetic.specs.Promise.{itemValue, Logged}
-use Rattle.arithmetic.specs.declared.Worked.the-variants.{Result}
 
 -- ---- positive items
 positive-size : (a : Signed) → isPositive a ≡ true → 0 < a .size .m
@@ -91,8 +90,7 @@ module _ (z : List ℤ) (t : TwoPositive z) where
   second-value = ap (λ (y : List ℤ). itemValue y 1) (sym (t .row)) ∙ item-value (secondItem z) (t .second)
 
   -- THE LOG BALANCES, in the numbers that go in and come out
-  pub logged : (o : Operator) → let r = workedBy o (firstItem z .size) (secondItem z .size) in
-      Logged o z (Result (r .number .m) (exponentOf (r .number)) (restInteger (r .rest)) (restExponent (r .rest)))
+  pub logged : (o : Operator) → Logged o z (resultOf (workedBy o (firstItem z .size) (secondItem z .size)))
   logged o =
       let r = workedBy o (firstItem z .size) (secondItem z .size) in
       let Log : (a b c : SignedFraction) → Type 0 = λ a b c. Balanced o a b c (restInteger (r .rest)) (restExponent (r .rest)) in

@@ -39,6 +39,10 @@ resultValues r = pos (r .number .m) ∷ exponentOf (r .number) ∷ restInteger (
 unfoldable pub arithmeticCall : Operator → List ℤ → Report
 arithmeticCall o items = reportOf (firstOf (arithmeticTests items)) (resultValues (workedBy o (firstItem items .size) (secondItem items .size)))
 
+-- a result with its rest, as it is answered
+abbrev pub resultOf : Rounded → Worked
+resultOf r = Result (r .number .m) (exponentOf (r .number)) (restInteger (r .rest)) (restExponent (r .rest))
+
 -- what its answers report
 abbrev pub workedReport : Worked → Report
 workedReport (Result m e t x) = accepted (pos m ∷ e ∷ t ∷ x ∷ [])

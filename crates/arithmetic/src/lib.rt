@@ -1,8 +1,7 @@
 // The arithmetic as it is offered outside: one operation on two list items, answered with the rounded result and with what rounding took away.
 ghost use mathlib.Core.Path.{_≡_};
-ghost use Rattle.number.specs.Number.{exponentOf};
-ghost use Rattle.rests.specs.Rest.{restInteger, restExponent, Small};
-ghost use Rattle.arithmetic.specs.Arithmetic.{isPositive, arithmeticCall, workedReport};
+ghost use Rattle.rests.specs.Rest.{Small};
+ghost use Rattle.arithmetic.specs.Arithmetic.{isPositive, arithmeticCall, resultOf, workedReport};
 ghost use Rattle.arithmetic.specs.Promise.{Logged};
 use number::signed::Signed;
 pub use rests::Operator;
@@ -35,7 +34,7 @@ fn positive(a: Signed) -> bool
 // A result with its rest, as numbers.
 fn told(done: Rounded) -> Worked
     requires { ⌜ Small done ⌝ }
-    ensures { λ r. ⌜ r ≡ Worked.Result (done .number .m) (exponentOf (done .number)) (restInteger (done .rest)) (restExponent (done .rest)) ⌝ }
+    ensures { λ r. ⌜ r ≡ resultOf done ⌝ }
 {
     let number = done.number;
     let rest = done.rest;

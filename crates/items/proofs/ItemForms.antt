@@ -127,8 +127,8 @@ item-numbers s m e = go (eqb (natAbs s) 0 && (eqb (natAbs m) 0 && eqb (natAbs e)
     go false true g h =
         let f = storable-facts s m e h in
         let n = ne-eqb (natAbs m) 0 (λ z. omega (arith, f .low)) in
-        three (ap (λ (t : Bool). cond t (pos 0) (cond (isNegative s) (negsuc 0) (pos 1))) n ∙ unit-integer s (f .sign)) (pos-natAbs m (not-negative m (f .plain)))
-        (exponent-biased e (f .near))
+        three (ap (λ (t : Bool). cond t (pos 0) (cond (isNegative s) (negsuc 0) (pos 1))) n ∙ unit-integer s (f .sign))
+        (pos-natAbs m (not-negative m (f .plain))) (exponent-biased e (f .near))
     go false false g h = tt
 
 -- three numbers put one after the other

@@ -9,16 +9,12 @@ use lib.IntN.{ℤ}
 use lib.ListN.{getD}
 use Rattle.verdict.specs.declared.Verdict.the-variants.{Accepted}
 use Rattle.verdict.specs.Verdict.{firstBehind, firstOf}
-use Rattle.number.specs.Number.{exponentOf}
-use Rattle.rests.specs.Rest.{workedBy, restInteger, restExponent}
-use Rattle.rests.specs.declared.Rounded.{Rounded}
+use Rattle.rests.specs.Rest.{workedBy}
 use Rattle.items.proofs.Fronts.{unset}
 use Rattle.items.proofs.ListRead.{Read, read-is}
 use Rattle.items.specs.Items.{listOf}
-use Rattle.arithmetic.specs.Arithmetic.{firstItem, secondItem, arithmeticTests, workedReport}
+use Rattle.arithmetic.specs.Arithmetic.{firstItem, secondItem, arithmeticTests, resultOf, workedReport}
 use Rattle.arithmetic.specs.Promise.{Logged}
-use Rattle.arithmetic.specs.declared.Worked.{Worked}
-use Rattle.arithmetic.specs.declared.Worked.the-variants.{Result}
 use Rattle.arithmetic.proofs.Accepted.{accepted-two, logged}
 use Rattle.arithmetic.proofs.Outcomes.{item-read, tests, judged, accepted-proper, answered, turned-down}
 use Rattle.arithmetic.proofs.arithmetic.Statement.{statement}
@@ -50,10 +46,6 @@ first-read c = let t = reading (c .before .before) in item-read _ _ (list t) 0 (
 
 second-read : (c : tie.After-enum-told) → getD (reading (c .before .before) .read .result .items) 1 unset ≡ secondItem (given (c .before .before))
 second-read c = let t = reading (c .before .before) in item-read _ _ (list t) 1 (omega arith) (accepted-proper _ _ (list t) (passed c))
-
--- a result with its rest, as it is told
-abbrev numbers : Rounded → Worked
-numbers r = Result (r .number .m) (exponentOf (r .number)) (restInteger (r .rest)) (restExponent (r .rest))
 
 read-requires : tie.Need-read-requires
 read-requires c κs = search needs
@@ -97,9 +89,9 @@ returns c =
     let t = w .before in
     let z = given (t .before .before) in
     let o = reading (t .before .before) .before .args .operator in
-    let e : c .told .result ≡ numbers (workedBy o (firstItem z .size) (secondItem z .size)) =
-    c .told .ensures ∙ ap numbers (w .work .ensures .0)
-    ∙ ap₂ (λ a b. numbers (workedBy o (a .size) (b .size))) (first-read t) (second-read t) in
+    let e : c .told .result ≡ resultOf (workedBy o (firstItem z .size) (secondItem z .size)) =
+    c .told .ensures ∙ ap resultOf (w .work .ensures .0)
+    ∙ ap₂ (λ a b. resultOf (workedBy o (a .size) (b .size))) (first-read t) (second-read t) in
     (ap workedReport e ∙ answered o z (passed t), subst (Logged o z) (sym e) (logged z (accepted-two z (passed t)) o))
 
 returns-2 : tie.Need-returns-2
