@@ -6,6 +6,7 @@ use native.Mathlib.Omega.{arith}
 use lib.Pow.{pow-pos, pow-add, pow-mono}
 use Rattle.fraction.specs.Fraction.{fractionProduct}
 use Rattle.number.proofs.Closest.{Near}
+use Rattle.number.proofs.Digits.{product-low}
 use Rattle.number.proofs.Exact.{sum-fits, product-fits}
 use Rattle.number.proofs.Reach.{product-spans, quotient-spans}
 use Rattle.number.proofs.Rounding.{round-near}
@@ -30,8 +31,8 @@ module _ (a b : Number) (g : PositivePair a b) where
   pub product-stop : z .x ≤ y + 33
   product-stop = product-spans (g .first) (g .second) (omega arith) (g .first-positive) (g .second-positive) .stop
 
-  product-low : 2 ^ 62 ≤ a .m * b .m
-  product-low = mul-le-mul (g .first .low (g .first-positive)) (g .second .low (g .second-positive))
+  low : 2 ^ 62 ≤ a .m * b .m
+  low = product-low (a .m) (b .m) (g .first .low (g .first-positive)) (g .second .low (g .second-positive))
 
   product-high : a .m * b .m ≤ (2 ^ 32 - 1) * (2 ^ 32 - 1)
   product-high =
@@ -45,7 +46,7 @@ module _ (a b : Number) (g : PositivePair a b) where
   product-round : Near (z .m * 2 ^ z .x * 1) (a .m * b .m * 2 ^ y)
   unfolding productOf
   product-round =
-      round-near (a .m * b .m) 1 y (omega (arith, product-low)) (omega arith) (omega (arith, product-low)) (omega (arith, g .first .start, g .second .start))
+      round-near (a .m * b .m) 1 y (omega (arith, low)) (omega arith) (omega (arith, low)) (omega (arith, g .first .start, g .second .start))
 
   product-near : Near (integerAt y z * 2 ^ y) (a .m * b .m * 2 ^ y)
   product-near = rw product-places (rw mul-one at product-round)
