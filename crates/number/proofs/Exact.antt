@@ -1,5 +1,5 @@
--- What the code hands to the one rounding: whole numbers by their leading zeros (`integer-long`, `integer-short`), quotients by the order of
--- their mantissas (`quotient-less`, `quotient-more`), products and sums that fit a word, and operands far apart (`sum-far`, `difference-far`).
+-- What the code hands to the one rounding: whole numbers by their leading zeros (`integer-long`, `integer-short`), products and sums that fit a word, and
+-- operands far apart (`sum-far`, `difference-far`). Quotients: `Division`.
 use mathlib.Core.Path.{_≡_, refl, sym, ap, _∙_, subst}
 use mathlib.Core.Logic.{⊎-elim}
 use Prim.Native.Nat.{ℕ, zero, suc, _+_, _-_, _*_, _^_, _≤_, _<_}
@@ -51,15 +51,6 @@ integer-short n x w p l lo hi =
     let e : 2 ^ w * 2 ^ (32 - w) ≡ 2 ^ 32 = sym (pow-add 2 w (32 - w)) ∙ ap (λ (i : ℕ). 2 ^ i) g in
     round-same n 1 x (n * 2 ^ w) 1 (x - w) (32 - w) p (omega arith) (omega arith) (omega (arith, ap (λ (z : ℕ). n * z) e)) (omega arith) (omega arith)
     (omega arith)
-
--- ---- quotients
-pub quotient-less : (a b x : ℕ) → 0 < a → 2 ^ 31 * b ≤ a * 2 ^ 32 → a < b → round a b x ≡ round (a * 2 ^ 32) b (x - 32)
-quotient-less a b x pa lo h =
-    round-same a b x (a * 2 ^ 32) b (x - 32) 0 pa (omega arith) (omega arith) (omega arith) (omega arith) lo (omega arith)
-
-pub quotient-more : (a b x : ℕ) → 0 < b → a < 2 * b → b ≤ a → round a b x ≡ round (a * 2 ^ 31) b (x - 31)
-quotient-more a b x pb hi h =
-    round-same a b x (a * 2 ^ 31) b (x - 31) 1 (omega arith) pb pb (omega arith) (omega arith) (omega arith) (omega arith)
 
 -- ---- what fits a word
 pub sum-fits : (a b d : ℕ) → a < 2 ^ 32 → b < 2 ^ 32 → d ≤ 2 ^ 32 → (a * d < 2 ^ 64) × (a * d + b < 2 ^ 64)

@@ -12,7 +12,9 @@ use lib.Pow.{pow-pos, pow-mono, pow-add}
 use lib.Ieee.{size, nearest}
 use lib.Ieee.Digits.{size-lt, size-le, size-reaches}
 use lib.Ieee.Nearest.{closest, closest-same}
-use Rattle.number.proofs.Closest.{Near, nearest-down, closest-near, closest-range}
+use Rattle.number.proofs.Closest.{Near, nearest-down, closest-near}
+use Rattle.number.proofs.Taken.{taken-between}
+use Rattle.number.specs.Direction.{Nearest}
 use Rattle.number.specs.Number.{zeroNumber, round, renormalised}
 use Rattle.number.specs.declared.Number.{Number}
 
@@ -137,7 +139,7 @@ module _ (n d x : ℕ) (pn : 0 < n) (pd : 0 < d) (half : d ≤ 2 * n) where
   pub round-represents : Represents (closest (n * 2 ^ 32) (d * 2 ^ k)) (x + k - 32) (round n d x)
   unfolding round
   round-represents =
-      let r = closest-range (n * 2 ^ 32) (d * 2 ^ k) (mul-pos pd (pow-pos k)) scaled-low scaled-high in
+      let r = taken-between Nearest (2 ^ 31) (2 ^ 32) (n * 2 ^ 32) (d * 2 ^ k) (mul-pos pd (pow-pos k)) scaled-low (omega (arith, scaled-high)) in
       rw (ne-eqb n 0 (omega arith)) (renormalised-represents (closest (n * 2 ^ 32) (d * 2 ^ k)) (x + k - 32) (r .0) (r .1))
 
   -- the rounded value over the exact one
