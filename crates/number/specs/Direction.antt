@@ -1,10 +1,10 @@
--- The directions of rounding (IEEE 754), for numbers that are not negative. `add`, `mul` and `div` round to nearest.
+-- The directions of rounding, for numbers that are not negative. `add`, `mul` and `div` round to nearest.
 use mathlib.Core.Bool.{cond}
 use Prim.Native.Nat.{ℕ, _+_, _*_, compare}
 use lib.Dec.{eqb}
 use lib.Ieee.{nearest}
 
--- to nearest, a tie to the even one; down, toward zero; up
+-- IEEE 754's roundTiesToEven, its roundTowardZero, and the upward partner of that
 pub data Direction : Type 0 where
   Nearest Down Up : Direction
 

@@ -32,8 +32,8 @@ pub record FullDigits (q : ℕ) : Type 0 where
   pub low : 2 ^ 31 ≤ q
   pub high : q ≤ 2 ^ 32 - 1
 
--- r is the quotient of the positive numbers a and b. The whole quotient has 32 digits before rounding and after it, whatever the direction, and as it was
--- rounded it is r's mantissa: none is carried.
+-- r is the quotient of the positive numbers a and b: the whole quotient has 32 digits before rounding and after it, whatever the direction; rounded to
+-- nearest it is r's mantissa as it stands, and nothing is carried
 pub record Divided (a b r : Number) : Type 0 where
   pub before : FullDigits (wholeQuotient (a .m) (b .m))
   pub after : (w : Direction) → FullDigits (roundedQuotient w (a .m) (b .m))

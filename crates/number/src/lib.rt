@@ -1,5 +1,6 @@
 // Numbers of 32 binary digits: add, multiply and divide give the exact result rounded once, to nearest, ties to even.
-// Each operation brings its exact result to the form n / d at an exponent x. Sums and products are rounded by `kept`, quotients and differences by `round`.
+// Each operation brings its exact result to the form n / d at an exponent x. Sums and products are rounded by `kept`, differences by `round`, quotients by
+// `nearest_whole` alone, since none is carried.
 ghost use mathlib.Core.Path.{_≡_};
 ghost use mathlib.Core.Bool.{false, cond};
 ghost use Prim.Native.Nat.{_+_, _-_, _*_, _^_, _≤_, _<_, min};
