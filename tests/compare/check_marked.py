@@ -147,7 +147,7 @@ QUOTIENTS_BY_HAND = (
     # The largest over the least, with nothing left over: up must not give 2^32. The least over the largest.
     (4294967295, 2147483648, 31, 4294967295, 0, 4294967295, 4294967295, 4294967295),
     (2147483648, 4294967295, 32, 2147483648, 2147483648, 2147483649, 2147483648, 2147483649),
-    # One apart at both ends of the range: the least and the largest whole quotients that leave something over.
+    # One apart at both ends of the range: the least and the largest whole quotients that leave something over, and one that leaves nothing.
     (4294967295, 4294967294, 31, 2147483648, 2147483648, 2147483649, 2147483648, 2147483649),
     (4294967294, 4294967295, 32, 4294967294, 4294967294, 4294967295, 4294967294, 4294967295),
     (2147483648, 2147483649, 32, 4294967294, 2, 4294967294, 4294967294, 4294967295),

@@ -1,4 +1,4 @@
--- The whole number nearest to n / d, a tie to the even one, as the kit's `closest` gives it: which one it is by the rest of the division
+-- The whole number nearest to n / d, a tie to the even one, as the kit's `closest` gives it: which one it is by the remainder
 -- (`nearest-up`, `nearest-even`, `nearest-down`, `nearest-by`; `side`), that it lies within half a unit (`closest-near`), and that no whole number is nearer
 -- (`closest-best`), none other as near unless it is even (`closest-tie`).
 use mathlib.Core.Path.{_≡_, refl, ap, _∙_, subst}
@@ -53,7 +53,7 @@ nearest-down q a b h = go (compare a b) (cmp a b)
     go Ordering·gt c = absurd (omega arith)
 
 -- by one comparison: an odd q goes up at a tie too
-abbrev pub compared : ℕ → ℕ → ℕ → ℕ
+abbrev compared : ℕ → ℕ → ℕ → ℕ
 compared q r d = cond (ltb d (r * 2 + q % 2)) (q + 1) q
 
 pub nearest-by : (q r d : ℕ) → compared q r d ≡ nearest q (compare (r * 2) d)

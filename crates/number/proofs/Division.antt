@@ -15,7 +15,7 @@ use Rattle.number.specs.Division.{shiftOf, shifted, remainder, roundedQu
 use Rattle.number.specs.Number.{bias, round, renormalised, quotientOf, Ranged}
 use Rattle.number.specs.declared.Number.{Number}
 
--- what holds of 32 places for the smaller mantissa and of 31 for the other holds of the shift
+-- what holds of 32 where a is the smaller mantissa, and of 31 where it is not, holds of the shift
 by-order : (a b : ℕ) (P : ℕ → Type 0) → (a < b → P 32) → (b ≤ a → P 31) → P (shiftOf a b)
 by-order a b P less more = go (ltb a b) (ltb-true a b) (ltb-false a b)
   where
@@ -60,7 +60,7 @@ module _ (a b : ℕ) (f : FullDigits a) (g : FullDigits b) where
       ∙ renormalised-small (roundedQuotient Nearest a b) (x - shiftOf a b) (omega (arith, quotient-full Nearest .high))
 
 -- two positive numbers
-mantissa-full : {r : ℕ} {a : Number} → Ranged r a → 0 < a .m → FullDigits (a .m)
+pub mantissa-full : {r : ℕ} {a : Number} → Ranged r a → 0 < a .m → FullDigits (a .m)
 mantissa-full u p = record { low = u .low p; high = omega (arith, u .high) }
 
 pub quotient-divided : {r s : ℕ} {a b : Number} → Ranged r a → Ranged s b → 0 < a .m → 0 < b .m → Divided a b (quotientOf a b)

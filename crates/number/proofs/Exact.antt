@@ -64,8 +64,8 @@ product-fits a b p q = sum-fits a 0 b p (omega arith) (omega arith) .0
 
 -- ---- operands far apart
 -- n has k digits more than 32, and a units of 2 ^ k are nearest to it
-taken : (n j k a : ℕ) → 2 ^ 31 * 2 ^ k ≤ n → n < 2 ^ 32 * 2 ^ k → closest n (2 ^ k) ≡ a → round n 1 j ≡ renormalised a (j + k)
-taken n j k a lo hi c =
+by-units : (n j k a : ℕ) → 2 ^ 31 * 2 ^ k ≤ n → n < 2 ^ 32 * 2 ^ k → closest n (2 ^ k) ≡ a → round n 1 j ≡ renormalised a (j + k)
+by-units n j k a lo hi c =
     let pk : 0 < 2 ^ k = pow-pos k in
     integer-long n j k (omega arith) lo hi ∙ round-normal n (2 ^ k) (j + k) pk lo hi ∙ ap (λ (m : ℕ). renormalised m (j + k)) c
 
@@ -77,7 +77,7 @@ sum-far a b j k h p q =
     let hi : a * 2 ^ k ≤ (2 ^ 32 - 1) * 2 ^ k = mul-le-mul-right (2 ^ k) a' in
     let b' : b < 2 ^ k = omega arith in
     let c : closest (a * 2 ^ k + b) (2 ^ k) ≡ a = rw (Pow.high a k b', Pow.low a k b') (nearest-down a (b * 2) (2 ^ k) h) in
-    taken (a * 2 ^ k + b) j k a (omega arith) (omega arith) c ∙ renormalised-small a (j + k) q
+    by-units (a * 2 ^ k + b) j k a (omega arith) (omega arith) c ∙ renormalised-small a (j + k) q
 
 -- q + 1 units of 2 ^ k less b, where b is less than half a unit
 less-than-half : (q b j k : ℕ) → 0 < b → b * 2 < 2 ^ k → 2 ^ 31 ≤ q → q < 2 ^ 32 → round (q * 2 ^ k + (2 ^ k - b)) 1 j ≡ renormalised (q + 1) (j + k)
@@ -85,7 +85,7 @@ less-than-half q b j k p h lo hi =
     let r : 2 ^ k - b < 2 ^ k = omega arith in
     let q' : q ≤ 2 ^ 32 - 1 = omega arith in
     let c : closest (q * 2 ^ k + (2 ^ k - b)) (2 ^ k) ≡ q + 1 = rw (Pow.high q k r, Pow.low q k r) (nearest-up q ((2 ^ k - b) * 2) (2 ^ k) (omega arith)) in
-    taken (q * 2 ^ k + (2 ^ k - b)) j k (q + 1) (omega (arith, mul-le-mul-right (2 ^ k) lo)) (omega (arith, mul-le-mul-right (2 ^ k) q')) c
+    by-units (q * 2 ^ k + (2 ^ k - b)) j k (q + 1) (omega (arith, mul-le-mul-right (2 ^ k) lo)) (omega (arith, mul-le-mul-right (2 ^ k) q')) c
 
 -- a is not the least mantissa
 far-above : (a b j k : ℕ) → b * 2 < 2 ^ k → 2 ^ 31 < a → a < 2 ^ 32 → 0 < b → round (a * 2 ^ k - b) 1 j ≡ record { m = a; x = j + k }

@@ -54,7 +54,7 @@ round-is n d x N D k pn pd pD e lo hi =
 pub round-normal : (n d x : ℕ) → 0 < d → 2 ^ 31 * d ≤ n → n < 2 ^ 32 * d → round n d x ≡ renormalised (closest n d) x
 round-normal n d x p lo hi = round-is n d x n d 32 (omega arith) p p (omega arith) lo hi ∙ ap (renormalised (closest n d)) (omega arith)
 
--- q and r / d: the whole part and the rest, as division gives them
+-- q and r / d: the whole part and the remainder, as division gives them
 pub round-parts : (q r d x : ℕ) → r < d → 2 ^ 31 ≤ q → q < 2 ^ 32 → round (q * d + r) d x ≡ renormalised (nearest q (compare (r * 2) d)) x
 round-parts q r d x h lo hi =
     let p : 0 < d = omega arith in

@@ -1,5 +1,5 @@
--- The whole number that is taken for n / d, over the direction. It is the whole part, or one more where something is left (`taken-by`): the only split on the
--- direction. So rounding passes no whole number: what lies between two of them stays between them (`taken-between`).
+-- The whole number that is taken for n / d, over the direction. It is the whole part, or one more where something is left (`taken-by`, which alone splits on
+-- the direction). So rounding passes no whole number: what lies between two of them stays between them (`taken-between`).
 use mathlib.Core.Path.{_≡_, refl}
 use mathlib.Core.Bool.{Bool, true, false, cond}
 use mathlib.Core.Logic.{_⊎_, ⊎-elim, inl, inr}
@@ -15,7 +15,7 @@ use Rattle.number.specs.Direction.{Direction, Nearest, Down, Up, taken}
 abbrev Beside : ℕ → ℕ → ℕ → Type 0
 Beside m q r = (m ≡ q) ⊎ ((m ≡ q + 1) × (0 < r))
 
-pub taken-by : (w : Direction) (q r d : ℕ) → 0 < d → Beside (taken w q r d) q r
+taken-by : (w : Direction) (q r d : ℕ) → 0 < d → Beside (taken w q r d) q r
 taken-by Nearest q r d p = ⊎-elim (λ (c : Below (taken Nearest q r d) q r d). inl (c .0))
     (λ (c : Above (taken Nearest q r d) q r d). inr (c .0, omega (arith, c .1))) (side q r d)
 taken-by Down q r d p = inl refl

@@ -19,7 +19,7 @@ shifted a b = a * 2 ^ shiftOf a b
 abbrev pub wholeQuotient : ℕ → ℕ → ℕ
 wholeQuotient a b = shifted a b / b
 
--- the remainder: the dividend less quotient times divisor
+-- the remainder: the shifted dividend less whole quotient times divisor
 abbrev pub remainder : ℕ → ℕ → ℕ
 remainder a b = shifted a b - wholeQuotient a b * b
 

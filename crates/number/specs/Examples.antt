@@ -40,15 +40,15 @@ arithmeticTable =
     ∷ []
 
 -- the shift of a division, and the whole quotient: before rounding, to nearest, up
-abbrev pub stepsOf : ℕ → ℕ → List ℕ
-stepsOf a b = shiftOf a b ∷ wholeQuotient a b ∷ roundedQuotient Nearest a b ∷ roundedQuotient Up a b ∷ []
+abbrev pub divisionOf : ℕ → ℕ → List ℕ
+divisionOf a b = shiftOf a b ∷ wholeQuotient a b ∷ roundedQuotient Nearest a b ∷ roundedQuotient Up a b ∷ []
 
 -- divisions at the ends of the range, where a comparison, a shift or a rounding that is off by one would leave it
 unfoldable pub divisionTable : List Row
 divisionTable =
-    row (stepsOf (2 ^ 32 - 1) (2 ^ 32 - 1)) (31 ∷ 2147483648 ∷ 2147483648 ∷ 2147483648 ∷ [])  -- equal mantissas
-    ∷ row (stepsOf (2 ^ 32 - 1) (2 ^ 31)) (31 ∷ 4294967295 ∷ 4294967295 ∷ 4294967295 ∷ [])  -- the largest quotient: nothing is left, so up takes no more
-    ∷ row (stepsOf (2 ^ 32 - 2) (2 ^ 32 - 1)) (32 ∷ 4294967294 ∷ 4294967295 ∷ 4294967295 ∷ [])  -- rounded up to the largest
-    ∷ row (stepsOf (2 ^ 31) (2 ^ 32 - 1)) (32 ∷ 2147483648 ∷ 2147483649 ∷ 2147483649 ∷ [])  -- the least dividend over the largest divisor
-    ∷ row (stepsOf (2 ^ 31) (3 * 2 ^ 30)) (32 ∷ 2863311530 ∷ 2863311531 ∷ 2863311531 ∷ [])  -- P10's third
+    row (divisionOf (2 ^ 32 - 1) (2 ^ 32 - 1)) (31 ∷ 2147483648 ∷ 2147483648 ∷ 2147483648 ∷ [])  -- equal mantissas
+    ∷ row (divisionOf (2 ^ 32 - 1) (2 ^ 31)) (31 ∷ 4294967295 ∷ 4294967295 ∷ 4294967295 ∷ [])  -- the largest quotient: nothing is left, so up takes no more
+    ∷ row (divisionOf (2 ^ 32 - 2) (2 ^ 32 - 1)) (32 ∷ 4294967294 ∷ 4294967295 ∷ 4294967295 ∷ [])  -- rounded up to the largest
+    ∷ row (divisionOf (2 ^ 31) (2 ^ 32 - 1)) (32 ∷ 2147483648 ∷ 2147483649 ∷ 2147483649 ∷ [])  -- the least dividend over the largest divisor
+    ∷ row (divisionOf (2 ^ 31) (2 ^ 31 + 1)) (32 ∷ 4294967294 ∷ 4294967294 ∷ 4294967295 ∷ [])  -- next to the largest: up takes it, nearest does not
     ∷ []

@@ -1,13 +1,13 @@
 // Numbers of 32 binary digits: add, multiply and divide give the exact result rounded once, to nearest, ties to even.
 // Each operation brings its exact result to the form n / d at an exponent x. Sums and products are rounded by `kept`, differences by `round`, quotients by
-// `nearest_whole` alone, since none is carried.
+// `nearest_whole` alone, since nothing is carried.
 ghost use mathlib.Core.Path.{_≡_};
 ghost use mathlib.Core.Bool.{false, cond};
 ghost use Prim.Native.Nat.{_+_, _-_, _*_, _^_, _≤_, _<_, min};
 ghost use Rattle.number.specs.Number.{zeroNumber, oneNumber, unbiased, renormalised, round, sumOf, productOf, quotientOf, Ranged, reach, exponentOf};
 ghost use Rattle.number.specs.Number.{inRange};
 ghost use Rattle.number.specs.Direction.{Nearest, taken};
-ghost use Rattle.number.specs.Division.{Divided};
+ghost use Rattle.number.specs.Division.{shiftOf, roundedQuotient, FullDigits, Divided};
 ghost use Rattle.number.specs.Signed.{below, differenceOf};
 ghost use Rattle.number.specs.Digits.{unlikeOf, alignedOf};
 
@@ -100,10 +100,10 @@ fn round_integer(n: u64, x: u64) -> Number
 }
 
 // a / b at exponent x: the mantissas are compared, the shift is chosen, one division gives the whole quotient, and this is rounded.
-// It has 32 digits before rounding and after it, so none is carried.
+// It has 32 digits before rounding and after it, so nothing is carried.
 fn quotient(a: u64, b: u64, x: u64) -> Number
-    requires { ⌜ (2 ^ 31 ≤ a) × (a < 2 ^ 32) × (2 ^ 31 ≤ b) × (b < 2 ^ 32) × (32 ≤ x) × (x < 2 ^ 61) ⌝ }
-    ensures { λ r. ⌜ r ≡ round a b x ⌝ }
+    requires { ⌜ FullDigits a × FullDigits b × (32 ≤ x) × (x < 2 ^ 61) ⌝ }
+    ensures { λ r. ⌜ r ≡ record { m = roundedQuotient Nearest a b; x = x - shiftOf a b } ⌝ }
 {
     let s = either(a < b, 32, 31);
     let y = x - s;

@@ -1,24 +1,20 @@
--- `quotient` meets its contract: the select is the shift, the shifted dividend is a word, and what rounding takes is the result's mantissa.
-use mathlib.Core.Path.{_≡_, sym, ap, ap₂, _∙_}
+-- `quotient` meets its contract: the select is the shift, the shifted dividend is a word, and one division leaves the remainder.
+use mathlib.Core.Path.{_≡_, ap, ap₂, _∙_}
 use Prim.Native.Nat.{ℕ, _+_, _-_, _*_, _/_, _%_, _^_, _<_}
 use native.Mathlib.Nat.{mod-eq-of-lt, mod-lt, div-add-mod'}
 use native.Mathlib.Omega.{arith}
 use borrow.Author.Needs.{needs}
-use Rattle.number.proofs.Division.{shift-range, shifted-high, quotient-full, quotient-is}
+use Rattle.number.proofs.Division.{shift-range, shifted-high, quotient-full}
 use Rattle.number.specs.Direction.{Nearest, Down, taken}
-use Rattle.number.specs.Division.{shifted, FullDigits}
+use Rattle.number.specs.Division.{shifted}
 use Rattle.number.proofs.quotient.Statement.{statement}
 use Rattle.number.proofs.quotient.Tie as tie
-
--- both mantissas have 32 digits
-full : (s : tie.Start) → FullDigits (s .args .a) × FullDigits (s .args .b)
-full s = (record { low = s .pre .0; high = omega arith }, record { low = s .pre .2; high = omega arith })
 
 -- the shifted dividend is a word
 fits : (c : tie.After-either) → shifted (c .before .args .a) (c .before .args .b) < 2 ^ 64
 fits c =
     let s = c .before in
-    omega (arith, shifted-high (s .args .a) (s .args .b) (full s .0) (full s .1))
+    omega (arith, shifted-high (s .args .a) (s .args .b) (s .pre .0) (s .pre .1))
 
 -- and is what the code shifts
 word : (c : tie.After-either) → let a = c .before .args .a in a * 2 ^ c .either .result % 2 ^ 64 ≡ shifted a (c .before .args .b)
@@ -49,7 +45,7 @@ sub-nearest-whole c = rw (word c) (omega (arith, whole c))
 nearest-whole-requires : tie.Need-nearest-whole-requires
 nearest-whole-requires c κs =
     let s = c .before in
-    let q = quotient-full (s .args .a) (s .args .b) (full s .0) (full s .1) Down in
+    let q = quotient-full (s .args .a) (s .args .b) (s .pre .0) (s .pre .1) Down in
     rw (word c) (omega (arith, q .high, whole c, mod-lt (shifted (s .args .a) (s .args .b)) {m = s .args .b} (omega arith)))
 
 returns : tie.Need-returns
@@ -58,7 +54,6 @@ returns c =
     let b = s .args .b in
     let e = c .nearest-whole .ensures ∙ ap (λ (n : ℕ). taken Nearest (n / b) (n - n / b * b) b) (word (c .before)) in
     ap₂ (λ (m k : ℕ). record { m = m; x = s .args .x - k }) e (c .before .either .ensures)
-    ∙ sym (quotient-is (s .args .a) b (full s .0) (full s .1) (s .args .x))
 
 pub quotient-spec : {M : Type 1} → statement M
 quotient-spec =
