@@ -65,10 +65,21 @@ def product_tie(r):
 
 
 def near_quotient(r):
-    """A dividend close to a multiple of the divisor, or close to the divisor itself."""
+    """A dividend close to a multiple of the divisor."""
     n, k = mantissa(r), mantissa(r)
-    m = n + r.randrange(-2, 3) if r.random() < 0.3 else n * k // r.choice((LOW, HIGH)) + r.randrange(-1, 2)
-    return (1, within(m), exponent(r)), (1, n, exponent(r))
+    return (1, within(n * k // r.choice((LOW, HIGH)) + r.randrange(-1, 2)), exponent(r)), (1, n, exponent(r))
+
+
+def equal_mantissas(r):
+    """Equal mantissas, or one apart either way: a dividend that is less is shifted by one place more."""
+    n = mantissa(r)
+    return (1, within(n + r.randrange(-1, 2)), exponent(r)), (1, n, exponent(r))
+
+
+def end_quotient(r):
+    """A quotient at an end of the range: the least mantissas over the largest, or the largest over the least."""
+    m, n = r.sample((LOW + r.randrange(3), HIGH - 1 - r.randrange(3)), 2)
+    return (1, m, exponent(r)), (1, n, exponent(r))
 
 
 def tied_quotient(r):
@@ -193,6 +204,8 @@ KINDS = (
     ('sum tie', sum_tie, 10, '++c'),
     ('product tie', product_tie, 8, '*'),
     ('near quotient', near_quotient, 8, '/'),
+    ('equal mantissas', equal_mantissas, 4, '/'),
+    ('quotient at an end', end_quotient, 2, '/'),
     ('quotient near a tie', tied_quotient, 5, '/'),
     ('far apart', far, 8, '+c'),
     ('32 or 33 apart', just_apart, 8, '++c'),

@@ -1,4 +1,4 @@
-"""Checks of the model against what the papers print: P1 to P12, the program shown, bounds, byte faults, the console's lines; rests made by hand."""
+"""Checks of the model against what the papers print: P1 to P12, the program shown, bounds, byte faults, the console's lines; rests and quotients by hand."""
 from fractions import Fraction
 
 import words
@@ -7,7 +7,7 @@ from console_model import Console, doubtful, parse
 from encoding import encode, read_matrix, read_single
 from exact import exact_run
 from model import WORKED, Shelf, shown
-from number import HIGH, ITEM_ZERO, LOW, ONE, add, multiply, round_fraction, value
+from number import DIRECTIONS, HIGH, ITEM_ZERO, LOW, ONE, add, divide, multiply, round_fraction, rounded_quotient, value, whole_quotient
 from sources import unit_items
 from words import POSITION, Matrix, Walker, bound, carry, count, minor, operate, reversals
 
@@ -136,6 +136,44 @@ def rests_by_hand(rng, rounds):
     for kind in WORKED:
         for items in [[], [one], [one] * 3, *([item, one] for item in bad), *([one, item] for item in bad)]:
             same(refused(Shelf.work, kind, items), (9, 0))
+
+
+# Found by hand: mantissas of dividend and divisor, the shift, the whole quotient and its remainder; rounded to nearest, down and up.
+QUOTIENTS_BY_HAND = (
+    # Equal mantissas: the least, the largest, another.
+    (2147483648, 2147483648, 31, 2147483648, 0, 2147483648, 2147483648, 2147483648),
+    (4294967295, 4294967295, 31, 2147483648, 0, 2147483648, 2147483648, 2147483648),
+    (3221225473, 3221225473, 31, 2147483648, 0, 2147483648, 2147483648, 2147483648),
+    # The largest over the least, with nothing left over: up must not give 2^32. The least over the largest.
+    (4294967295, 2147483648, 31, 4294967295, 0, 4294967295, 4294967295, 4294967295),
+    (2147483648, 4294967295, 32, 2147483648, 2147483648, 2147483649, 2147483648, 2147483649),
+    # One apart at both ends of the range: the least and the largest whole quotients that leave something over, and one that leaves nothing.
+    (4294967295, 4294967294, 31, 2147483648, 2147483648, 2147483649, 2147483648, 2147483649),
+    (4294967294, 4294967295, 32, 4294967294, 4294967294, 4294967295, 4294967294, 4294967295),
+    (2147483648, 2147483649, 32, 4294967294, 2, 4294967294, 4294967294, 4294967295),
+    (2147483649, 2147483648, 31, 2147483649, 0, 2147483649, 2147483649, 2147483649),
+    # One apart, just above half and just below it.
+    (2863311530, 2863311531, 32, 4294967294, 1431655766, 4294967295, 4294967294, 4294967295),
+    (2863311529, 2863311530, 32, 4294967294, 1431655764, 4294967294, 4294967294, 4294967295),
+    # The largest over the least but one, the least over the largest but one, and the third of P10.
+    (4294967295, 2147483649, 31, 4294967293, 3, 4294967293, 4294967293, 4294967294),
+    (2147483648, 4294967294, 32, 2147483649, 2, 2147483649, 2147483649, 2147483650),
+    (2147483648, 3221225472, 32, 2863311530, 2147483648, 2863311531, 2863311530, 2863311531),
+)
+
+
+@check
+def quotients_by_hand(rng, rounds):
+    """Document 02, (d): shift, whole quotient and its roundings, all from 2^31 to 2^32 - 1, and the number that `divide` gives."""
+    for m, n, shift, whole, left, *rounded in QUOTIENTS_BY_HAND:
+        for e, f in ((0, 0), (-31, -30), (-1000, 1000), (1000, -1000)):
+            same(whole_quotient((m, e), (n, f)), (whole, left, e - f - shift))
+            same([rounded_quotient(whole, left, n, direction) for direction in DIRECTIONS], rounded)
+            assert all(LOW <= x < HIGH for x in (whole, *rounded))
+            same(divide((m, e), (n, f)), (rounded[0], e - f - shift))
+    # No quotient lies halfway, so the rounding alone is given ties, and what lies next to them.
+    for q, left, divisor, *rounded in ((7, 1, 2, 8, 7, 8), (8, 1, 2, 8, 8, 9), (7, 2, 5, 7, 7, 8), (8, 3, 5, 9, 8, 9), (7, 0, 5, 7, 7, 7)):
+        same([rounded_quotient(q, left, divisor, direction) for direction in DIRECTIONS], rounded)
 
 
 @check

@@ -1,4 +1,4 @@
-"""Random cross-checks of the model: fast against slow arithmetic, rests, exact run against matrix arithmetic, bounds, bytes, refusals."""
+"""Random cross-checks of the model: fast against slow arithmetic, rests, quotients, exact run against matrix arithmetic, bounds, bytes, refusals."""
 from fractions import Fraction
 
 import words
@@ -7,10 +7,11 @@ from console_model import Console, call_words, parse
 from encoding import Refusal, encode, group, read_group, read_single, rest
 from exact import entries_of, exact_parts, exact_run, inverse, matrix_product, multiply_out, requested, units, within
 from model import ORDER, WORKED, conditions
-from number import (HIGH, ITEM_ZERO, LOW, ONE, ZERO, add, divide, multiply, odd_form, round_fraction, round_whole, signed_add, slow_add,
-                    slow_divide, slow_multiply, slow_signed_add, value, worked)
+from number import (DIRECTIONS, HIGH, ITEM_ZERO, LOW, ONE, ZERO, add, divide, multiply, odd_form, round_fraction, round_whole, rounded_quotient,
+                    signed_add, slow_add, slow_divide, slow_multiply, slow_signed_add, value, whole_quotient, worked)
 from pairs import pair
 from requests import stream
+from sources import mantissa
 from words import Matrix, Walker, bound, carry, minor, operate, operation_word, plain_minor, reversals, rows_of, transpose
 
 
@@ -81,6 +82,44 @@ def rests(rng, rounds):
         assert abs(odd) % 2 == 1 or (odd, e) == ZERO
         assert abs(odd) < HIGH
         same((odd < 0, odd == 0), (r > exact, r == exact))
+
+
+def divided_mantissas(rng):
+    """Dividend and divisor: any, equal, one apart, near the ends of the range, and with a remainder near none, half the divisor and the whole of it."""
+    m, n = mantissa(rng), mantissa(rng)
+    low, high = LOW + rng.randrange(4), HIGH - 1 - rng.randrange(4)
+    yield from ((m, n), (m, m), (m, max(m - 1, LOW)), (m, min(m + 1, HIGH - 1)))
+    yield from ((low, high), (high, low), (low, n), (high, n), (m, low), (m, high))
+    n |= 1
+    for left in (near + rng.randint(-2, 2) for near in (0, n // 2, n)):
+        # The dividend less than the divisor, shifted by 32, and the one that is not, by 31.
+        for m in (left * pow(2, -32, n) % n, left * pow(2, -31, n) % n + n):
+            if LOW <= m < HIGH:
+                yield m, n
+
+
+@check
+def quotients(rng, rounds):
+    """Document 02, (d): the whole quotient keeps its range before rounding and after it, whichever way, and is no tie; number and rest stay the same."""
+    for m, n in (drawn for _ in range(rounds) for drawn in divided_mantissas(rng)):
+        a, b = (m, rng.randint(-1000, 1000)), (n, rng.randint(-1000, 1000))
+        q, left, e = whole_quotient(a, b)
+        nearest, down, up = (rounded_quotient(q, left, n, direction) for direction in DIRECTIONS)
+        assert all(LOW <= x < HIGH for x in (q, nearest, down, up)) and 2 * left != n, (a, b)
+        exact = value(a) / value(b)
+        assert value((down, e)) <= exact <= value((up, e)), (a, b)
+        same(up - down, int(value((down, e)) < exact))
+        same((nearest, e), divide(a, b))
+        same(odd_form((left - (nearest - q) * n) * Fraction(2) ** (e + b[1])), worked("divide", a, b)[1])
+
+
+@check
+def one_shift(rng, rounds):
+    """Document 02, (d): the range allows one shift alone: 31 leaves it when the dividend's mantissa is less, 32 when it is equal or more."""
+    for m, n in (drawn for _ in range(rounds) for drawn in divided_mantissas(rng)):
+        kept = [shift for shift in range(64) if LOW <= (m << shift) // n < HIGH]
+        same(kept, [32 if m < n else 31])
+        same(kept, [-whole_quotient((m, 0), (n, 0))[2]])
 
 
 @check

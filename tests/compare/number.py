@@ -2,6 +2,7 @@
 
 add, multiply, divide: the exact result rounded once to nearest, ties to even, at 32 bits, by integers and shifts.
 signed_add: the same for items (sign, m, e). round_fraction, value and the slow_ functions say it again with fractions.
+whole_quotient and rounded_quotient: division by one shift, chosen by comparing the mantissas, then one rounding in a given direction.
 worked: one of the three with the rest, what rounding took away, as a pair of an odd whole number and an exponent.
 """
 from fractions import Fraction
@@ -15,6 +16,7 @@ ITEM_ZERO = (0, 0, 0)
 EXPONENT_LIMIT = 1000
 # From this distance on the smaller operand cannot change the larger one, not even just below a power of two.
 FAR = 40
+DIRECTIONS = ("nearest", "down", "up")
 
 
 def round_whole(whole, e):
@@ -58,6 +60,21 @@ def divide(a, b):
         return ZERO
     q, r = divmod(a[0] << 34, b[0])
     return round_whole(2 * q + (r > 0), a[1] - b[1] - 35)
+
+
+def whole_quotient(a, b):
+    """Document 02, (d): mantissas compared, the shift chosen, one division. The whole quotient of two positive numbers, its remainder and its exponent."""
+    # Equal mantissas need 31: with 32 their quotient would be 2^32.
+    shift = 31 if a[0] >= b[0] else 32
+    q, left = divmod(a[0] << shift, b[0])
+    return q, left, a[1] - b[1] - shift
+
+
+def rounded_quotient(q, left, divisor, direction):
+    """A whole quotient with its remainder, rounded to nearest (ties to even), down or up."""
+    if direction == "nearest":
+        return q + (2 * left > divisor or 2 * left == divisor and q % 2 == 1)
+    return q + (direction == "up" and left > 0)
 
 
 def signed_add(x, y):

@@ -133,8 +133,12 @@ def distance(a, b):
 
 def division(a, b, result, rest):
     yield "mantissas equal" if a[0] == b[0] else "mantissa less" if a[0] < b[0] else "mantissa more"
-    if (a[0], b[0]) == (HIGH - 1, LOW):
-        yield "largest over least"
+    if abs(a[0] - b[0]) == 1:
+        yield "mantissa one less" if a[0] < b[0] else "mantissa one more"
+    if (a[0], b[0]) in ((HIGH - 1, LOW), (LOW, HIGH - 1)):
+        yield "least over largest" if a[0] < b[0] else "largest over least"
+    if result[0] == HIGH - 1 and rest[0] < 0:
+        yield "up to 2^32 - 1"
     # The remainder in units of the divisor's last place times the result's.
     units = abs(rest[0]) << max(0, rest[1] - b[1] - result[1])
     if 2 * units + 1 == b[0]:
@@ -157,8 +161,8 @@ def every_case(kind):
     """All of them: a sum is never below -1000, and a quotient neither lies halfway nor carries."""
     found = {"exact", "down", "up", "above 1000"} | ({"below -1000"} if kind != "add" else set())
     if kind == "divide":
-        sides = {"nearly a tie, up", "nearly a tie, down"}
-        return found | sides | {"mantissas equal", "mantissa less", "mantissa more", "largest over least"}
+        found |= {"mantissas equal", "mantissa less", "mantissa more", "mantissa one less", "mantissa one more"}
+        return found | {"nearly a tie, up", "nearly a tie, down", "largest over least", "least over largest", "up to 2^32 - 1"}
     found |= {"tie down", "tie up", "carry", "tie carry"}
     if kind == "add":
         found |= {f"{gap} apart, {side} larger" for gap in (*GAPS[1:], "far") for side in ("first", "second")} | {"0 apart, equal"}

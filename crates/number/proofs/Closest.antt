@@ -1,14 +1,15 @@
--- The whole number nearest to n / d, a tie to the even one, as the kit's `closest` gives it: which one it is by the rest of the division
--- (`nearest-up`, `nearest-even`, `nearest-down`), that it lies within half a unit (`closest-near`, `closest-range`), and that no whole
--- number is nearer (`closest-best`), none other as near unless it is even (`closest-tie`).
-use mathlib.Core.Path.{_≡_, refl, ap, subst}
-use mathlib.Core.Bool.{not}
+-- The whole number nearest to n / d, a tie to the even one, as the kit's `closest` gives it: which one it is by the remainder
+-- (`nearest-up`, `nearest-even`, `nearest-down`, `nearest-by`; `side`), that it lies within half a unit (`closest-near`), and that no whole number is nearer
+-- (`closest-best`), none other as near unless it is even (`closest-tie`).
+use mathlib.Core.Path.{_≡_, refl, ap, _∙_, subst}
+use mathlib.Core.Bool.{Bool, cond, not}
 use mathlib.Core.Logic.{_⊎_, ⊎-elim, inl, inr, _≢_}
 use Prim.Native.Nat.{ℕ, zero, suc, _+_, _-_, _*_, _/_, _%_, _^_, _≤_, _<_, compare, Ordering, Ordering·lt, Ordering·eq, Ordering·gt}
-use native.Mathlib.Nat.{mul-le-mul-right, le-div-iff-mul-le, div-lt-iff-lt-mul, le-antisymm, lt-of-not-le, div-add-mod', mod-lt}
+use native.Mathlib.Nat.{mul-le-mul-right, le-antisymm, lt-of-not-le, div-add-mod', mod-lt}
 use native.Mathlib.Decide.{decLe}
 use native.Mathlib.Omega.{arith}
-use lib.Dec.{T, isLe, isEq, eqb, leb→le, nleb→lt, eqb→eq, eqb-refl}
+use borrow.Author.Tests.{lt-ltb, le-ltb}
+use lib.Dec.{T, ltb, isLe, isEq, eqb, leb→le, nleb→lt, eqb→eq, eqb-refl}
 use lib.Ieee.{nearest}
 use lib.Ieee.Nearest.{closest}
 use Rattle.number.specs.Nearest.{gap}
@@ -51,15 +52,37 @@ nearest-down q a b h = go (compare a b) (cmp a b)
     go Ordering·eq c = absurd (omega arith)
     go Ordering·gt c = absurd (omega arith)
 
+-- by one comparison: an odd q goes up at a tie too
+abbrev compared : ℕ → ℕ → ℕ → ℕ
+compared q r d = cond (ltb d (r * 2 + q % 2)) (q + 1) q
+
+pub nearest-by : (q r d : ℕ) → compared q r d ≡ nearest q (compare (r * 2) d)
+nearest-by q r d = go (compare (r * 2) d) (cmp (r * 2) d)
+  where
+    up : d < r * 2 + q % 2 → compared q r d ≡ q + 1
+    up h = ap (λ (t : Bool). cond t (q + 1) q) (lt-ltb d (r * 2 + q % 2) h)
+
+    same : r * 2 + q % 2 ≤ d → compared q r d ≡ q
+    same h = ap (λ (t : Bool). cond t (q + 1) q) (le-ltb d (r * 2 + q % 2) h)
+
+    tie : (k : ℕ) → q % 2 ≡ k → r * 2 ≡ d → compared q r d ≡ q + q % 2
+    tie zero e c = same (omega arith) ∙ omega arith
+    tie (suc k) e c = up (omega arith) ∙ omega arith
+
+    go : (o : Ordering) → Cmp o (r * 2) d → compared q r d ≡ nearest q o
+    go Ordering·lt c = same (omega arith)
+    go Ordering·eq c = tie (q % 2) refl c
+    go Ordering·gt c = up (omega arith) ∙ omega arith
+
 -- ---- on which side of n / d it lies
 -- m is the whole part q, with a half or less left over, or one more, with a half or more; where it is a half, m is even
-abbrev Below : ℕ → ℕ → ℕ → ℕ → Type 0
+abbrev pub Below : ℕ → ℕ → ℕ → ℕ → Type 0
 Below m q r d = (m ≡ q) × (r * 2 ≤ d) × (r * 2 ≡ d → m % 2 ≡ 0)
 
-abbrev Above : ℕ → ℕ → ℕ → ℕ → Type 0
+abbrev pub Above : ℕ → ℕ → ℕ → ℕ → Type 0
 Above m q r d = (m ≡ q + 1) × (d ≤ r * 2) × (r * 2 ≡ d → m % 2 ≡ 0)
 
-side : (q r d : ℕ) → Below (nearest q (compare (r * 2) d)) q r d ⊎ Above (nearest q (compare (r * 2) d)) q r d
+pub side : (q r d : ℕ) → Below (nearest q (compare (r * 2) d)) q r d ⊎ Above (nearest q (compare (r * 2) d)) q r d
 side q r d = go (compare (r * 2) d) (cmp (r * 2) d)
   where
     tie : (k : ℕ) → q % 2 ≡ k → r * 2 ≡ d → Below (q + q % 2) q r d ⊎ Above (q + q % 2) q r d
@@ -97,12 +120,6 @@ module _ (n d : ℕ) (p : 0 < d) where
 
   pub closest-near : 2 ^ 31 * d ≤ n → Near (m * d) n
   closest-near lo = cases (λ e l f g h t. omega arith) (λ e l f g h t. omega arith)
-
-  pub closest-range : 2 ^ 31 * d ≤ n → n < 2 ^ 32 * d → (2 ^ 31 ≤ m) × (m ≤ 2 ^ 32)
-  closest-range lo hi =
-      let a : 2 ^ 31 ≤ q = le-div-iff-mul-le p .1 lo in
-      let b : q < 2 ^ 32 = div-lt-iff-lt-mul p .1 hi in
-      cases (λ e l f g h t. omega arith) (λ e l f g h t. omega arith)
 
   -- no whole number c is nearer
   pub closest-best : (c : ℕ) → gap (m * d) n ≤ gap (c * d) n

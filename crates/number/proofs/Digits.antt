@@ -12,7 +12,7 @@ use lib.Dec.{eqb}
 use lib.Pow.{pow-pos, pow-add, pow-mono, high, low}
 use lib.Ieee.{nearest}
 use Rattle.number.proofs.Closest.{Cmp, cmp, nearest-up, nearest-even, nearest-down}
-use Rattle.number.proofs.Rounding.{round-parts, round-same}
+use Rattle.number.proofs.Rounding.{round-parts, round-same, renormalised-small}
 use Rattle.number.proofs.Exact.{integer-long, sum-far}
 use Rattle.number.specs.Number.{round, renormalised}
 use Rattle.number.specs.declared.Number.{Number}
@@ -21,10 +21,6 @@ use Rattle.number.specs.Digits.{unlikeOf, alignedOf}
 -- ---- rounded results
 abbrev made : ℕ → ℕ → Number
 made m y = record { m = m; x = y }
-
-renormalised-same : (m y : ℕ) → m < 2 ^ 32 → renormalised m y ≡ made m y
-unfolding renormalised
-renormalised-same m y h = rw (ne-eqb m (2 ^ 32) (omega arith)) refl
 
 renormalised-top : (m y : ℕ) → m ≡ 2 ^ 32 → renormalised m y ≡ made (2 ^ 31) (y + 1)
 unfolding renormalised
@@ -78,7 +74,7 @@ kept-63 p x lo hi =
     let r : ℕ = p + (2 ^ 30 - 1) + p / 2 ^ 31 % 2 in
     let e : round p 1 x ≡ renormalised (r / 2 ^ 31) (x + 31) = parted p x 31 lo hi ∙ ap (λ (m : ℕ). renormalised m (x + 31)) (nearest-31 p) in
     let l : lastOf r x ≡ renormalised (r / 2 ^ 31) (x + 31) = elim (decLt r (2 ^ 63)) [
-      | yes h ↦ last-low r x h ∙ sym (renormalised-same (r / 2 ^ 31) (x + 31) (omega arith))
+      | yes h ↦ last-low r x h ∙ sym (renormalised-small (r / 2 ^ 31) (x + 31) (omega arith))
       | no h ↦
           let f : r / 2 ^ 32 ≡ 2 ^ 31 = omega arith in
           let g : x + 32 ≡ x + 31 + 1 = omega arith in
@@ -90,7 +86,7 @@ kept-64 : (p x : ℕ) → 2 ^ 63 ≤ p → p < 2 ^ 64 - 2 ^ 32 + 2 → lastOf (p
 kept-64 p x lo hi =
     let r : ℕ = p + (2 ^ 31 - 1) + p / 2 ^ 32 % 2 in
     let e : round p 1 x ≡ renormalised (r / 2 ^ 32) (x + 32) = parted p x 32 lo (omega arith) ∙ ap (λ (m : ℕ). renormalised m (x + 32)) (nearest-32 p) in
-    last-high r x (omega arith) (omega arith) ∙ sym (renormalised-same (r / 2 ^ 32) (x + 32) (omega arith)) ∙ sym e
+    last-high r x (omega arith) (omega arith) ∙ sym (renormalised-small (r / 2 ^ 32) (x + 32) (omega arith)) ∙ sym e
 
 -- the digits as the code rounds them
 abbrev pub roundedOf : ℕ → ℕ

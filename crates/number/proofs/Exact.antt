@@ -1,5 +1,5 @@
--- What the code hands to the one rounding: whole numbers by their leading zeros (`integer-long`, `integer-short`), quotients by the order of
--- their mantissas (`quotient-less`, `quotient-more`), products and sums that fit a word, and operands far apart (`sum-far`, `difference-far`).
+-- What the code hands to the one rounding: whole numbers by their leading zeros (`integer-long`, `integer-short`), products and sums that fit a word, and
+-- operands far apart (`sum-far`, `difference-far`). Quotients: `Division`.
 use mathlib.Core.Path.{_≡_, refl, sym, ap, _∙_, subst}
 use mathlib.Core.Logic.{⊎-elim}
 use Prim.Native.Nat.{ℕ, zero, suc, _+_, _-_, _*_, _^_, _≤_, _<_}
@@ -52,15 +52,6 @@ integer-short n x w p l lo hi =
     round-same n 1 x (n * 2 ^ w) 1 (x - w) (32 - w) p (omega arith) (omega arith) (omega (arith, ap (λ (z : ℕ). n * z) e)) (omega arith) (omega arith)
     (omega arith)
 
--- ---- quotients
-pub quotient-less : (a b x : ℕ) → 0 < a → 2 ^ 31 * b ≤ a * 2 ^ 32 → a < b → round a b x ≡ round (a * 2 ^ 32) b (x - 32)
-quotient-less a b x pa lo h =
-    round-same a b x (a * 2 ^ 32) b (x - 32) 0 pa (omega arith) (omega arith) (omega arith) (omega arith) lo (omega arith)
-
-pub quotient-more : (a b x : ℕ) → 0 < b → a < 2 * b → b ≤ a → round a b x ≡ round (a * 2 ^ 31) b (x - 31)
-quotient-more a b x pb hi h =
-    round-same a b x (a * 2 ^ 31) b (x - 31) 1 (omega arith) pb pb (omega arith) (omega arith) (omega arith) (omega arith)
-
 -- ---- what fits a word
 pub sum-fits : (a b d : ℕ) → a < 2 ^ 32 → b < 2 ^ 32 → d ≤ 2 ^ 32 → (a * d < 2 ^ 64) × (a * d + b < 2 ^ 64)
 sum-fits a b d p q t =
@@ -73,8 +64,8 @@ product-fits a b p q = sum-fits a 0 b p (omega arith) (omega arith) .0
 
 -- ---- operands far apart
 -- n has k digits more than 32, and a units of 2 ^ k are nearest to it
-taken : (n j k a : ℕ) → 2 ^ 31 * 2 ^ k ≤ n → n < 2 ^ 32 * 2 ^ k → closest n (2 ^ k) ≡ a → round n 1 j ≡ renormalised a (j + k)
-taken n j k a lo hi c =
+by-units : (n j k a : ℕ) → 2 ^ 31 * 2 ^ k ≤ n → n < 2 ^ 32 * 2 ^ k → closest n (2 ^ k) ≡ a → round n 1 j ≡ renormalised a (j + k)
+by-units n j k a lo hi c =
     let pk : 0 < 2 ^ k = pow-pos k in
     integer-long n j k (omega arith) lo hi ∙ round-normal n (2 ^ k) (j + k) pk lo hi ∙ ap (λ (m : ℕ). renormalised m (j + k)) c
 
@@ -86,7 +77,7 @@ sum-far a b j k h p q =
     let hi : a * 2 ^ k ≤ (2 ^ 32 - 1) * 2 ^ k = mul-le-mul-right (2 ^ k) a' in
     let b' : b < 2 ^ k = omega arith in
     let c : closest (a * 2 ^ k + b) (2 ^ k) ≡ a = rw (Pow.high a k b', Pow.low a k b') (nearest-down a (b * 2) (2 ^ k) h) in
-    taken (a * 2 ^ k + b) j k a (omega arith) (omega arith) c ∙ renormalised-small a (j + k) q
+    by-units (a * 2 ^ k + b) j k a (omega arith) (omega arith) c ∙ renormalised-small a (j + k) q
 
 -- q + 1 units of 2 ^ k less b, where b is less than half a unit
 less-than-half : (q b j k : ℕ) → 0 < b → b * 2 < 2 ^ k → 2 ^ 31 ≤ q → q < 2 ^ 32 → round (q * 2 ^ k + (2 ^ k - b)) 1 j ≡ renormalised (q + 1) (j + k)
@@ -94,7 +85,7 @@ less-than-half q b j k p h lo hi =
     let r : 2 ^ k - b < 2 ^ k = omega arith in
     let q' : q ≤ 2 ^ 32 - 1 = omega arith in
     let c : closest (q * 2 ^ k + (2 ^ k - b)) (2 ^ k) ≡ q + 1 = rw (Pow.high q k r, Pow.low q k r) (nearest-up q ((2 ^ k - b) * 2) (2 ^ k) (omega arith)) in
-    taken (q * 2 ^ k + (2 ^ k - b)) j k (q + 1) (omega (arith, mul-le-mul-right (2 ^ k) lo)) (omega (arith, mul-le-mul-right (2 ^ k) q')) c
+    by-units (q * 2 ^ k + (2 ^ k - b)) j k (q + 1) (omega (arith, mul-le-mul-right (2 ^ k) lo)) (omega (arith, mul-le-mul-right (2 ^ k) q')) c
 
 -- a is not the least mantissa
 far-above : (a b j k : ℕ) → b * 2 < 2 ^ k → 2 ^ 31 < a → a < 2 ^ 32 → 0 < b → round (a * 2 ^ k - b) 1 j ≡ record { m = a; x = j + k }

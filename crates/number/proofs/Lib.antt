@@ -1,7 +1,9 @@
 pub mod Tests
 pub mod Closest
+pub mod Taken
 pub mod Rounding
 pub mod Exact
+pub mod Division
 pub mod Zero
 pub mod Order
 pub mod Signs

@@ -12,9 +12,11 @@ use lib.Dec.{leb}
 use lib.Pow.{pow-pos, pow-add}
 use Rattle.number.proofs.Tests.{both}
 use Rattle.number.proofs.Rounding.{round-represents, round-start, round-stop, round-zero}
+use Rattle.number.proofs.Division.{shift-range, quotient-divided}
 use Rattle.number.proofs.Zero.{sum-is, sum-comm, sum-zero-left, sum-zero-right, product-zero-left, product-zero-right, quotient-zero-left}
 use Rattle.number.proofs.Zero.{round-positive}
 use Rattle.number.proofs.Order.{not-below, difference-is, difference-zero-right}
+use Rattle.number.specs.Direction.{Nearest}
 use Rattle.number.specs.Number.{bias, zeroNumber, oneNumber, round, Ranged, Stored, inRange, sumOf, productOf, quotientOf}
 use Rattle.number.specs.Signed.{integerAt, below, differenceOf}
 use Rattle.number.specs.declared.Number.{Number}
@@ -83,18 +85,17 @@ module _ {r s : ℕ} {a b : Number} (u : Ranged r a) (v : Ranged s b) (small : r
       go (suc i) (suc j) e f =
           spanned (product-spans (omega arith) (omega arith)) (omega (arith, u .start, v .start)) (omega (arith, u .stop, v .stop, u .start, v .start))
 
-  pub quotient-spans : 0 < a .m → 0 < b .m → let x = a .x + bias - b .x in Spans (x - 32) (x - 30) (quotientOf a b)
-  unfolding quotientOf
+  pub quotient-spans : 0 < a .m → 0 < b .m → let x = a .x + bias - b .x in Spans (x - 32) (x - 31) (quotientOf a b)
   quotient-spans p q =
-      let la : 2 ^ 31 ≤ a .m = u .low p in
-      let lb : 2 ^ 31 ≤ b .m = v .low q in
-      let ha : a .m < 2 ^ 32 = u .high in
-      let hb : b .m < 2 ^ 32 = v .high in
-      let x : ℕ = a .x + bias - b .x in
-      let c = round-represents (a .m) (b .m) x p q (omega arith) in
-      let g = round-start (a .m) (b .m) x p q (omega arith) 31 (omega arith) in
-      let h = round-stop (a .m) (b .m) x p q (omega arith) 33 (omega arith) (omega (arith, u .start, v .stop)) in
-      record { low = c .low; high = c .high; start = omega arith; stop = omega arith }
+      let d = quotient-divided u v p q in
+      let f = d .after Nearest in
+      let s = shift-range (a .m) (b .m) in
+      record {
+        low = omega (arith, d .mantissa, f .low);
+        high = omega (arith, d .mantissa, f .high);
+        start = omega (arith, d .exponent, s .1);
+        stop = omega (arith, d .exponent, s .0);
+      }
 
   pub ranged-quotient : 0 < b .m → Ranged (r + s + 32) (quotientOf a b)
   ranged-quotient q = go (a .m) refl

@@ -12,7 +12,9 @@ use lib.Pow.{pow-pos, pow-mono, pow-add}
 use lib.Ieee.{size, nearest}
 use lib.Ieee.Digits.{size-lt, size-le, size-reaches}
 use lib.Ieee.Nearest.{closest, closest-same}
-use Rattle.number.proofs.Closest.{Near, nearest-down, closest-near, closest-range}
+use Rattle.number.proofs.Closest.{Near, nearest-down, closest-near}
+use Rattle.number.proofs.Taken.{taken-between}
+use Rattle.number.specs.Direction.{Nearest}
 use Rattle.number.specs.Number.{zeroNumber, round, renormalised}
 use Rattle.number.specs.declared.Number.{Number}
 
@@ -52,7 +54,7 @@ round-is n d x N D k pn pd pD e lo hi =
 pub round-normal : (n d x : ℕ) → 0 < d → 2 ^ 31 * d ≤ n → n < 2 ^ 32 * d → round n d x ≡ renormalised (closest n d) x
 round-normal n d x p lo hi = round-is n d x n d 32 (omega arith) p p (omega arith) lo hi ∙ ap (renormalised (closest n d)) (omega arith)
 
--- q and r / d: the whole part and the rest, as division gives them
+-- q and r / d: the whole part and the remainder, as division gives them
 pub round-parts : (q r d x : ℕ) → r < d → 2 ^ 31 ≤ q → q < 2 ^ 32 → round (q * d + r) d x ≡ renormalised (nearest q (compare (r * 2) d)) x
 round-parts q r d x h lo hi =
     let p : 0 < d = omega arith in
@@ -137,7 +139,7 @@ module _ (n d x : ℕ) (pn : 0 < n) (pd : 0 < d) (half : d ≤ 2 * n) where
   pub round-represents : Represents (closest (n * 2 ^ 32) (d * 2 ^ k)) (x + k - 32) (round n d x)
   unfolding round
   round-represents =
-      let r = closest-range (n * 2 ^ 32) (d * 2 ^ k) (mul-pos pd (pow-pos k)) scaled-low scaled-high in
+      let r = taken-between Nearest (2 ^ 31) (2 ^ 32) (n * 2 ^ 32) (d * 2 ^ k) (mul-pos pd (pow-pos k)) scaled-low (omega (arith, scaled-high)) in
       rw (ne-eqb n 0 (omega arith)) (renormalised-represents (closest (n * 2 ^ 32) (d * 2 ^ k)) (x + k - 32) (r .0) (r .1))
 
   -- the rounded value over the exact one

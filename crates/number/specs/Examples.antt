@@ -1,7 +1,9 @@
--- Worked examples as rows of a table (`Row`, `AllHold`), and those of numbers (arithmeticTable).
+-- Worked examples as rows of a table (`Row`, `AllHold`), and those of numbers (`arithmeticTable`, `divisionTable`).
 use mathlib.Core.Path.{_≡_}
 use mathlib.Core.List.{List, [], _∷_}
 use Prim.Native.Nat.{ℕ, _+_, _-_, _*_, _^_}
+use Rattle.number.specs.Direction.{Nearest, Up}
+use Rattle.number.specs.Division.{shiftOf, wholeQuotient, roundedQuotient}
 use Rattle.number.specs.Number.{bias, sumOf, productOf, quotientOf}
 use Rattle.number.specs.declared.Number.{Number}
 
@@ -35,4 +37,18 @@ arithmeticTable =
     ∷ row (sumOf (up (2 ^ 32 - 1) 0) (down (2 ^ 31) 32)) (up (2 ^ 31) 1)  -- (2 ^ 32 - 1) + 1 / 2
     ∷ row (productOf (up (2 ^ 32 - 1) 0) (up (2 ^ 32 - 1) 0)) (up 4294967294 32)  -- (2 ^ 32 - 1) squared
     ∷ row (quotientOf (down (2 ^ 31) 31) (down (3 * 2 ^ 30) 30)) (down 2863311531 33)  -- 1 / 3
+    ∷ []
+
+-- the shift of a division, and the whole quotient: before rounding, to nearest, up
+abbrev pub divisionOf : ℕ → ℕ → List ℕ
+divisionOf a b = shiftOf a b ∷ wholeQuotient a b ∷ roundedQuotient Nearest a b ∷ roundedQuotient Up a b ∷ []
+
+-- divisions at the ends of the range, where a comparison, a shift or a rounding that is off by one would leave it
+unfoldable pub divisionTable : List Row
+divisionTable =
+    row (divisionOf (2 ^ 32 - 1) (2 ^ 32 - 1)) (31 ∷ 2147483648 ∷ 2147483648 ∷ 2147483648 ∷ [])  -- equal mantissas
+    ∷ row (divisionOf (2 ^ 32 - 1) (2 ^ 31)) (31 ∷ 4294967295 ∷ 4294967295 ∷ 4294967295 ∷ [])  -- the largest quotient: nothing is left, so up takes no more
+    ∷ row (divisionOf (2 ^ 32 - 2) (2 ^ 32 - 1)) (32 ∷ 4294967294 ∷ 4294967295 ∷ 4294967295 ∷ [])  -- rounded up to the largest
+    ∷ row (divisionOf (2 ^ 31) (2 ^ 32 - 1)) (32 ∷ 2147483648 ∷ 2147483649 ∷ 2147483649 ∷ [])  -- the least dividend over the largest divisor
+    ∷ row (divisionOf (2 ^ 31) (2 ^ 31 + 1)) (32 ∷ 4294967294 ∷ 4294967294 ∷ 4294967295 ∷ [])  -- next to the largest: up takes it, nearest does not
     ∷ []

@@ -1,5 +1,7 @@
 pub mod Number
 pub mod Nearest
+pub mod Direction
+pub mod Division
 pub mod Signed
 pub mod Examples
 pub mod Digits

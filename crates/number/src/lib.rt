@@ -1,10 +1,13 @@
 // Numbers of 32 binary digits: add, multiply and divide give the exact result rounded once, to nearest, ties to even.
-// Each operation brings its exact result to the form n / d at an exponent x. Sums and products are rounded by `kept`, quotients and differences by `round`.
+// Each operation brings its exact result to the form n / d at an exponent x. Sums and products are rounded by `kept`, differences by `round`, quotients by
+// `nearest_whole` alone, since nothing is carried.
 ghost use mathlib.Core.Path.{_≡_};
 ghost use mathlib.Core.Bool.{false, cond};
 ghost use Prim.Native.Nat.{_+_, _-_, _*_, _^_, _≤_, _<_, min};
 ghost use Rattle.number.specs.Number.{zeroNumber, oneNumber, unbiased, renormalised, round, sumOf, productOf, quotientOf, Ranged, reach, exponentOf};
 ghost use Rattle.number.specs.Number.{inRange};
+ghost use Rattle.number.specs.Direction.{Nearest, taken};
+ghost use Rattle.number.specs.Division.{shiftOf, roundedQuotient, FullDigits, Divided};
 ghost use Rattle.number.specs.Signed.{below, differenceOf};
 ghost use Rattle.number.specs.Digits.{unlikeOf, alignedOf};
 
@@ -30,6 +33,21 @@ pub fn unbiased(x: u64) -> i64
     x as i64 - BIAS as i64
 }
 
+// a or b: a select, and no branch.
+fn either(first: bool, a: u64, b: u64) -> u64
+    ensures { λ r. ⌜ r ≡ cond first a b ⌝ }
+{
+    if first { a } else { b }
+}
+
+// q and remainder / d to the nearest whole number, at a tie to the even one: one comparison, since an odd q goes up at a tie too.
+fn nearest_whole(q: u64, remainder: u64, d: u64) -> u64
+    requires { ⌜ (q < 2 ^ 32) × (remainder < d) × (d ≤ 2 ^ 62) ⌝ }
+    ensures { λ r. ⌜ r ≡ taken Nearest q remainder d ⌝ }
+{
+    either(d < remainder * 2 + q % 2, q + 1, q)
+}
+
 // A mantissa that was rounded up to 2^32 is 2^31 one exponent higher.
 fn renormalised(m: u64, x: u64) -> Number
     requires { ⌜ x < 2 ^ 62 ⌝ }
@@ -44,22 +62,12 @@ fn renormalised(m: u64, x: u64) -> Number
     Number { m, x }
 }
 
-// q and rest / d, with 32 digits before the point, to the nearest whole number, at a tie to the even one.
-fn round(q: u64, rest: u64, d: u64, x: u64) -> Number
-    requires { ⌜ (2 ^ 31 ≤ q) × (q < 2 ^ 32) × (rest < d) × (d ≤ 2 ^ 62) × (x < 2 ^ 62) ⌝ }
-    ensures { λ r. ⌜ r ≡ round (q * d + rest) d x ⌝ }
+// q and remainder / d, with 32 digits before the point, to the nearest number.
+fn round(q: u64, remainder: u64, d: u64, x: u64) -> Number
+    requires { ⌜ (2 ^ 31 ≤ q) × (q < 2 ^ 32) × (remainder < d) × (d ≤ 2 ^ 62) × (x < 2 ^ 62) ⌝ }
+    ensures { λ r. ⌜ r ≡ round (q * d + remainder) d x ⌝ }
 {
-    let t = rest * 2;
-    if d < t {
-        return renormalised(q + 1, x);
-    }
-    if t < d {
-        return renormalised(q, x);
-    }
-    if q % 2 == 1 {
-        return renormalised(q + 1, x);
-    }
-    renormalised(q, x)
+    renormalised(nearest_whole(q, remainder, d), x)
 }
 
 pub fn power(k: u64) -> u64
@@ -91,17 +99,18 @@ fn round_integer(n: u64, x: u64) -> Number
     round(n * power(z - 32), 0, 1, x - (z - 32))
 }
 
-// a / b at exponent x. The mantissas are compared first, so that the quotient has 32 digits before the point.
+// a / b at exponent x: the mantissas are compared, the shift is chosen, one division gives the whole quotient, and this is rounded.
+// It has 32 digits before rounding and after it, so nothing is carried.
 fn quotient(a: u64, b: u64, x: u64) -> Number
-    requires { ⌜ (2 ^ 31 ≤ a) × (a < 2 ^ 32) × (2 ^ 31 ≤ b) × (b < 2 ^ 32) × (32 ≤ x) × (x < 2 ^ 61) ⌝ }
-    ensures { λ r. ⌜ r ≡ round a b x ⌝ }
+    requires { ⌜ FullDigits a × FullDigits b × (32 ≤ x) × (x < 2 ^ 61) ⌝ }
+    ensures { λ r. ⌜ r ≡ record { m = roundedQuotient Nearest a b; x = x - shiftOf a b } ⌝ }
 {
-    if a >= b {
-        let n = a * 0x8000_0000;
-        return round(n / b, n % b, b, x - 31);
-    }
-    let n = a * 0x1_0000_0000;
-    round(n / b, n % b, b, x - 32)
+    let s = either(a < b, 32, 31);
+    let y = x - s;
+    let n = a << s;
+    let q = n / b;
+    let m = nearest_whole(q, n - q * b, b);
+    Number { m, x: y }
 }
 
 // p, of 63 or 64 digits, at exponent x, to 32 digits, at a tie to the even mantissa: no branch. Half a unit less one is added, and one more where the last
@@ -122,13 +131,6 @@ fn lower(a: u64, b: u64) -> u64
     ensures { λ r. ⌜ r ≡ min a b ⌝ }
 {
     if a < b { a } else { b }
-}
-
-// a or b: a select, and no branch.
-fn either(first: bool, a: u64, b: u64) -> u64
-    ensures { λ r. ⌜ r ≡ cond first a b ⌝ }
-{
-    if first { a } else { b }
 }
 
 // Whether digits were dropped, as a number.
@@ -245,6 +247,7 @@ impl Number {
     pub fn div(self, other: Number) -> Number
         requires { ⌜ Ranged reach self × Ranged reach other × (0 < other .m) ⌝ }
         ensures { λ r. ⌜ r ≡ quotientOf self other ⌝ }
+        ensures { λ r. ⌜ (0 < self .m → Divided self other r) ⌝ }
     {
         if self.m == 0 {
             return self;

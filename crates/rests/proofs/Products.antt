@@ -97,7 +97,7 @@ module _ (a b : Number) (g : PositivePair a b) where
       let s = quotient-spans (g .first) (g .second) (omega arith) (g .first-positive) (g .second-positive) in
       omega (arith, s .start, g .first .start, g .second .stop)
 
-  pub quotient-stop : c .x + b .x + 30 ≤ a .x + bias
+  pub quotient-stop : c .x + b .x + 31 ≤ a .x + bias
   quotient-stop =
       let s = quotient-spans (g .first) (g .second) (omega arith) (g .first-positive) (g .second-positive) in
       omega (arith, s .stop, g .first .start, g .second .stop)
@@ -105,7 +105,7 @@ module _ (a b : Number) (g : PositivePair a b) where
   pub quotient-under : bias ≤ c .x + b .x
   quotient-under = omega (arith, quotient-start, g .first .start)
 
-  pub quotient-shift : (v + 30 ≤ a .x) × (a .x ≤ v + 32)
+  pub quotient-shift : (v + 31 ≤ a .x) × (a .x ≤ v + 32)
   quotient-shift = (omega (arith, quotient-stop, quotient-under), omega (arith, quotient-start, quotient-under))
 
   dividend-places : integerAt v a * 2 ^ v ≡ a .m * 2 ^ a .x

@@ -1,79 +1,69 @@
--- `quotient` meets its contract: the compared mantissas give 32 digits before the point.
-use mathlib.Core.Path.{sym, ap, _∙_}
-use Prim.Native.Nat.{ℕ, _-_, _*_, _/_, _%_, _^_, _≤_, _<_}
-use native.Mathlib.Nat.{div-add-mod', mod-lt, le-div-iff-mul-le, div-lt-iff-lt-mul}
+-- `quotient` meets its contract: the select is the shift, the shifted dividend is a word, and one division leaves the remainder.
+use mathlib.Core.Path.{_≡_, ap, ap₂, _∙_}
+use Prim.Native.Nat.{ℕ, _+_, _-_, _*_, _/_, _%_, _^_, _<_}
+use native.Mathlib.Nat.{mod-eq-of-lt, mod-lt, div-add-mod'}
 use native.Mathlib.Omega.{arith}
 use borrow.Author.Needs.{needs}
-use Rattle.number.specs.Number.{round}
-use Rattle.number.proofs.Exact.{quotient-less, quotient-more}
+use Rattle.number.proofs.Division.{shift-range, shifted-high, quotient-full}
+use Rattle.number.specs.Direction.{Nearest, Down, taken}
+use Rattle.number.specs.Division.{shifted}
 use Rattle.number.proofs.quotient.Statement.{statement}
 use Rattle.number.proofs.quotient.Tie as tie
 
--- the whole part and the rest that the one rounding takes
-digits : (n b : ℕ) → 0 < b → 2 ^ 31 * b ≤ n → n < 2 ^ 32 * b → (2 ^ 31 ≤ n / b) × (n / b < 2 ^ 32) × (n % b < b)
-digits n b p l h = (le-div-iff-mul-le p .1 l, div-lt-iff-lt-mul p .1 h, mod-lt n p)
+-- the shifted dividend is a word
+fits : (c : tie.After-either) → shifted (c .before .args .a) (c .before .args .b) < 2 ^ 64
+fits c =
+    let s = c .before in
+    omega (arith, shifted-high (s .args .a) (s .args .b) (s .pre .0) (s .pre .1))
 
-mul-n : tie.Need-mul-n
-mul-n c = search needs
+-- and is what the code shifts
+word : (c : tie.After-either) → let a = c .before .args .a in a * 2 ^ c .either .result % 2 ^ 64 ≡ shifted a (c .before .args .b)
+word c = let a = c .before .args .a in ap (λ (s : ℕ). a * 2 ^ s % 2 ^ 64) (c .either .ensures) ∙ mod-eq-of-lt (fits c)
 
-div-round : tie.Need-div-round
-div-round c = search needs
+-- the one division
+whole : (c : tie.After-either) → let b = c .before .args .b in let n = shifted (c .before .args .a) b in n / b * b + n % b ≡ n
+whole c = let b = c .before .args .b in div-add-mod' (shifted (c .before .args .a) b) b
 
-rem-round : tie.Need-rem-round
-rem-round c = search needs
+either-requires : tie.Need-either-requires
+either-requires c κs = search needs
 
-sub-round : tie.Need-sub-round
-sub-round c = search needs
+sub-y : tie.Need-sub-y
+sub-y c = rw (c .either .ensures) (omega (arith, shift-range (c .before .args .a) (c .before .args .b)))
 
-round-requires : tie.Need-round-requires
-round-requires c κs =
-    let a = c .before .args in
-    let g = digits (a .a * 2147483648) (a .b) (omega arith) (omega arith) (omega arith) in
-    (g .0, g .1, g .2, omega arith, omega arith)
+shl-n : tie.Need-shl-n
+shl-n c = rw (c .either .ensures) (omega (arith, shift-range (c .before .args .a) (c .before .args .b)))
+
+div-q : tie.Need-div-q
+div-q c = search needs
+
+mul-nearest-whole : tie.Need-mul-nearest-whole
+mul-nearest-whole c = rw (word c) (omega (arith, whole c, fits c))
+
+sub-nearest-whole : tie.Need-sub-nearest-whole
+sub-nearest-whole c = rw (word c) (omega (arith, whole c))
+
+nearest-whole-requires : tie.Need-nearest-whole-requires
+nearest-whole-requires c κs =
+    let s = c .before in
+    let q = quotient-full (s .args .a) (s .args .b) (s .pre .0) (s .pre .1) Down in
+    rw (word c) (omega (arith, q .high, whole c, mod-lt (shifted (s .args .a) (s .args .b)) {m = s .args .b} (omega arith)))
 
 returns : tie.Need-returns
 returns c =
-    let a = c .before .before .args in
-    c .round .ensures ∙ ap (λ (n : ℕ). round n (a .b) (a .x - 31)) (div-add-mod' (a .a * 2147483648) (a .b))
-    ∙ sym (quotient-more (a .a) (a .b) (a .x) (omega arith) (omega arith) (c .before .if1 .taken))
-
-mul-n-2 : tie.Need-mul-n-2
-mul-n-2 c = search needs
-
-div-round-2 : tie.Need-div-round-2
-div-round-2 c = search needs
-
-rem-round-2 : tie.Need-rem-round-2
-rem-round-2 c = search needs
-
-sub-round-2 : tie.Need-sub-round-2
-sub-round-2 c = search needs
-
-round-requires-2 : tie.Need-round-requires-2
-round-requires-2 c κs =
-    let a = c .before .args in
-    let g = digits (a .a * 4294967296) (a .b) (omega arith) (omega arith) (omega (arith, c .if1 .left)) in
-    (g .0, g .1, g .2, omega arith, omega arith)
-
-returns-2 : tie.Need-returns-2
-returns-2 c =
-    let a = c .before .before .args in
-    c .round2 .ensures ∙ ap (λ (n : ℕ). round n (a .b) (a .x - 32)) (div-add-mod' (a .a * 4294967296) (a .b))
-    ∙ sym (quotient-less (a .a) (a .b) (a .x) (omega arith) (omega arith) (c .before .if1 .left))
+    let s = c .before .before in
+    let b = s .args .b in
+    let e = c .nearest-whole .ensures ∙ ap (λ (n : ℕ). taken Nearest (n / b) (n - n / b * b) b) (word (c .before)) in
+    ap₂ (λ (m k : ℕ). record { m = m; x = s .args .x - k }) e (c .before .either .ensures)
 
 pub quotient-spec : {M : Type 1} → statement M
 quotient-spec =
     tie.close
     (tie.spec
-    mul-n
-    div-round
-    rem-round
-    sub-round
-    round-requires
-    returns
-    mul-n-2
-    div-round-2
-    rem-round-2
-    sub-round-2
-    round-requires-2
-    returns-2)
+    either-requires
+    sub-y
+    shl-n
+    div-q
+    mul-nearest-whole
+    sub-nearest-whole
+    nearest-whole-requires
+    returns)

@@ -46,7 +46,7 @@ round-requires c κs =
     let s = c .before .before in
     rw (c .power .ensures) (omega (arith, zeros-short (s .args .n) (s .pre .0) (s .fits .n .fits) (c .before .if1 .left)))
 
--- a whole number has no rest
+-- a whole number leaves no remainder
 joined : (k : ℕ) → k * 1 + 0 ≡ k
 joined k = omega arith
 

@@ -1,4 +1,4 @@
--- `round_long` meets its contract: the digits that a shift leaves, and the rest.
+-- `round_long` meets its contract: the digits that a shift leaves, and the remainder.
 use mathlib.Core.Path.{_≡_, ap, _∙_}
 use Prim.Native.Nat.{ℕ, _+_, _-_, _*_, _/_, _%_, _^_, _≤_, _<_}
 use native.Mathlib.Nat.{div-add-mod', mod-lt, le-div-iff-mul-le, div-lt-iff-lt-mul}
@@ -9,16 +9,21 @@ use Rattle.number.specs.Number.{round}
 use Rattle.number.proofs.round_long.Statement.{statement}
 use Rattle.number.proofs.round_long.Tie as tie
 
--- n = q 2 ^ w + rest, with 32 digits in q
+-- n = q 2 ^ w + remainder, with 32 digits in q
 record Parts (n w : ℕ) : Type 0 where
   whole : n / 2 ^ w * 2 ^ w + n % 2 ^ w ≡ n
-  rest : n % 2 ^ w < 2 ^ w
+  remainder : n % 2 ^ w < 2 ^ w
   low : 2 ^ 31 ≤ n / 2 ^ w
   high : n / 2 ^ w < 2 ^ 32
 
 parts : (n w : ℕ) → 2 ^ 31 * 2 ^ w ≤ n → n < 2 ^ 32 * 2 ^ w → Parts n w
 parts n w l h =
-    record { whole = div-add-mod' n (2 ^ w); rest = mod-lt n (pow-pos w); low = le-div-iff-mul-le (pow-pos w) .1 l; high = div-lt-iff-lt-mul (pow-pos w) .1 h }
+    record {
+      whole = div-add-mod' n (2 ^ w);
+      remainder = mod-lt n (pow-pos w);
+      low = le-div-iff-mul-le (pow-pos w) .1 l;
+      high = div-lt-iff-lt-mul (pow-pos w) .1 h;
+    }
 
 power-requires : tie.Need-power-requires
 power-requires c κs = search needs
@@ -44,7 +49,7 @@ round-requires : tie.Need-round-requires
 round-requires c κs =
     let s = c .before in
     let g = parts (s .args .n) (s .args .w) (s .pre .1) (s .pre .2) in
-    rw (c .power .ensures) (omega (arith, g .whole, g .rest, g .low, g .high, pow-mono {i = s .args .w} {j = 32} (s .pre .0)))
+    rw (c .power .ensures) (omega (arith, g .whole, g .remainder, g .low, g .high, pow-mono {i = s .args .w} {j = 32} (s .pre .0)))
 
 returns : tie.Need-returns
 returns c =

@@ -24,31 +24,31 @@ div-requires c κs = search needs
 add-x : tie.Need-add-x
 add-x c =
     let t = first c in
-    rw (t .div .ensures) (omega (arith, quotient-stop _ _ (t .before .pre), t .before .pre .first .stop))
+    rw (t .div .ensures .0) (omega (arith, quotient-stop _ _ (t .before .pre), t .before .pre .first .stop))
 
 sub-x : tie.Need-sub-x
-sub-x c = rw (first c .div .ensures) (quotient-under _ _ (first c .before .pre))
+sub-x c = rw (first c .div .ensures .0) (quotient-under _ _ (first c .before .pre))
 
 sub-power : tie.Need-sub-power
-sub-power c = rw (point c .div .ensures) (omega (arith, quotient-shift _ _ (point c .before .pre) .0))
+sub-power c = rw (point c .div .ensures .0) (omega (arith, quotient-shift _ _ (point c .before .pre) .0))
 
 power-requires : tie.Need-power-requires
-power-requires c κs = rw (point c .div .ensures) (omega (arith, quotient-shift _ _ (point c .before .pre) .1))
+power-requires c κs = rw (point c .div .ensures .0) (omega (arith, quotient-shift _ _ (point c .before .pre) .1))
 
 mul-difference : tie.Need-mul-difference
 mul-difference c =
     let t = point (c .before .before) in
-    rw (c .before .power .ensures, t .div .ensures) (omega (arith, dividend-fits _ _ (t .before .pre)))
+    rw (c .before .power .ensures, t .div .ensures .0) (omega (arith, dividend-fits _ _ (t .before .pre)))
 
 mul-difference-2 : tie.Need-mul-difference-2
 mul-difference-2 c =
     let t = point (c .before .before .before .before) in
-    rw (t .div .ensures) (omega (arith, divisor-fits _ _ (t .before .pre)))
+    rw (t .div .ensures .0) (omega (arith, divisor-fits _ _ (t .before .pre)))
 
 difference-requires : tie.Need-difference-requires
 difference-requires c κs =
     let t = point (c .before .before .before .before) in
-    rw (t .div .ensures) (omega (arith, quotient-stop _ _ (t .before .pre), t .before .pre .first .stop))
+    rw (t .div .ensures .0) (omega (arith, quotient-stop _ _ (t .before .pre), t .before .pre .first .stop))
 
 returns : tie.Need-returns
 unfolding quotientRest
@@ -57,10 +57,10 @@ returns c =
     let t = point (p .before) in
     let a = t .before .args .a in
     let b = t .before .args .b in
-    ap₂ (λ (n : Number) (t : Rest). record { number = n; rest = t }) (t .div .ensures)
+    ap₂ (λ (n : Number) (t : Rest). record { number = n; rest = t }) (t .div .ensures .0)
     (c .difference .ensures
     ∙ ap (λ (u : ℕ). let x = t .div .result .x + b .x - bias in restOf (a .m * u) (t .div .result .m * b .m) x) (p .power .ensures)
-    ∙ ap (λ (n : Number). let x = n .x + b .x - bias in restOf (a .m * 2 ^ (a .x - x)) (n .m * b .m) x) (t .div .ensures))
+    ∙ ap (λ (n : Number). let x = n .x + b .x - bias in restOf (a .m * 2 ^ (a .x - x)) (n .m * b .m) x) (t .div .ensures .0))
 
 pub divide-spec : {M : Type 1} → statement M
 divide-spec =

@@ -13,7 +13,7 @@ mul-requires : tie.Need-mul-requires
 mul-requires c κs = search needs
 
 returns : tie.Need-returns
-returns c = c .div .ensures ∙ ap (λ (b : Bool). scaling b (c .before .before .args .x) (c .before .before .args .e)) (sym (c .before .if1 .taken))
+returns c = c .div .ensures .0 ∙ ap (λ (b : Bool). scaling b (c .before .before .args .x) (c .before .before .args .e)) (sym (c .before .if1 .taken))
 
 returns-2 : tie.Need-returns-2
 returns-2 c = c .mul .ensures ∙ ap (λ (b : Bool). scaling b (c .before .before .args .x) (c .before .before .args .e)) (sym (c .before .if1 .left))

@@ -80,7 +80,7 @@ returns c =
     below-answer (sizeOf (a .self)) (a .i) (a .j) (turnedBy (a .turned) (chosenMinor (a .self) (a .sources .now))) (p .1) (p .2) (p .3)
     (c .before .before .before .before .before .before .run-minor .ensures .0) (c .before .before .before .before .before .run-minor2 .ensures .0)
     (c .before .before .before .before .run-minor3 .ensures .0) (c .before .before .before .run-minor4 .ensures .0)
-    (c .before .before .mul .ensures) (c .before .mul2 .ensures) (c .div .ensures)
+    (c .before .before .mul .ensures) (c .before .mul2 .ensures) (c .div .ensures .0)
 
 pub off-diagonal-spec : {M : Type 1} → statement M
 off-diagonal-spec =

@@ -24,7 +24,7 @@ div-requires c κs = let v = c .run-minor2 .ensures .1 in (usable-reach (c .befo
 
 returns : tie.Need-returns
 unfolding onDiagonal
-returns c = c .div .ensures ∙ ap₂ quotientOf (c .before .before .run-minor .ensures .0) (c .before .run-minor2 .ensures .0)
+returns c = c .div .ensures .0 ∙ ap₂ quotientOf (c .before .before .run-minor .ensures .0) (c .before .run-minor2 .ensures .0)
 
 pub on-diagonal-spec : {M : Type 1} → statement M
 on-diagonal-spec =

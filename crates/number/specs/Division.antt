@@ -1,0 +1,41 @@
+-- Document 02 (d): the mantissas are compared, the shift is chosen, one division gives the whole quotient and the remainder, and these are rounded.
+use Prim.Native.Nat.{ℕ, _+_, _-_, _*_, _/_, _^_, _≤_}
+use mathlib.Core.Path.{_≡_}
+use mathlib.Core.Bool.{cond}
+use lib.Dec.{ltb}
+use Rattle.number.specs.Direction.{Direction, Nearest, taken}
+use Rattle.number.specs.Number.{bias}
+use Rattle.number.specs.declared.Number.{Number}
+
+-- by how many places the dividend a is shifted: 32 where it is the smaller mantissa, else 31
+abbrev pub shiftOf : ℕ → ℕ → ℕ
+shiftOf a b = cond (ltb a b) 32 31
+
+-- the dividend, shifted
+abbrev pub shifted : ℕ → ℕ → ℕ
+shifted a b = a * 2 ^ shiftOf a b
+
+-- the whole quotient before rounding
+abbrev pub wholeQuotient : ℕ → ℕ → ℕ
+wholeQuotient a b = shifted a b / b
+
+-- the remainder: the shifted dividend less whole quotient times divisor
+abbrev pub remainder : ℕ → ℕ → ℕ
+remainder a b = shifted a b - wholeQuotient a b * b
+
+-- the whole quotient after rounding
+abbrev pub roundedQuotient : Direction → ℕ → ℕ → ℕ
+roundedQuotient w a b = taken w (wholeQuotient a b) (remainder a b) b
+
+-- from 2 ^ 31 to 2 ^ 32 - 1
+pub record FullDigits (q : ℕ) : Type 0 where
+  pub low : 2 ^ 31 ≤ q
+  pub high : q ≤ 2 ^ 32 - 1
+
+-- r is the quotient of the positive numbers a and b: the whole quotient has 32 digits before rounding and after it, whatever the direction; rounded to
+-- nearest it is r's mantissa as it stands, and nothing is carried
+pub record Divided (a b r : Number) : Type 0 where
+  pub before : FullDigits (wholeQuotient (a .m) (b .m))
+  pub after : (w : Direction) → FullDigits (roundedQuotient w (a .m) (b .m))
+  pub mantissa : r .m ≡ roundedQuotient Nearest (a .m) (b .m)
+  pub exponent : r .x ≡ a .x + bias - b .x - shiftOf (a .m) (b .m)
