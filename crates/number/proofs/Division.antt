@@ -1,6 +1,6 @@
 -- Division as document 02 (d) orders it. The shift that the compared mantissas choose brings the exact quotient between 2 ^ 31 and 2 ^ 32 - 1
 -- (`shifted-low`, `shifted-high`). Both are whole numbers, so rounding in any direction leaves it there (`quotient-full`), and what it takes is the
--- result's mantissa as it stands (`quotient-is`). So every quotient of positive numbers keeps the promise (`quotient-divided`).
+-- result's mantissa as it stands (`quotient-is`, of numbers `quotient-at`). So every quotient of positive numbers keeps the promise (`quotient-divided`).
 use mathlib.Core.Path.{_≡_, refl, sym, ap, ap₂, _∙_, subst}
 use mathlib.Core.Bool.{Bool, true, false, cond}
 use Prim.Native.Nat.{ℕ, _+_, _-_, _*_, _/_, _%_, _^_, _≤_, _<_}
@@ -11,8 +11,8 @@ use lib.Dec.{ltb}
 use Rattle.number.proofs.Taken.{taken-between}
 use Rattle.number.proofs.Rounding.{round-is, renormalised-small}
 use Rattle.number.specs.Direction.{Direction, Nearest, Down, taken}
-use Rattle.number.specs.Division.{shiftOf, shifted, remainder, roundedQuotient, FullDigits, Divided}
-use Rattle.number.specs.Number.{bias, round, renormalised, quotientOf, Ranged}
+use Rattle.number.specs.Division.{shiftOf, shifted, remainder, roundedQuotient, Divided}
+use Rattle.number.specs.Number.{bias, round, renormalised, quotientOf, FullDigits, Ranged}
 use Rattle.number.specs.declared.Number.{Number}
 
 -- what holds of 32 where a is the smaller mantissa, and of 31 where it is not, holds of the shift
@@ -46,10 +46,10 @@ module _ (a b : ℕ) (f : FullDigits a) (g : FullDigits b) where
   pub quotient-full : (w : Direction) → FullDigits (roundedQuotient w a b)
   quotient-full w =
       let t = taken-between w (2 ^ 31) (2 ^ 32 - 1) n b positive shifted-low shifted-high in
-      subst (λ (r : ℕ). FullDigits (taken w (n / b) r b)) (sym remainder-is) (record { low = t .0; high = t .1 })
+      subst (λ (r : ℕ). FullDigits (taken w (n / b) r b)) (sym remainder-is) (record { low = t .0; high = omega arith })
 
   -- n / b at an exponent lower by the shift is the same fraction, with 32 digits before the point
-  pub quotient-is : (x : ℕ) → round a b x ≡ record { m = roundedQuotient Nearest a b; x = x - shiftOf a b }
+  quotient-is : (x : ℕ) → round a b x ≡ record { m = roundedQuotient Nearest a b; x = x - shiftOf a b }
   quotient-is x =
       let k : ℕ = 32 - shiftOf a b in
       let places : 2 ^ shiftOf a b * 2 ^ k ≡ 2 ^ 32 = by-order a b (λ s. 2 ^ s * 2 ^ (32 - s) ≡ 2 ^ 32) (λ h. refl) (λ h. refl) in
@@ -57,15 +57,18 @@ module _ (a b : ℕ) (f : FullDigits a) (g : FullDigits b) where
       let y : x + k - 32 ≡ x - shiftOf a b = omega (arith, shift-range a b) in
       round-is a b x n b k (omega (arith, f .low)) positive positive same shifted-low (omega (arith, positive, shifted-high))
       ∙ ap₂ (λ (r z : ℕ). renormalised (taken Nearest (n / b) r b) z) (sym remainder-is) y
-      ∙ renormalised-small (roundedQuotient Nearest a b) (x - shiftOf a b) (omega (arith, quotient-full Nearest .high))
+      ∙ renormalised-small (roundedQuotient Nearest a b) (x - shiftOf a b) (quotient-full Nearest .high)
 
 -- two positive numbers
 pub mantissa-full : {r : ℕ} {a : Number} → Ranged r a → 0 < a .m → FullDigits (a .m)
-mantissa-full u p = record { low = u .low p; high = omega (arith, u .high) }
+mantissa-full u p = record { low = u .low p; high = u .high }
 
-pub quotient-divided : {r s : ℕ} {a b : Number} → Ranged r a → Ranged s b → 0 < a .m → 0 < b .m → Divided a b (quotientOf a b)
-unfolding quotientOf
-quotient-divided {r} {s} {a} {b} u v p q =
-    let full = quotient-full (a .m) (b .m) (mantissa-full u p) (mantissa-full v q) in
-    let e = quotient-is (a .m) (b .m) (mantissa-full u p) (mantissa-full v q) (a .x + bias - b .x) in
-    record { before = full Down; after = full; mantissa = ap (λ (c : Number). c .m) e; exponent = ap (λ (c : Number). c .x) e }
+module _ {r s : ℕ} {a b : Number} (u : Ranged r a) (v : Ranged s b) (p : 0 < a .m) (q : 0 < b .m) where
+  pub quotient-at : quotientOf a b ≡ record { m = roundedQuotient Nearest (a .m) (b .m); x = a .x + bias - b .x - shiftOf (a .m) (b .m) }
+  unfolding quotientOf
+  quotient-at = quotient-is (a .m) (b .m) (mantissa-full u p) (mantissa-full v q) (a .x + bias - b .x)
+
+  pub quotient-divided : Divided a b (quotientOf a b)
+  quotient-divided =
+      let full = quotient-full (a .m) (b .m) (mantissa-full u p) (mantissa-full v q) in
+      record { before = full Down; after = full; mantissa = ap (λ (c : Number). c .m) quotient-at; exponent = ap (λ (c : Number). c .x) quotient-at }

@@ -1,10 +1,10 @@
 -- Document 02 (d): the mantissas are compared, the shift is chosen, one division gives the whole quotient and the remainder, and these are rounded.
-use Prim.Native.Nat.{ℕ, _+_, _-_, _*_, _/_, _^_, _≤_}
+use Prim.Native.Nat.{ℕ, _+_, _-_, _*_, _/_, _^_}
 use mathlib.Core.Path.{_≡_}
 use mathlib.Core.Bool.{cond}
 use lib.Dec.{ltb}
 use Rattle.number.specs.Direction.{Direction, Nearest, taken}
-use Rattle.number.specs.Number.{bias}
+use Rattle.number.specs.Number.{bias, FullDigits}
 use Rattle.number.specs.declared.Number.{Number}
 
 -- by how many places the dividend a is shifted: 32 where it is the smaller mantissa, else 31
@@ -26,11 +26,6 @@ remainder a b = shifted a b - wholeQuotient a b * b
 -- the whole quotient after rounding
 abbrev pub roundedQuotient : Direction → ℕ → ℕ → ℕ
 roundedQuotient w a b = taken w (wholeQuotient a b) (remainder a b) b
-
--- from 2 ^ 31 to 2 ^ 32 - 1
-pub record FullDigits (q : ℕ) : Type 0 where
-  pub low : 2 ^ 31 ≤ q
-  pub high : q ≤ 2 ^ 32 - 1
 
 -- r is the quotient of the positive numbers a and b: the whole quotient has 32 digits before rounding and after it, whatever the direction; rounded to
 -- nearest it is r's mantissa as it stands, and nothing is carried

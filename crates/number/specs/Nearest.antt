@@ -4,7 +4,7 @@ use Prim.Native.Nat.{ℕ, _+_, _-_, _*_, _%_, _^_, _≤_, _<_}
 use native.Mathlib.Nat.{mul-pos}
 use lib.Pow.{pow-pos}
 use Rattle.fraction.specs.Fraction.{Fraction, Same}
-use Rattle.number.specs.Number.{bias, value}
+use Rattle.number.specs.Number.{bias, value, FullDigits}
 use Rattle.number.specs.declared.Number.{Number}
 
 -- the distance of two whole numbers
@@ -29,6 +29,5 @@ pub record Nearest (q : Fraction) (r : Number) : Type 0 where
   pub even : (m i j : ℕ) → m < 2 ^ 32 → AtLeastAsNear q (float m i j) (value r) → (Same (float m i j) (value r) → ⊥) → r .m % 2 ≡ 0
 
 -- a mantissa of 32 bits
-pub record Normal (a : Number) : Type 0 where
-  pub low : 2 ^ 31 ≤ a .m
-  pub high : a .m < 2 ^ 32
+abbrev pub Normal : Number → Type 0
+Normal a = FullDigits (a .m)

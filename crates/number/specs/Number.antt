@@ -65,6 +65,11 @@ exponentOf a = unbiased (a .x)
 unfoldable pub value : Number → Fraction
 value a = record { top = a .m * 2 ^ (a .x - bias); low = 2 ^ (bias - a .x); above-zero = pow-pos (bias - a .x) }
 
+-- a whole number of 32 binary digits: from 2 ^ 31 to 2 ^ 32 - 1
+pub record FullDigits (m : ℕ) : Type 0 where
+  pub low : 2 ^ 31 ≤ m
+  pub high : m < 2 ^ 32
+
 -- zero, or a mantissa of 32 bits, at an exponent from -r to r
 pub record Ranged (r : ℕ) (a : Number) : Type 0 where
   pub zero : a .m ≡ 0 → a .x ≡ bias

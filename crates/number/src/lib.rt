@@ -5,9 +5,9 @@ ghost use mathlib.Core.Path.{_≡_};
 ghost use mathlib.Core.Bool.{false, cond};
 ghost use Prim.Native.Nat.{_+_, _-_, _*_, _^_, _≤_, _<_, min};
 ghost use Rattle.number.specs.Number.{zeroNumber, oneNumber, unbiased, renormalised, round, sumOf, productOf, quotientOf, Ranged, reach, exponentOf};
-ghost use Rattle.number.specs.Number.{inRange};
+ghost use Rattle.number.specs.Number.{inRange, FullDigits};
 ghost use Rattle.number.specs.Direction.{Nearest, taken};
-ghost use Rattle.number.specs.Division.{shiftOf, roundedQuotient, FullDigits, Divided};
+ghost use Rattle.number.specs.Division.{shiftOf, roundedQuotient, Divided};
 ghost use Rattle.number.specs.Signed.{below, differenceOf};
 ghost use Rattle.number.specs.Digits.{unlikeOf, alignedOf};
 

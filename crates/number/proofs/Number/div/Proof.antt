@@ -2,10 +2,9 @@
 use mathlib.Core.Path.{sym, _∙_, subst}
 use native.Mathlib.Omega.{arith}
 use borrow.Author.Needs.{needs}
-use Rattle.number.proofs.Division.{mantissa-full, quotient-is, quotient-divided}
+use Rattle.number.proofs.Division.{mantissa-full, quotient-at, quotient-divided}
 use Rattle.number.proofs.Zero.{zero-is, quotient-zero-left}
 use Rattle.number.specs.Division.{Divided}
-use Rattle.number.specs.Number.{quotientOf}
 use Rattle.number.proofs.Number.div.Statement.{statement}
 use Rattle.number.proofs.Number.div.Tie as tie
 
@@ -26,10 +25,9 @@ quotient-requires c κs =
     (mantissa-full (b .pre .0) (omega arith), mantissa-full (b .pre .1) (b .pre .2), omega arith, omega arith)
 
 returns-2 : tie.Need-returns-2
-unfolding quotientOf
 returns-2 c =
     let b = c .before .before .before .before .before in
-    let e = c .quotient .ensures ∙ sym (quotient-is _ _ (mantissa-full (b .pre .0) (omega arith)) (mantissa-full (b .pre .1) (b .pre .2)) _) in
+    let e = c .quotient .ensures ∙ sym (quotient-at (b .pre .0) (b .pre .1) (omega arith) (b .pre .2)) in
     (e, λ h. subst (Divided (b .args .self) (b .args .other)) (sym e) (quotient-divided (b .pre .0) (b .pre .1) h (b .pre .2)))
 
 pub div-spec : {M : Type 1} → statement M
