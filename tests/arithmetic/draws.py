@@ -71,9 +71,9 @@ def near_quotient(r):
 
 
 def equal_mantissas(r):
-    """Equal mantissas, or one apart either way: a dividend that is less is shifted by one place more."""
+    """Equal mantissas, or one or two apart either way: a dividend that is less is shifted by one place more."""
     n = mantissa(r)
-    return (1, within(n + r.randrange(-1, 2)), exponent(r)), (1, n, exponent(r))
+    return (1, within(n + r.randrange(-2, 3)), exponent(r)), (1, n, exponent(r))
 
 
 def end_quotient(r):

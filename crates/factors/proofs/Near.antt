@@ -53,7 +53,7 @@ pub near-quotient : {j k r s : ℕ} {x x′ : Number} {y y′ : Fraction} → Ne
 near-quotient {j} {k} {r} {s} {x} {x′} u v p h =
     let m : 0 < x′ .m = near-positive v p in
     record {
-      ranged = ranged-quotient (u .ranged) (v .ranged) h m;
+      ranged = ranged-quotient (u .ranged) (v .ranged) m;
       within =
           within-mono (omega arith) (within-trans (quotient-within (u .ranged) (v .ranged) h m) (within-div (u .within) (v .within) (value-positive x′ .0 m)));
     }

@@ -58,7 +58,28 @@ in-range-stored {r} {a} u p e =
     let t = both (leb bias (a .x + 1000)) (leb (a .x) (bias + 1000)) e in
     record { low = u .low p; high = u .high; start = leb-true bias (a .x + 1000) (t .0); stop = leb-true (a .x) (bias + 1000) (t .1) }
 
--- ---- products and quotients
+-- ---- quotients: the whole quotient is shifted by 31 places or 32
+module _ {r s : ℕ} {a b : Number} (u : Ranged r a) (v : Ranged s b) where
+  pub quotient-spans : 0 < a .m → 0 < b .m → let x = a .x + bias - b .x in Spans (x - 32) (x - 31) (quotientOf a b)
+  quotient-spans p q =
+      let d = quotient-divided u v p q in
+      let f = d .after Nearest in
+      let s = shift-range (a .m) (b .m) in
+      record {
+        low = omega (arith, d .mantissa, f .low);
+        high = omega (arith, d .mantissa, f .high);
+        start = omega (arith, d .exponent, s .1);
+        stop = omega (arith, d .exponent, s .0);
+      }
+
+  pub ranged-quotient : 0 < b .m → Ranged (r + s + 32) (quotientOf a b)
+  ranged-quotient q = go (a .m) refl
+    where
+      go : (i : ℕ) → a .m ≡ i → Ranged (r + s + 32) (quotientOf a b)
+      go zero e = subst (Ranged (r + s + 32)) (sym (quotient-zero-left a b e)) (ranged-zero (r + s + 32))
+      go (suc i) e = spanned (quotient-spans (omega arith) q) (omega (arith, u .start, v .stop)) (omega (arith, u .stop, v .start))
+
+-- ---- products
 module _ {r s : ℕ} {a b : Number} (u : Ranged r a) (v : Ranged s b) (small : r + s + 64 ≤ bias) where
   pub product-spans : 0 < a .m → 0 < b .m → let x = a .x + b .x - bias in Spans (x + 31) (x + 33) (productOf a b)
   unfolding productOf
@@ -84,25 +105,6 @@ module _ {r s : ℕ} {a b : Number} (u : Ranged r a) (v : Ranged s b) (small : r
       go (suc i) zero e f = subst (Ranged (r + s + 33)) (sym (product-zero-right a b f)) (ranged-zero (r + s + 33))
       go (suc i) (suc j) e f =
           spanned (product-spans (omega arith) (omega arith)) (omega (arith, u .start, v .start)) (omega (arith, u .stop, v .stop, u .start, v .start))
-
-  pub quotient-spans : 0 < a .m → 0 < b .m → let x = a .x + bias - b .x in Spans (x - 32) (x - 31) (quotientOf a b)
-  quotient-spans p q =
-      let d = quotient-divided u v p q in
-      let f = d .after Nearest in
-      let s = shift-range (a .m) (b .m) in
-      record {
-        low = omega (arith, d .mantissa, f .low);
-        high = omega (arith, d .mantissa, f .high);
-        start = omega (arith, d .exponent, s .1);
-        stop = omega (arith, d .exponent, s .0);
-      }
-
-  pub ranged-quotient : 0 < b .m → Ranged (r + s + 32) (quotientOf a b)
-  ranged-quotient q = go (a .m) refl
-    where
-      go : (i : ℕ) → a .m ≡ i → Ranged (r + s + 32) (quotientOf a b)
-      go zero e = subst (Ranged (r + s + 32)) (sym (quotient-zero-left a b e)) (ranged-zero (r + s + 32))
-      go (suc i) e = spanned (quotient-spans (omega arith) q) (omega (arith, u .start, v .stop)) (omega (arith, u .stop, v .start))
 
 -- ---- sums
 -- the lower exponent second

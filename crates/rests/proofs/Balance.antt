@@ -156,4 +156,4 @@ pub rounded-small : (o : Operator) (a b : Number) → PositivePair a b → Small
 rounded-small Add a b g = small (sumRounded a b) _ _ (sum-works a b g) (omega (arith, ranged-sum (g .first) (g .second) (omega arith) .stop))
 rounded-small Multiply a b g = small (productRounded a b) _ _ (product-works a b g) (omega (arith, ranged-product (g .first) (g .second) (omega arith) .stop))
 rounded-small Divide a b g =
-    small (quotientRounded a b) _ _ (quotient-works a b g) (omega (arith, ranged-quotient (g .first) (g .second) (omega arith) (g .second-positive) .stop))
+    small (quotientRounded a b) _ _ (quotient-works a b g) (omega (arith, ranged-quotient (g .first) (g .second) (g .second-positive) .stop))

@@ -94,12 +94,12 @@ module _ (a b : Number) (g : PositivePair a b) where
 
   quotient-start : a .x + bias ≤ c .x + b .x + 32
   quotient-start =
-      let s = quotient-spans (g .first) (g .second) (omega arith) (g .first-positive) (g .second-positive) in
+      let s = quotient-spans (g .first) (g .second) (g .first-positive) (g .second-positive) in
       omega (arith, s .start, g .first .start, g .second .stop)
 
   pub quotient-stop : c .x + b .x + 31 ≤ a .x + bias
   quotient-stop =
-      let s = quotient-spans (g .first) (g .second) (omega arith) (g .first-positive) (g .second-positive) in
+      let s = quotient-spans (g .first) (g .second) (g .first-positive) (g .second-positive) in
       omega (arith, s .stop, g .first .start, g .second .stop)
 
   pub quotient-under : bias ≤ c .x + b .x
@@ -118,7 +118,7 @@ module _ (a b : Number) (g : PositivePair a b) where
 
   pub divisor-fits : c .m * b .m < 2 ^ 64
   divisor-fits =
-      product-fits (c .m) (b .m) (quotient-spans (g .first) (g .second) (omega arith) (g .first-positive) (g .second-positive) .high) (g .second .high)
+      product-fits (c .m) (b .m) (quotient-spans (g .first) (g .second) (g .first-positive) (g .second-positive) .high) (g .second .high)
 
   -- the one rounding, of the quotient of the mantissas at exponent w
   abbrev w : ℕ

@@ -38,7 +38,7 @@ module _ (op : Number → Number → Number) (e : ℕ → Number) (s : ℕ) (x :
   scaled-not i h = scaled-row i false h
 
 scale-reach : {r : ℕ} {y e : Number} (b : Bool) → Ranged r y → Stored e → r + 1064 ≤ bias → Ranged (r + 1033) (scaling b y e)
-scale-reach {r} true u s h = ranged-more (omega arith) (ranged-quotient u (ranged-stored s) (omega arith) (omega (arith, s .low)))
+scale-reach {r} true u s h = ranged-more (omega arith) (ranged-quotient u (ranged-stored s) (omega (arith, s .low)))
 scale-reach {r} false u s h = ranged-more (omega arith) (ranged-product u (ranged-stored s) (omega arith))
 
 -- y is x scaled by the entries of the first i rows

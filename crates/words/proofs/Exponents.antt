@@ -56,7 +56,7 @@ ranged-related = record {
   afterEntry = λ r. r + 1035;
   rel-skips = λ r x y h room. ranged-more (omega arith) (h (omega arith));
   rel-times = λ r x e y f h s room. ranged-more (omega arith) (ranged-product (h (omega arith)) (ranged-stored s) (omega arith));
-  rel-over = λ r x e y f h s room. ranged-more (omega arith) (ranged-quotient (h (omega arith)) (ranged-stored s) (omega arith) (omega (arith, s .low)));
+  rel-over = λ r x e y f h s room. ranged-more (omega arith) (ranged-quotient (h (omega arith)) (ranged-stored s) (omega (arith, s .low)));
 }
 
 -- ANY WORD of such weights and entries, from any state
@@ -116,7 +116,7 @@ module _ (r : ℕ) (room : 4 * r + 194 ≤ bias) where
   product-ranged h g = ranged-more (omega arith) (ranged-product h g (omega arith))
 
   pub quotient-ranged : {p q : Number} → Ranged (2 * r + 33) p → Ranged (2 * r + 33) q → 0 < q .m → Ranged (4 * r + 98) (quotientOf p q)
-  quotient-ranged h g q = ranged-more (omega arith) (ranged-quotient h g (omega arith) q)
+  quotient-ranged h g q = ranged-more (omega arith) (ranged-quotient h g q)
 
   pub ratio-ranged : {a b : Number} → Ranged r a → Ranged r b → 0 < b .m → Ranged (4 * r + 98) (quotientOf a b)
   ratio-ranged h g q = quotient-ranged (ranged-more (omega arith) h) (ranged-more (omega arith) g) q

@@ -1,6 +1,6 @@
 -- `quotient` meets its contract: the select is the shift, the shifted dividend is a word, and one division leaves the remainder.
 use mathlib.Core.Path.{_≡_, ap, ap₂, _∙_}
-use Prim.Native.Nat.{ℕ, _+_, _-_, _*_, _/_, _%_, _^_, _<_}
+use Prim.Native.Nat.{ℕ, _+_, _-_, _*_, _/_, _%_, _^_, _≤_, _<_}
 use native.Mathlib.Nat.{mod-eq-of-lt, mod-lt, div-add-mod'}
 use native.Mathlib.Omega.{arith}
 use borrow.Author.Needs.{needs}
@@ -9,6 +9,10 @@ use Rattle.number.specs.Direction.{Nearest, Down, taken}
 use Rattle.number.specs.Division.{shifted}
 use Rattle.number.proofs.quotient.Statement.{statement}
 use Rattle.number.proofs.quotient.Tie as tie
+
+-- the select is the shift
+chosen : (c : tie.After-either) → (31 ≤ c .either .result) × (c .either .result ≤ 32)
+chosen c = rw (c .either .ensures) (shift-range (c .before .args .a) (c .before .args .b))
 
 -- the shifted dividend is a word
 fits : (c : tie.After-either) → shifted (c .before .args .a) (c .before .args .b) < 2 ^ 64
@@ -28,10 +32,10 @@ either-requires : tie.Need-either-requires
 either-requires c κs = search needs
 
 sub-y : tie.Need-sub-y
-sub-y c = rw (c .either .ensures) (omega (arith, shift-range (c .before .args .a) (c .before .args .b)))
+sub-y c = omega (arith, chosen c)
 
 shl-n : tie.Need-shl-n
-shl-n c = rw (c .either .ensures) (omega (arith, shift-range (c .before .args .a) (c .before .args .b)))
+shl-n c = omega (arith, chosen c)
 
 div-q : tie.Need-div-q
 div-q c = search needs
