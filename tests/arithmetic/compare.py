@@ -6,28 +6,15 @@ result times the divisor lacks, as an odd whole number with an exponent, or 0 wi
 The operation c carries two items of any sign through two rows of ones: (a, b) becomes (a + b, b + (a + b)), each sum rounded.
 """
 import random
-import subprocess
 import sys
 from collections import Counter
-from fractions import Fraction
 
+from batches import compared
 from draws import HIGH, LIMIT, LOW, ZERO, drawn
+from rational import exact, rounded, scaled
 
-BATCH = 20000
 BAD_LIST, OUTSIDE = 9, 14
 LENT = (7,) * 7  # what the driver lends to a carry
-
-
-def rounded(q, e):
-    """q * 2^e, q a positive fraction, as a mantissa of 32 bits and an exponent."""
-    shift = q.numerator.bit_length() - q.denominator.bit_length() - 32
-    q = q / (1 << shift) if shift >= 0 else q * (1 << -shift)
-    while q >= HIGH:
-        q, shift = q / 2, shift + 1
-    while q < LOW:
-        q, shift = q * 2, shift - 1
-    m = round(q)  # a Fraction rounds half to even
-    return (m, e + shift) if m < HIGH else (m // 2, e + shift + 1)
 
 
 def odd(q, e):
@@ -41,24 +28,9 @@ def odd(q, e):
     return q.numerator, e
 
 
-def scaled(m, places):
-    return Fraction(m << places) if places >= 0 else Fraction(m, 1 << -places)
-
-
 def taken(item):
     sign, m, e = item
     return item == ZERO or sign in (-1, 1) and LOW <= m < HIGH and -LIMIT <= e <= LIMIT
-
-
-def exact(op, a, b):
-    """The exact sum, product or quotient of two signed items, as a fraction and an exponent."""
-    (s, m, e), (t, n, f) = a, b
-    if op == '*':
-        return Fraction(m * n), e + f
-    if op == '/':
-        return Fraction(m, n), e - f
-    low = min(e, f) if m and n else e if m else f
-    return (s * scaled(m, e - low) if m else 0) + (t * scaled(n, f - low) if n else Fraction(0)), low
 
 
 def worked(op, a, b):
@@ -89,35 +61,27 @@ def expected(op, numbers):
     return (0, 0, *carried[0], *carried[1], LENT[6]) if all(map(taken, carried)) else (OUTSIDE, 0, *LENT)
 
 
-def answered(driver, batch):
-    """The driver's answers, one for each operation."""
-    lines = ''.join(f"{op} {len(numbers)} {' '.join(map(str, numbers))}\n" for _, op, numbers in batch)
-    answers = subprocess.run([driver], input=lines, capture_output=True, text=True, check=True).stdout.splitlines()
-    if len(answers) != len(batch):
-        sys.exit(f'{len(batch)} operations, {len(answers)} answers')
-    return [tuple(map(int, answer.split())) for answer in answers]
+def line(case):
+    _, op, numbers = case
+    return f"{op} {len(numbers)} {' '.join(map(str, numbers))}"
 
 
 def main():
     driver, seed, count = sys.argv[1], int(sys.argv[2]), int(sys.argv[3])
     r = random.Random(seed)
-    done, wrong, seen, refused = 0, 0, Counter(), Counter()
-    while done < count:
-        batch = [drawn(r) for _ in range(min(BATCH, count - done))]
-        for (name, op, numbers), got in zip(batch, answered(driver, batch)):
-            want = expected(op, numbers)
-            seen[f'{name} {op}'] += 1
-            refused[want[0]] += 1
-            if got != want:
-                wrong += 1
-                if wrong <= 20:
-                    print(f"{name}: {op} {' '.join(map(str, numbers))} gave {got}, exact {want}", flush=True)
-        done += len(batch)
-        print(f'\r{done} of {count} operations, {wrong} differences', end='', file=sys.stderr, flush=True)
-    print(file=sys.stderr)
+    seen, refused = Counter(), Counter()
+
+    def judged(case, got):
+        name, op, numbers = case
+        want = expected(op, numbers)
+        seen[f'{name} {op}'] += 1
+        refused[want[0]] += 1
+        return [] if got == want else [f'{name}: {line(case)} gave {got}, exact {want}']
+
+    wrong = compared(driver, count, lambda: drawn(r), line, judged)
     print(', '.join(f'{k} {n}' for k, n in sorted(seen.items())))
     print(f'accepted {refused[0]}, refused with 9 {refused[BAD_LIST]}, with 14 {refused[OUTSIDE]}')
-    print(f'{done} operations, seed {seed}: {wrong} differences')
+    print(f'{count} operations, seed {seed}: {wrong} differences')
     sys.exit(1 if wrong else 0)
 
 

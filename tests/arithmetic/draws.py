@@ -1,4 +1,5 @@
-"""Operands for compare.py: `drawn` gives the name of a kind, an operation (+ * / or c) and the numbers of a list, mostly two items of three."""
+"""Operands for compare.py, kinds of them for directed_draws.py too: `drawn` gives the name of a kind, an operation (+ * / or c) and the numbers of a list,
+mostly two items of three."""
 
 LOW, HIGH, LIMIT = 1 << 31, 1 << 32, 1000
 ZERO = (0, 0, 0)
@@ -30,9 +31,9 @@ def exponent(r):
     return r.randrange(-40, 41) if r.random() < 0.8 else r.randrange(-LIMIT, LIMIT + 1)
 
 
-def apart(r, m, n, gap):
+def apart(r, m, n, gap, limit=LIMIT):
     """Two items whose exponents are so far apart, either first."""
-    e = r.randrange(-LIMIT, LIMIT - gap + 1) if gap > 100 or r.random() < 0.2 else r.randrange(-40, 41)
+    e = r.randrange(-limit, limit - gap + 1) if gap > 100 or r.random() < 0.2 else r.randrange(-40, 41)
     pair = [(1, m, e + gap), (1, n, e)]
     r.shuffle(pair)
     return pair
@@ -82,14 +83,19 @@ def end_quotient(r):
     return (1, m, exponent(r)), (1, n, exponent(r))
 
 
-def tied_quotient(r):
-    """A remainder of half the divisor, as nearly as it can be: no quotient lies halfway between two numbers."""
+def left_over(r, left):
+    """A quotient whose remainder is `left` of the divisor, modulo the divisor."""
     while True:
         n = mantissa(r) | 1
-        half = n // 2 + r.randrange(2)
-        for m in (half * pow(2, -32, n) % n, half * pow(2, -31, n) % n + n):
+        k = left(n)
+        for m in (k * pow(2, -32, n) % n, k * pow(2, -31, n) % n + n):
             if LOW <= m < HIGH:
                 return (1, m, exponent(r)), (1, n, exponent(r))
+
+
+def tied_quotient(r):
+    """A remainder of half the divisor, as nearly as it can be: no quotient lies halfway between two numbers."""
+    return left_over(r, lambda n: n // 2 + r.randrange(2))
 
 
 def far(r):

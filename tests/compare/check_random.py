@@ -7,8 +7,8 @@ from console_model import Console, call_words, parse
 from encoding import Refusal, encode, group, read_group, read_single, rest
 from exact import entries_of, exact_parts, exact_run, inverse, matrix_product, multiply_out, requested, units, within
 from model import ORDER, WORKED, conditions
-from number import (DIRECTIONS, HIGH, ITEM_ZERO, LOW, ONE, ZERO, add, divide, multiply, odd_form, round_fraction, round_whole, rounded_quotient,
-                    signed_add, slow_add, slow_divide, slow_multiply, slow_signed_add, value, whole_quotient, worked)
+from number import (DIRECTIONS, HIGH, ITEM_ZERO, LOW, ONE, ZERO, add, divide, multiply, neighbours, odd_form, round_fraction, round_whole,
+                    rounded_quotient, signed_add, slow_add, slow_divide, slow_multiply, slow_signed_add, value, whole_quotient, worked)
 from pairs import pair
 from requests import stream
 from sources import mantissa
@@ -61,9 +61,7 @@ def nearest(rng, rounds):
     for _ in range(rounds):
         x = Fraction(rng.getrandbits(80) + 1, rng.getrandbits(rng.choice((1, 20, 60))) + 1)
         m, e = round_fraction(x)
-        lower = (m - 1, e) if m > LOW else (HIGH - 1, e - 1)
-        upper = (m + 1, e) if m < HIGH - 1 else (LOW, e + 1)
-        for other in (lower, upper):
+        for other in neighbours((m, e)):
             near, far = abs(value((m, e)) - x), abs(value(other) - x)
             assert near < far or (near == far and m % 2 == 0)
 
@@ -109,7 +107,7 @@ def quotients(rng, rounds):
         exact = value(a) / value(b)
         assert value((down, e)) <= exact <= value((up, e)), (a, b)
         same(up - down, int(value((down, e)) < exact))
-        same((nearest, e), divide(a, b))
+        same((nearest, e), slow_divide(a, b))
         same(odd_form((left - (nearest - q) * n) * Fraction(2) ** (e + b[1])), worked("divide", a, b)[1])
 
 

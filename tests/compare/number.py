@@ -1,47 +1,40 @@
 """Numbers: a mantissa m from 2^31 to 2^32 - 1 and an exponent e, the pair (m, e), of value m * 2^e; zero is (0, 0).
 
-add, multiply, divide: the exact result rounded once to nearest, ties to even, at 32 bits, by integers and shifts.
-signed_add: the same for items (sign, m, e). round_fraction, value and the slow_ functions say it again with fractions.
+add, multiply, divide: the exact result rounded once at 32 bits, by integers and shifts; in a direction, which is to nearest, ties to even, if none is given.
+signed_add: the same to nearest for items (sign, m, e). round_fraction, value and the slow_ functions say it again with fractions.
 whole_quotient and rounded_quotient: division by one shift, chosen by comparing the mantissas, then one rounding in a given direction.
 worked: one of the three with the rest, what rounding took away, as a pair of an odd whole number and an exponent.
 """
+import math
 from fractions import Fraction
 
 BITS = 32
 LOW, HIGH = 1 << 31, 1 << 32
-HIGH_PRODUCT = 1 << 63
 ZERO = (0, 0)
 ONE = (LOW, -31)
 ITEM_ZERO = (0, 0, 0)
 EXPONENT_LIMIT = 1000
-# From this distance on the smaller operand cannot change the larger one, not even just below a power of two.
+# From this distance on the smaller operand cannot change the nearest number, not even just below a power of two.
 FAR = 40
-DIRECTIONS = ("nearest", "down", "up")
+# Document 02, (g), by how each takes a whole number for a fraction; `round` takes the even one at a tie.
+DIRECTIONS = {"nearest": round, "down": math.floor, "up": math.ceil}
 
 
-def round_whole(whole, e):
+def round_whole(whole, e, direction="nearest"):
     """The positive whole number `whole` times 2^e, rounded."""
     shift = whole.bit_length() - BITS
     if shift <= 0:
         return (whole << -shift, e + shift)
-    m = (whole + (1 << (shift - 1)) - 1 + ((whole >> shift) & 1)) >> shift
+    m = rounded_quotient(whole >> shift, whole & (1 << shift) - 1, 1 << shift, direction)
     return (m, e + shift) if m < HIGH else (LOW, e + shift + 1)
 
 
-def multiply(a, b):
+def multiply(a, b, direction="nearest"):
     p = a[0] * b[0]
-    if p >= HIGH_PRODUCT:
-        # No carry: the largest product is 2^64 - 2^33 + 1.
-        return ((p + 0x7FFFFFFF + ((p >> 32) & 1)) >> 32, a[1] + b[1] + 32)
-    if not p:
-        return ZERO
-    m = (p + 0x3FFFFFFF + ((p >> 31) & 1)) >> 31
-    if m < HIGH:
-        return (m, a[1] + b[1] + 31)
-    return (LOW, a[1] + b[1] + 32)
+    return round_whole(p, a[1] + b[1], direction) if p else ZERO
 
 
-def add(a, b):
+def add(a, b, direction="nearest"):
     if not a[0]:
         return b
     if not b[0]:
@@ -50,16 +43,20 @@ def add(a, b):
     if gap < 0:
         a, b, gap = b, a, -gap
     if gap > FAR:
-        return a
-    return round_whole((a[0] << gap) + b[0], b[1])
+        # The smaller one only says that something is left over.
+        b, gap = (1, a[1] - FAR), FAR
+    return round_whole((a[0] << gap) + b[0], b[1], direction)
 
 
-def divide(a, b):
+def divide(a, b, direction="nearest"):
     """a over b, b not zero. A quotient of 34 bits or more and a bit for the remainder round as the exact one does."""
     if not a[0]:
         return ZERO
     q, r = divmod(a[0] << 34, b[0])
-    return round_whole(2 * q + (r > 0), a[1] - b[1] - 35)
+    return round_whole(2 * q + (r > 0), a[1] - b[1] - 35, direction)
+
+
+WORK = {"add": add, "multiply": multiply, "divide": divide}
 
 
 def whole_quotient(a, b):
@@ -109,8 +106,8 @@ def value(number):
     return Fraction(m << e) if e >= 0 else Fraction(m, 1 << -e)
 
 
-def round_fraction(x):
-    """The nonnegative fraction x rounded: the nearest m * 2^e with m below 2^32, even m at a tie."""
+def round_fraction(x, direction="nearest"):
+    """The nonnegative fraction x rounded: the nearest m * 2^e with m below 2^32, even m at a tie, or the largest not above x, or the smallest not below."""
     if x == 0:
         return ZERO
     e = x.numerator.bit_length() - x.denominator.bit_length() - BITS
@@ -118,20 +115,26 @@ def round_fraction(x):
         e += 1
     while x < Fraction(2) ** (e + BITS - 1):
         e -= 1
-    m = round(x / Fraction(2) ** e)
+    m = DIRECTIONS[direction](x / Fraction(2) ** e)
     return (m, e) if m < HIGH else (LOW, e + 1)
 
 
-def slow_add(a, b):
-    return round_fraction(value(a) + value(b))
+def slow_add(a, b, direction="nearest"):
+    return round_fraction(value(a) + value(b), direction)
 
 
-def slow_multiply(a, b):
-    return round_fraction(value(a) * value(b))
+def slow_multiply(a, b, direction="nearest"):
+    return round_fraction(value(a) * value(b), direction)
 
 
-def slow_divide(a, b):
-    return round_fraction(value(a) / value(b))
+def slow_divide(a, b, direction="nearest"):
+    return round_fraction(value(a) / value(b), direction)
+
+
+def neighbours(number):
+    """The number before a positive one, and the next."""
+    m, e = number
+    return (m - 1, e) if m > LOW else (HIGH - 1, e - 1), (m + 1, e) if m < HIGH - 1 else (LOW, e + 1)
 
 
 def slow_signed_add(x, y):
@@ -148,7 +151,7 @@ def odd_form(x):
 
 def worked(kind, a, b):
     """Document 02, (c): the result of two positive numbers, and sum or product minus it, or dividend minus it times divisor."""
-    result = {"add": add, "multiply": multiply, "divide": divide}[kind](a, b)
+    result = WORK[kind](a, b)
     x, y, r = map(value, (a, b, result))
     rest = x + y - r if kind == "add" else x * y - r if kind == "multiply" else x - r * y
     return result, odd_form(rest)

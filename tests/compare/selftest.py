@@ -7,6 +7,7 @@ import argparse
 import random
 import sys
 
+import check_directed  # noqa: F401
 import check_marked  # noqa: F401
 import check_random  # noqa: F401
 from checks import CHECKS

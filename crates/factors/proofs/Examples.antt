@@ -3,7 +3,7 @@
 use mathlib.Core.Path.{refl}
 use native.Mathlib.Omega.{arith}
 use lib.Ieee.{size}
-use Rattle.number.specs.Number.{oneNumber, round, renormalised, sumOf, productOf, quotientOf, value, Stored}
+use Rattle.number.specs.Number.{oneNumber, roundBy, renormalised, sumBy, productBy, quotientBy, value, Stored}
 use Rattle.number.specs.Examples.{AllHold}
 use Rattle.words.specs.RowSet.{has, put, count, equal, rows, among}
 use Rattle.words.specs.Word.{ascending, descending, word}
@@ -21,7 +21,7 @@ exact-examples = (refl, (refl, (refl, (refl, tt))))
 
 pub rounded-examples : AllHold roundedTable
 unfolding roundedTable has put count equal rows among ascending descending word joinedWord oneAt moved scaled act walk minor onDiagonal belowDiagonal newFactor
-    result value round renormalised sumOf productOf quotientOf size lib.Ieee.span lib.Ieee.climb
+    result value roundBy renormalised sumBy productBy quotientBy size lib.Ieee.span lib.Ieee.climb
 rounded-examples = (refl, (refl, (refl, (refl, tt))))
 
 one-stored : Stored oneNumber

@@ -5,6 +5,7 @@ use native.Mathlib.Omega.{arith}
 use Rattle.fraction.specs.Fraction.{Fraction, natural, fractionSum, fractionProduct, fractionQuotient}
 use Rattle.fraction.specs.Within.{Within}
 use Rattle.fraction.proofs.Within.{within-refl, within-same, within-trans, within-mono, within-sum, within-mul, within-div, within-positive}
+use Rattle.number.specs.declared.Direction.the-variants.{Nearest}
 use Rattle.number.specs.declared.Number.{Number}
 use Rattle.number.specs.Number.{bias, zeroNumber, oneNumber, sumOf, productOf, quotientOf, value, Ranged, Stored}
 use Rattle.number.proofs.Value.{value-zero, value-one, value-positive}
@@ -36,16 +37,16 @@ pub near-sum : {k r : ℕ} {x x′ : Number} {y y′ : Fraction} → Near k r x 
     → Near (k + 1) (r + 2) (sumOf x x′) (fractionSum y y′)
 near-sum {k} {r} u v h =
     record {
-      ranged = ranged-sum (u .ranged) (v .ranged) (omega arith);
-      within = within-mono (omega arith) (within-trans (sum-within (u .ranged) (v .ranged) (omega arith)) (within-sum (u .within) (v .within)));
+      ranged = ranged-sum Nearest (u .ranged) (v .ranged) (omega arith);
+      within = within-mono (omega arith) (within-trans (sum-within Nearest (u .ranged) (v .ranged) (omega arith)) (within-sum (u .within) (v .within)));
     }
 
 pub near-product : {j k r s : ℕ} {x x′ : Number} {y y′ : Fraction} → Near j r x y → Near k s x′ y′ → r + s + 64 ≤ bias
     → Near (j + k + 1) (r + s + 33) (productOf x x′) (fractionProduct y y′)
 near-product {j} {k} u v h =
     record {
-      ranged = ranged-product (u .ranged) (v .ranged) h;
-      within = within-mono (omega arith) (within-trans (product-within (u .ranged) (v .ranged) h) (within-mul (u .within) (v .within)));
+      ranged = ranged-product Nearest (u .ranged) (v .ranged) h;
+      within = within-mono (omega arith) (within-trans (product-within Nearest (u .ranged) (v .ranged) h) (within-mul (u .within) (v .within)));
     }
 
 pub near-quotient : {j k r s : ℕ} {x x′ : Number} {y y′ : Fraction} → Near j r x y → Near k s x′ y′ → 0 < y′ .top → r + s + 64 ≤ bias
@@ -53,7 +54,8 @@ pub near-quotient : {j k r s : ℕ} {x x′ : Number} {y y′ : Fraction} → Ne
 near-quotient {j} {k} {r} {s} {x} {x′} u v p h =
     let m : 0 < x′ .m = near-positive v p in
     record {
-      ranged = ranged-quotient (u .ranged) (v .ranged) m;
+      ranged = ranged-quotient Nearest (u .ranged) (v .ranged) m;
       within =
-          within-mono (omega arith) (within-trans (quotient-within (u .ranged) (v .ranged) h m) (within-div (u .within) (v .within) (value-positive x′ .0 m)));
+          within-mono (omega arith)
+          (within-trans (quotient-within Nearest (u .ranged) (v .ranged) h m) (within-div (u .within) (v .within) (value-positive x′ .0 m)));
     }

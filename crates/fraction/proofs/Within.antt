@@ -1,12 +1,12 @@
 -- Laws of document 01's "within k": an equivalence as k adds up (`within-refl`, `within-sym`, `within-trans`), and what sum, product and quotient make of it
 -- (`within-sum`, `within-mul`, `within-div`). The powers of `less` and `unit` are never computed.
 use mathlib.Core.Path.{_≡_, refl, sym}
-use Prim.Native.Nat.{ℕ, _+_, _-_, _*_, _^_, _≤_, _<_, max}
+use Prim.Native.Nat.{ℕ, zero, suc, _+_, _-_, _*_, _^_, _≤_, _<_, max}
 use native.Mathlib.Nat.{add-comm, mul-pos, mul-le-mul, mul-le-mul-left, le-of-mul-le-mul-right, one-le-pow, pow-le-pow-left, pow-zero, le-max-left}
 use native.Mathlib.Nat.{le-max-right}
 use native.Mathlib.Omega.{arith}
 use lib.Pow.{pow-add}
-use Rattle.fraction.specs.Fraction.{Fraction, Same, fractionSum, fractionProduct, fractionQuotient}
+use Rattle.fraction.specs.Fraction.{Fraction, Same, natural, fractionSum, fractionProduct, fractionQuotient}
 use Rattle.fraction.specs.Within.{less, unit, Within}
 use Rattle.fraction.proofs.Fraction.{factor-positive, quotient-top, quotient-low}
 
@@ -58,12 +58,6 @@ within-zero u =
     let h = rw (pow-zero less, pow-zero unit) at (u .below) in
     omega arith
 
--- one rounding, by the numbers of document 01
-pub within-one : (x y : Fraction) → (2 ^ 32 - 1) * (y .top * x .low) ≤ 2 ^ 32 * (x .top * y .low)
-    → (2 ^ 32 - 1) * (x .top * y .low) ≤ 2 ^ 32 * (y .top * x .low) → Within 1 x y
-unfolding less unit
-within-one x y g h = record { above = g; below = h }
-
 pub within-sym : {k : ℕ} {x y : Fraction} → Within k x y → Within k y x
 within-sym u = record { above = u .below; below = u .above }
 
@@ -102,3 +96,21 @@ pub within-div : {j k : ℕ} {x x' y y' : Fraction} → Within j x x' → Within
 within-div {j} {k} {x} {x'} {y} {y'} u v p =
     let q = within-positive (within-sym v) p in
     record { above = least-div j k x x' y y' p q (u .above) (v .below); below = least-div j k x' x y' y q p (u .below) (v .above) }
+
+-- both times c
+pub within-scaled : {k : ℕ} {x y : Fraction} (c x' y' : Fraction) → Within k x y → Same (fractionProduct x c) x' → Same (fractionProduct y c) y'
+    → Within k x' y'
+within-scaled c x' y' u h g = within-congruence x' y' (within-mono (omega arith) (within-mul u (within-refl c))) h g
+
+-- what is zero is within any count of zero, and of nothing else
+pub within-none : {k : ℕ} {x y : Fraction} → Within k x y → y .top ≡ 0 → x .top ≡ 0
+within-none {k} {x} {y} h e = go (x .top) refl
+  where
+    go : (t : ℕ) → x .top ≡ t → x .top ≡ 0
+    go zero f = f
+    go (suc t) f = absurd (omega (arith, within-positive (within-sym h) (omega arith)))
+
+-- one unit rounding of whole numbers, by document 01's numbers
+pub within-one : {p q : ℕ} → Within 1 (natural p) (natural q) → ((2 ^ 32 - 1) * q ≤ 2 ^ 32 * p) × ((2 ^ 32 - 1) * p ≤ 2 ^ 32 * q)
+unfolding less unit
+within-one h = (omega (arith, h .above), omega (arith, h .below))

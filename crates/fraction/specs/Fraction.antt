@@ -1,6 +1,6 @@
 -- Document 01's fraction, "the exact run": a pair of whole numbers, the lower one above zero.
 use mathlib.Core.Path.{_≡_}
-use Prim.Native.Nat.{ℕ, zero, suc, _+_, _*_, _<_}
+use Prim.Native.Nat.{ℕ, zero, suc, _+_, _*_, _≤_, _<_}
 use native.Mathlib.Nat.{mul-pos}
 use native.Mathlib.Omega.{arith}
 use Rattle.fraction.specs.Arithmetic.{Arithmetic}
@@ -14,6 +14,10 @@ pub record Fraction : Type 0 where
 -- Two fractions are the same when their cross products are equal.
 abbrev pub Same : Fraction → Fraction → Type 0
 Same x y = x .top * y .low ≡ y .top * x .low
+
+-- x ≤ y, by cross products
+abbrev pub AtMost : Fraction → Fraction → Type 0
+AtMost x y = x .top * y .low ≤ y .top * x .low
 
 -- a natural number, over 1
 abbrev pub natural : ℕ → Fraction

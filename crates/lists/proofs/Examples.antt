@@ -4,7 +4,7 @@ use mathlib.Core.Bool.{xor}
 use lib.Ieee.{size}
 use Rattle.verdict.specs.Verdict.{firstBehind}
 use Rattle.number.specs.Examples.{AllHold}
-use Rattle.number.specs.Number.{round, renormalised, sumOf, productOf, inRange}
+use Rattle.number.specs.Number.{roundBy, renormalised, sumBy, productBy, inRange}
 use Rattle.number.specs.Signed.{signedRound, signedSum, signedProduct, withSign}
 use Rattle.words.specs.Word.{ascending, descending, word}
 use Rattle.words.specs.Walk.{carry, carryLetter}
@@ -16,5 +16,5 @@ use Rattle.lists.specs.Examples.{listTable}
 pub examples : AllHold listTable
 unfolding listTable storable signedItem listOf listNumbers opposite reversalsBehind carriedVector anyOutside itemsAfterCarry reversalsCall firstBehind
     ascending descending word carry carryLetter signedRound signedSum signedProduct withSign
-    round renormalised sumOf productOf inRange xor size lib.Ieee.span lib.Ieee.climb
+    roundBy renormalised sumBy productBy inRange xor size lib.Ieee.span lib.Ieee.climb
 examples = (refl, (refl, (refl, (refl, (refl, (refl, (refl, (refl, (refl, (refl, (refl, (refl, (refl, tt)))))))))))))

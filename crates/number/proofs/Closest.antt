@@ -1,10 +1,10 @@
 -- The whole number nearest to n / d, a tie to the even one, as the kit's `closest` gives it: which one it is by the remainder
--- (`nearest-up`, `nearest-even`, `nearest-down`, `nearest-by`; `side`), that it lies within half a unit (`closest-near`), and that no whole number is nearer
--- (`closest-best`), none other as near unless it is even (`closest-tie`).
+-- (`nearest-up`, `nearest-down`, `nearest-by`; `side`), that no whole number is nearer (`closest-best`), none other as near unless it is even
+-- (`closest-tie`).
 use mathlib.Core.Path.{_≡_, refl, ap, _∙_, subst}
 use mathlib.Core.Bool.{Bool, cond, not}
 use mathlib.Core.Logic.{_⊎_, ⊎-elim, inl, inr, _≢_}
-use Prim.Native.Nat.{ℕ, zero, suc, _+_, _-_, _*_, _/_, _%_, _^_, _≤_, _<_, compare, Ordering, Ordering·lt, Ordering·eq, Ordering·gt}
+use Prim.Native.Nat.{ℕ, zero, suc, _+_, _-_, _*_, _/_, _%_, _≤_, _<_, compare, Ordering, Ordering·lt, Ordering·eq, Ordering·gt}
 use native.Mathlib.Nat.{mul-le-mul-right, le-antisymm, lt-of-not-le, div-add-mod', mod-lt}
 use native.Mathlib.Decide.{decLe}
 use native.Mathlib.Omega.{arith}
@@ -12,6 +12,7 @@ use borrow.Author.Tests.{lt-ltb, le-ltb}
 use lib.Dec.{T, ltb, isLe, isEq, eqb, leb→le, nleb→lt, eqb→eq, eqb-refl}
 use lib.Ieee.{nearest}
 use lib.Ieee.Nearest.{closest}
+use Rattle.number.specs.Digits.{wholeOf}
 use Rattle.number.specs.Nearest.{gap}
 
 -- ---- what `compare` says, and with it `nearest`
@@ -28,6 +29,21 @@ cmp a b = go (compare a b) (leb→le a b) (nleb→lt a b) (eqb→eq a b) (λ (e 
     go Ordering·eq h k e n = e tt
     go Ordering·gt h k e n = k tt
 
+-- two pairs that compare alike
+pub compare-alike : (a b c e : ℕ) → (a < b → c < e) → (a ≡ b → c ≡ e) → (b < a → e < c) → compare a b ≡ compare c e
+compare-alike a b c e less same more = go (compare a b) (compare c e) (cmp a b) (cmp c e)
+  where
+    go : (o p : Ordering) → Cmp o a b → Cmp p c e → o ≡ p
+    go Ordering·lt Ordering·lt h k = refl
+    go Ordering·lt Ordering·eq h k = absurd (omega (arith, less h))
+    go Ordering·lt Ordering·gt h k = absurd (omega (arith, less h))
+    go Ordering·eq Ordering·lt h k = absurd (omega (arith, same h))
+    go Ordering·eq Ordering·eq h k = refl
+    go Ordering·eq Ordering·gt h k = absurd (omega (arith, same h))
+    go Ordering·gt Ordering·lt h k = absurd (omega (arith, more h))
+    go Ordering·gt Ordering·eq h k = absurd (omega (arith, more h))
+    go Ordering·gt Ordering·gt h k = refl
+
 pub nearest-up : (q a b : ℕ) → b < a → nearest q (compare a b) ≡ q + 1
 nearest-up q a b h = go (compare a b) (cmp a b)
   where
@@ -35,14 +51,6 @@ nearest-up q a b h = go (compare a b) (cmp a b)
     go Ordering·lt c = absurd (omega arith)
     go Ordering·eq c = absurd (omega arith)
     go Ordering·gt c = omega arith
-
-pub nearest-even : (q a b : ℕ) → a ≡ b → nearest q (compare a b) ≡ q + q % 2
-nearest-even q a b h = go (compare a b) (cmp a b)
-  where
-    go : (o : Ordering) → Cmp o a b → nearest q o ≡ q + q % 2
-    go Ordering·lt c = absurd (omega arith)
-    go Ordering·eq c = refl
-    go Ordering·gt c = absurd (omega arith)
 
 pub nearest-down : (q a b : ℕ) → a < b → nearest q (compare a b) ≡ q
 nearest-down q a b h = go (compare a b) (cmp a b)
@@ -53,26 +61,23 @@ nearest-down q a b h = go (compare a b) (cmp a b)
     go Ordering·gt c = absurd (omega arith)
 
 -- by one comparison: an odd q goes up at a tie too
-abbrev compared : ℕ → ℕ → ℕ → ℕ
-compared q r d = cond (ltb d (r * 2 + q % 2)) (q + 1) q
+pub stays : (q a b : ℕ) → b ≤ a → cond (ltb a b) (q + 1) q ≡ q
+stays q a b h = ap (λ (t : Bool). cond t (q + 1) q) (le-ltb a b h)
 
-pub nearest-by : (q r d : ℕ) → compared q r d ≡ nearest q (compare (r * 2) d)
+pub rises : (q a b : ℕ) → a < b → cond (ltb a b) (q + 1) q ≡ q + 1
+rises q a b h = ap (λ (t : Bool). cond t (q + 1) q) (lt-ltb a b h)
+
+pub nearest-by : (q r d : ℕ) → wholeOf q r d 2 ≡ nearest q (compare (r * 2) d)
 nearest-by q r d = go (compare (r * 2) d) (cmp (r * 2) d)
   where
-    up : d < r * 2 + q % 2 → compared q r d ≡ q + 1
-    up h = ap (λ (t : Bool). cond t (q + 1) q) (lt-ltb d (r * 2 + q % 2) h)
+    tie : (k : ℕ) → q % 2 ≡ k → r * 2 ≡ d → wholeOf q r d 2 ≡ q + q % 2
+    tie zero e c = stays q d (r * 2 + q % 2) (omega arith) ∙ omega arith
+    tie (suc k) e c = rises q d (r * 2 + q % 2) (omega arith) ∙ omega arith
 
-    same : r * 2 + q % 2 ≤ d → compared q r d ≡ q
-    same h = ap (λ (t : Bool). cond t (q + 1) q) (le-ltb d (r * 2 + q % 2) h)
-
-    tie : (k : ℕ) → q % 2 ≡ k → r * 2 ≡ d → compared q r d ≡ q + q % 2
-    tie zero e c = same (omega arith) ∙ omega arith
-    tie (suc k) e c = up (omega arith) ∙ omega arith
-
-    go : (o : Ordering) → Cmp o (r * 2) d → compared q r d ≡ nearest q o
-    go Ordering·lt c = same (omega arith)
+    go : (o : Ordering) → Cmp o (r * 2) d → wholeOf q r d 2 ≡ nearest q o
+    go Ordering·lt c = stays q d (r * 2 + q % 2) (omega arith)
     go Ordering·eq c = tie (q % 2) refl c
-    go Ordering·gt c = up (omega arith) ∙ omega arith
+    go Ordering·gt c = rises q d (r * 2 + q % 2) (omega arith) ∙ omega arith
 
 -- ---- on which side of n / d it lies
 -- m is the whole part q, with a half or less left over, or one more, with a half or more; where it is a half, m is even
@@ -94,11 +99,6 @@ side q r d = go (compare (r * 2) d) (cmp (r * 2) d)
     go Ordering·eq c = tie (q % 2) refl c
     go Ordering·gt c = inr (omega arith, omega arith, λ f. absurd (omega arith))
 
--- p and q within one unit rounding: their ratio is from 1 - 2 ^ -32 to its reciprocal
-pub record Near (p q : ℕ) : Type 0 where
-  pub above : (2 ^ 32 - 1) * q ≤ 2 ^ 32 * p
-  pub below : (2 ^ 32 - 1) * p ≤ 2 ^ 32 * q
-
 module _ (n d : ℕ) (p : 0 < d) where
   abbrev m : ℕ
   m = closest n d
@@ -117,9 +117,6 @@ module _ (n d : ℕ) (p : 0 < d) where
       (λ (w : Below m q r d). down (div-add-mod' n d) (mod-lt n p) (w .0) (ap (λ (z : ℕ). z * d) (w .0)) (w .1) (w .2))
       (λ (w : Above m q r d). up (div-add-mod' n d) (mod-lt n p) (w .0) (ap (λ (z : ℕ). z * d) (w .0)) (w .1) (w .2))
       (side q r d)
-
-  pub closest-near : 2 ^ 31 * d ≤ n → Near (m * d) n
-  closest-near lo = cases (λ e l f g h t. omega arith) (λ e l f g h t. omega arith)
 
   -- no whole number c is nearer
   pub closest-best : (c : ℕ) → gap (m * d) n ≤ gap (c * d) n

@@ -8,11 +8,13 @@ use native.Mathlib.Nat.{div-add-mod'}
 use native.Mathlib.Omega.{arith}
 use borrow.Author.Tests.{ltb-true, ltb-false}
 use lib.Dec.{ltb}
-use Rattle.number.proofs.Taken.{taken-between}
+use Rattle.number.proofs.Taken.{taken-above, taken-below}
 use Rattle.number.proofs.Rounding.{round-is, renormalised-small}
-use Rattle.number.specs.Direction.{Direction, Nearest, Down, taken}
+use Rattle.number.specs.Direction.{taken}
 use Rattle.number.specs.Division.{shiftOf, shifted, remainder, roundedQuotient, Divided}
-use Rattle.number.specs.Number.{bias, round, renormalised, quotientOf, FullDigits, Ranged}
+use Rattle.number.specs.Number.{bias, roundBy, renormalised, quotientBy, FullDigits, Ranged}
+use Rattle.number.specs.declared.Direction.{Direction}
+use Rattle.number.specs.declared.Direction.the-variants.{Down}
 use Rattle.number.specs.declared.Number.{Number}
 
 -- what holds of 32 where a is the smaller mantissa, and of 31 where it is not, holds of the shift
@@ -45,30 +47,34 @@ module _ (a b : ℕ) (f : FullDigits a) (g : FullDigits b) where
 
   pub quotient-full : (w : Direction) → FullDigits (roundedQuotient w a b)
   quotient-full w =
-      let t = taken-between w (2 ^ 31) (2 ^ 32 - 1) n b positive shifted-low shifted-high in
-      subst (λ (r : ℕ). FullDigits (taken w (n / b) r b)) (sym remainder-is) (record { low = t .0; high = omega arith })
+      subst (λ (r : ℕ). FullDigits (taken w (n / b) r b)) (sym remainder-is)
+      (record {
+        low = taken-above n b positive w (2 ^ 31) shifted-low;
+        high = omega (arith, taken-below n b positive w (2 ^ 32 - 1) shifted-high);
+      })
 
   -- n / b at an exponent lower by the shift is the same fraction, with 32 digits before the point
-  quotient-is : (x : ℕ) → round a b x ≡ record { m = roundedQuotient Nearest a b; x = x - shiftOf a b }
-  quotient-is x =
+  quotient-is : (w : Direction) (x : ℕ) → roundBy w a b x ≡ record { m = roundedQuotient w a b; x = x - shiftOf a b }
+  quotient-is w x =
       let k : ℕ = 32 - shiftOf a b in
       let places : 2 ^ shiftOf a b * 2 ^ k ≡ 2 ^ 32 = by-order a b (λ s. 2 ^ s * 2 ^ (32 - s) ≡ 2 ^ 32) (λ h. refl) (λ h. refl) in
       let same : a * 2 ^ 32 * b ≡ n * (b * 2 ^ k) = omega (arith, ap (λ (z : ℕ). a * b * z) places) in
       let y : x + k - 32 ≡ x - shiftOf a b = omega (arith, shift-range a b) in
-      round-is a b x n b k (omega (arith, f .low)) positive positive same shifted-low (omega (arith, positive, shifted-high))
-      ∙ ap₂ (λ (r z : ℕ). renormalised (taken Nearest (n / b) r b) z) (sym remainder-is) y
-      ∙ renormalised-small (roundedQuotient Nearest a b) (x - shiftOf a b) (quotient-full Nearest .high)
+      round-is w a b x n b k (omega (arith, f .low)) positive positive same shifted-low (omega (arith, positive, shifted-high))
+      ∙ ap₂ (λ (r z : ℕ). renormalised (taken w (n / b) r b) z) (sym remainder-is) y
+      ∙ renormalised-small (roundedQuotient w a b) (x - shiftOf a b) (quotient-full w .high)
 
 -- two positive numbers
 pub mantissa-full : {r : ℕ} {a : Number} → Ranged r a → 0 < a .m → FullDigits (a .m)
 mantissa-full u p = record { low = u .low p; high = u .high }
 
-module _ {r s : ℕ} {a b : Number} (u : Ranged r a) (v : Ranged s b) (p : 0 < a .m) (q : 0 < b .m) where
-  pub quotient-at : quotientOf a b ≡ record { m = roundedQuotient Nearest (a .m) (b .m); x = a .x + bias - b .x - shiftOf (a .m) (b .m) }
-  unfolding quotientOf
-  quotient-at = quotient-is (a .m) (b .m) (mantissa-full u p) (mantissa-full v q) (a .x + bias - b .x)
+module _ (w : Direction) {r s : ℕ} {a b : Number} (u : Ranged r a) (v : Ranged s b) (p : 0 < a .m) (q : 0 < b .m) where
+  pub quotient-at : quotientBy w a b ≡ record { m = roundedQuotient w (a .m) (b .m); x = a .x + bias - b .x - shiftOf (a .m) (b .m) }
+  unfolding quotientBy
+  quotient-at = quotient-is (a .m) (b .m) (mantissa-full u p) (mantissa-full v q) w (a .x + bias - b .x)
 
-  pub quotient-divided : Divided a b (quotientOf a b)
+  pub quotient-divided : Divided w a b (quotientBy w a b)
   quotient-divided =
       let full = quotient-full (a .m) (b .m) (mantissa-full u p) (mantissa-full v q) in
-      record { before = full Down; after = full; mantissa = ap (λ (c : Number). c .m) quotient-at; exponent = ap (λ (c : Number). c .x) quotient-at }
+      -- down takes the whole quotient as it stands
+      record { before = full Down; after = full w; mantissa = ap (λ (c : Number). c .m) quotient-at; exponent = ap (λ (c : Number). c .x) quotient-at }

@@ -1,5 +1,5 @@
--- What the code hands to the one rounding: whole numbers by their leading zeros (`integer-long`, `integer-short`), products and sums that fit a word, and
--- operands far apart (`sum-far`, `difference-far`). Quotients: `Division`.
+-- What the code hands to the one rounding: whole numbers by their leading zeros (`integer-long`, `integer-short`), products and sums that fit a word, units
+-- with what is left behind them (`by-units`), and, to nearest, operands far apart (`sum-far`, `difference-far`). Quotients: `Division`.
 use mathlib.Core.Path.{_≡_, refl, sym, ap, _∙_, subst}
 use mathlib.Core.Logic.{⊎-elim}
 use Prim.Native.Nat.{ℕ, zero, suc, _+_, _-_, _*_, _^_, _≤_, _<_}
@@ -7,11 +7,12 @@ use native.Mathlib.Nat.{pow-succ', mul-le-mul-right, mul-lt-mul-of-pos-right, eq
 use native.Mathlib.Omega.{arith}
 use lib.Count.{leadingZeros, leading-top}
 use lib.Pow.{pow-pos, pow-add}
-use lib.Ieee.Nearest.{closest}
-use lib.Pow
 use Rattle.number.proofs.Closest.{nearest-up, nearest-down}
-use Rattle.number.proofs.Rounding.{round-same, round-normal, renormalised-small}
-use Rattle.number.specs.Number.{round, renormalised}
+use Rattle.number.proofs.Rounding.{round-same, round-parts, renormalised-small}
+use Rattle.number.specs.Direction.{taken}
+use Rattle.number.specs.Number.{round, roundBy, renormalised}
+use Rattle.number.specs.declared.Direction.{Direction}
+use Rattle.number.specs.declared.Direction.the-variants.{Nearest}
 
 -- ---- what the leading zeros of a word say: shifted by them it has 32 digits
 module _ (n z j : ℕ) (c : z + suc j ≡ 64) (lo : 2 ^ j ≤ n) (hi : n < 2 ^ suc j) where
@@ -41,15 +42,15 @@ module _ (n : ℕ) (p : 0 < n) (f : n < 2 ^ 64) where
   pub zeros-short : 32 ≤ zeros → (2 ^ 31 ≤ n * 2 ^ (zeros - 32)) × (n * 2 ^ (zeros - 32) < 2 ^ 32)
   zeros-short h = let t = leading-top 64 n p f in short n zeros (t .0) (t .1) (t .2) (t .3) h
 
--- ---- whole numbers: w digits are dropped, or w zeros joined
-pub integer-long : (n x w : ℕ) → 0 < n → 2 ^ 31 * 2 ^ w ≤ n → n < 2 ^ 32 * 2 ^ w → round n 1 x ≡ round n (2 ^ w) (x + w)
-integer-long n x w p lo hi = round-same n 1 x n (2 ^ w) (x + w) (32 + w) p (omega arith) (pow-pos w) (rw (pow-add 2 32 w) (omega arith)) (omega arith) lo hi
+-- ---- whole numbers: k digits are dropped, or k zeros joined
+pub integer-long : (w : Direction) (n x k : ℕ) → 0 < n → 2 ^ 31 * 2 ^ k ≤ n → n < 2 ^ 32 * 2 ^ k → roundBy w n 1 x ≡ roundBy w n (2 ^ k) (x + k)
+integer-long w n x k p lo hi = round-same w n 1 x n (2 ^ k) (x + k) (32 + k) p (omega arith) (pow-pos k) (rw (pow-add 2 32 k) (omega arith)) (omega arith) lo hi
 
-pub integer-short : (n x w : ℕ) → 0 < n → w ≤ 32 → 2 ^ 31 ≤ n * 2 ^ w → n * 2 ^ w < 2 ^ 32 → round n 1 x ≡ round (n * 2 ^ w) 1 (x - w)
-integer-short n x w p l lo hi =
-    let g : w + (32 - w) ≡ 32 = omega arith in
-    let e : 2 ^ w * 2 ^ (32 - w) ≡ 2 ^ 32 = sym (pow-add 2 w (32 - w)) ∙ ap (λ (i : ℕ). 2 ^ i) g in
-    round-same n 1 x (n * 2 ^ w) 1 (x - w) (32 - w) p (omega arith) (omega arith) (omega (arith, ap (λ (z : ℕ). n * z) e)) (omega arith) (omega arith)
+pub integer-short : (n x k : ℕ) → 0 < n → k ≤ 32 → 2 ^ 31 ≤ n * 2 ^ k → n * 2 ^ k < 2 ^ 32 → round n 1 x ≡ round (n * 2 ^ k) 1 (x - k)
+integer-short n x k p l lo hi =
+    let g : k + (32 - k) ≡ 32 = omega arith in
+    let e : 2 ^ k * 2 ^ (32 - k) ≡ 2 ^ 32 = sym (pow-add 2 k (32 - k)) ∙ ap (λ (i : ℕ). 2 ^ i) g in
+    round-same Nearest n 1 x (n * 2 ^ k) 1 (x - k) (32 - k) p (omega arith) (omega arith) (omega (arith, ap (λ (z : ℕ). n * z) e)) (omega arith) (omega arith)
     (omega arith)
 
 -- ---- what fits a word
@@ -63,29 +64,23 @@ pub product-fits : (a b : ℕ) → a < 2 ^ 32 → b < 2 ^ 32 → a * b < 2 ^ 64
 product-fits a b p q = sum-fits a 0 b p (omega arith) (omega arith) .0
 
 -- ---- operands far apart
--- n has k digits more than 32, and a units of 2 ^ k are nearest to it
-by-units : (n j k a : ℕ) → 2 ^ 31 * 2 ^ k ≤ n → n < 2 ^ 32 * 2 ^ k → closest n (2 ^ k) ≡ a → round n 1 j ≡ renormalised a (j + k)
-by-units n j k a lo hi c =
-    let pk : 0 < 2 ^ k = pow-pos k in
-    integer-long n j k (omega arith) lo hi ∙ round-normal n (2 ^ k) (j + k) pk lo hi ∙ ap (λ (m : ℕ). renormalised m (j + k)) c
-
--- a units of 2 ^ k and less than half a unit
-pub sum-far : (a b j k : ℕ) → b * 2 < 2 ^ k → 2 ^ 31 ≤ a → a < 2 ^ 32 → round (a * 2 ^ k + b) 1 j ≡ record { m = a; x = j + k }
-sum-far a b j k h p q =
+-- a units of 2 ^ k and r
+pub by-units : (w : Direction) (a r j k : ℕ) → r < 2 ^ k → 2 ^ 31 ≤ a → a < 2 ^ 32 → roundBy w (a * 2 ^ k + r) 1 j ≡ renormalised (taken w a r (2 ^ k)) (j + k)
+by-units w a r j k h p q =
     let a' : a ≤ 2 ^ 32 - 1 = omega arith in
     let lo : 2 ^ 31 * 2 ^ k ≤ a * 2 ^ k = mul-le-mul-right (2 ^ k) p in
     let hi : a * 2 ^ k ≤ (2 ^ 32 - 1) * 2 ^ k = mul-le-mul-right (2 ^ k) a' in
-    let b' : b < 2 ^ k = omega arith in
-    let c : closest (a * 2 ^ k + b) (2 ^ k) ≡ a = rw (Pow.high a k b', Pow.low a k b') (nearest-down a (b * 2) (2 ^ k) h) in
-    by-units (a * 2 ^ k + b) j k a (omega arith) (omega arith) c ∙ renormalised-small a (j + k) q
+    integer-long w (a * 2 ^ k + r) j k (omega (arith, pow-pos k)) (omega arith) (omega arith) ∙ round-parts w a r (2 ^ k) (j + k) h p q
+
+-- to nearest, less than half a unit is nothing
+pub sum-far : (a b j k : ℕ) → b * 2 < 2 ^ k → 2 ^ 31 ≤ a → a < 2 ^ 32 → round (a * 2 ^ k + b) 1 j ≡ record { m = a; x = j + k }
+sum-far a b j k h p q =
+    by-units Nearest a b j k (omega arith) p q ∙ ap (λ (m : ℕ). renormalised m (j + k)) (nearest-down a (b * 2) (2 ^ k) h) ∙ renormalised-small a (j + k) q
 
 -- q + 1 units of 2 ^ k less b, where b is less than half a unit
 less-than-half : (q b j k : ℕ) → 0 < b → b * 2 < 2 ^ k → 2 ^ 31 ≤ q → q < 2 ^ 32 → round (q * 2 ^ k + (2 ^ k - b)) 1 j ≡ renormalised (q + 1) (j + k)
 less-than-half q b j k p h lo hi =
-    let r : 2 ^ k - b < 2 ^ k = omega arith in
-    let q' : q ≤ 2 ^ 32 - 1 = omega arith in
-    let c : closest (q * 2 ^ k + (2 ^ k - b)) (2 ^ k) ≡ q + 1 = rw (Pow.high q k r, Pow.low q k r) (nearest-up q ((2 ^ k - b) * 2) (2 ^ k) (omega arith)) in
-    by-units (q * 2 ^ k + (2 ^ k - b)) j k (q + 1) (omega (arith, mul-le-mul-right (2 ^ k) lo)) (omega (arith, mul-le-mul-right (2 ^ k) q')) c
+    by-units Nearest q (2 ^ k - b) j k (omega arith) lo hi ∙ ap (λ (m : ℕ). renormalised m (j + k)) (nearest-up q ((2 ^ k - b) * 2) (2 ^ k) (omega arith))
 
 -- a is not the least mantissa
 far-above : (a b j k : ℕ) → b * 2 < 2 ^ k → 2 ^ 31 < a → a < 2 ^ 32 → 0 < b → round (a * 2 ^ k - b) 1 j ≡ record { m = a; x = j + k }

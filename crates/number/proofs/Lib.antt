@@ -11,9 +11,12 @@ pub mod Reach
 pub mod SignedReach
 pub mod Value
 pub mod Error
+pub mod Candidates
 pub mod Nearest
+pub mod Toward
 pub mod Examples
 pub mod Unique
 pub mod Digits
+pub mod Sums
 pub mod Words
 pub mod Integers

@@ -1,19 +1,22 @@
 -- The rounding as a property: of all numbers with 32 bits, at any exponent, none is nearer to the exact result, and a tie goes to the even mantissa.
 -- `round-nearest` for every rounding; `sum-nearest`, `product-nearest` and `quotient-nearest` for the operations, zero operands included.
-use mathlib.Core.Path.{_≡_, refl, sym, ap, ap₂, _∙_, subst}
-use Prim.Native.Nat.{ℕ, zero, suc, _+_, _-_, _*_, _%_, _^_, _≤_, _<_}
-use native.Mathlib.Nat.{zero-mul, mul-pos, mul-le-mul-right, mul-lt-mul-of-pos-right, le-of-mul-le-mul-right, eq-of-mul-eq-mul-right, le-antisymm, le-of-lt}
+use mathlib.Core.Logic.{⊎-elim}
+use mathlib.Core.Path.{_≡_, sym, ap, ap₂, _∙_}
+use Prim.Native.Nat.{ℕ, suc, _+_, _-_, _*_, _%_, _^_, _≤_, _<_}
+use native.Mathlib.Nat.{mul-pos, mul-le-mul-right, mul-lt-mul-of-pos-right, le-of-mul-le-mul-right, eq-of-mul-eq-mul-right, le-antisymm, le-of-lt}
 use native.Mathlib.Nat.{not-le-of-lt}
 use native.Mathlib.Decide.{decLe}
 use native.Mathlib.Omega.{arith}
-use lib.Pow.{pow-pos, pow-add, pow-mono}
+use lib.Pow.{pow-mono}
 use lib.Ieee.Nearest.{closest}
 use Rattle.fraction.specs.Fraction.{Fraction, Same, fractionSum, fractionProduct, fractionQuotient}
 use Rattle.number.proofs.Closest.{closest-best, closest-tie}
-use Rattle.number.proofs.Rounding.{Represents, round-zero, round-represents, dropped, scaled-low}
-use Rattle.number.proofs.Value.{scale, scale-positive, scale-is, Over, value-over, Rounds, unrounded-rounds, sum-rounds, product-rounds, quotient-rounds}
-use Rattle.number.specs.Nearest.{gap, AtLeastAsNear, Nearest, float, unrounded}
+use Rattle.number.proofs.Candidates as Candidates
+use Rattle.number.proofs.Candidates.{Place, Placed, BothZero, rounds-placed}
+use Rattle.number.proofs.Value.{Over, Rounds, unrounded-rounds, sum-rounds, product-rounds, quotient-rounds}
+use Rattle.number.specs.Nearest.{gap, AtLeastAsNear, NearestTo, float, unrounded}
 use Rattle.number.specs.Number.{bias, round, value, Ranged, sumOf, productOf, quotientOf}
+use Rattle.number.specs.declared.Direction.the-variants.{Nearest}
 use Rattle.number.specs.declared.Number.{Number}
 
 -- ---- distances over one denominator
@@ -117,86 +120,31 @@ module _ (N D : ℕ) (pD : 0 < D) (lo : 2 ^ 31 * D ≤ N) where
         let l : gap (M * D * E) (N * E) < gap (m * D * F) (N * E) = rw (a, b) (mul-lt-mul-of-pos-right (lower m t h) pF) in
         record { best = le-of-lt l; even = λ g ne. absurd (not-le-of-lt l g) }
 
--- ---- one rounding, of n / d at exponent x, not zero
-module _ (n d x : ℕ) (pn : 0 < n) (pd : 0 < d) (half : d ≤ 2 * n) (hx : 32 ≤ x) where
-  abbrev k : ℕ
-  k = dropped n d x pn pd half
+-- ---- a number in any place
+chosen : {q : Fraction} {r : Number} {m i j : ℕ} (P : Placed Nearest q r m i j) → m < 2 ^ 32 → Chosen (P .N) (P .D) (P .E) (P .F) m
+chosen {m = m} P h = go (P .place)
+  where
+    go : Place (P .E) (P .F) → Chosen (P .N) (P .D) (P .E) (P .F) m
+    go (Candidates.coarse t e) = coarse (P .N) (P .D) (P .divisor) (P .low) (P .E) (P .F) m t (P .last) e
+    go (Candidates.fine t e) = fine (P .N) (P .D) (P .divisor) (P .low) (P .E) (P .F) m t (P .others) h e
 
-  -- the exponent of the last place
-  abbrev y : ℕ
-  y = x + k - 32
+placed-nearest : {q : Fraction} {r : Number} → ((m i j : ℕ) → Placed Nearest q r m i j) → NearestTo q r
+placed-nearest {q} {r} place = record { best = best; even = even }
+  where
+    best : (m i j : ℕ) → m < 2 ^ 32 → AtLeastAsNear q (value r) (float m i j)
+    best m i j h =
+        let P = place m i j in
+        near-over (P .S) _ _ _ (value r) q (float m i j) (P .positive) (P .result) (P .exact) (P .other) (chosen P h .best)
 
-  abbrev N' : ℕ
-  N' = n * 2 ^ 32
-
-  abbrev D' : ℕ
-  D' = d * 2 ^ k
-
-  represents : Represents (closest N' D') y (round n d x)
-  represents = round-represents n d x pn pd half
-
-  module _ (m i j : ℕ) where
-    chosen : m < 2 ^ 32 → Chosen N' D' (2 ^ y * 2 ^ j) (2 ^ i * scale) m
-    chosen h = go (decLe (y + j) (i + bias))
-      where
-        low : 2 ^ 31 * D' ≤ N'
-        low = scaled-low n d x pn pd half
-
-        go : Dec (y + j ≤ i + bias) → Chosen N' D' (2 ^ y * 2 ^ j) (2 ^ i * scale) m
-        go (yes l) =
-            let t : ℕ = i + bias - (y + j) in
-            let e : y + j + t ≡ i + bias = omega arith in
-            coarse N' D' (mul-pos pd (pow-pos k)) low (2 ^ y * 2 ^ j) (2 ^ i * scale) m t (mul-pos (pow-pos y) (pow-pos j))
-            (scale-is i (y + j + t) e ∙ pow-add 2 (y + j) t ∙ ap (λ (z : ℕ). z * 2 ^ t) (pow-add 2 y j))
-        go (no l) =
-            let t : ℕ = y + j - (i + bias) - 1 in
-            let e : y + j ≡ i + bias + suc t = omega arith in
-            fine N' D' (mul-pos pd (pow-pos k)) low (2 ^ y * 2 ^ j) (2 ^ i * scale) m t (mul-pos (pow-pos i) scale-positive) h
-            (sym (pow-add 2 y j) ∙ ap (λ (z : ℕ). 2 ^ z) e ∙ pow-add 2 (i + bias) (suc t) ∙ ap (λ (z : ℕ). z * 2 ^ suc t) (sym (scale-is i (i + bias) refl)))
-
-    -- the result, the exact fraction and the candidate over one denominator
-    abbrev S : ℕ
-    S = D' * scale * 2 ^ j
-
-    result-over : Over S (value (round n d x)) (closest N' D' * D' * (2 ^ y * 2 ^ j))
-    result-over =
-        let R = round n d x in
-        let v = ap (λ (z : ℕ). z * (D' * 2 ^ j)) (value-over R) in
-        let w = ap (λ (z : ℕ). z * (value R .low * D' * 2 ^ j)) (represents .same) in
-        omega arith
-
-    exact-over : (q : Fraction) → Over (d * scale) q (n * 2 ^ x) → Over S q (N' * (2 ^ y * 2 ^ j))
-    exact-over q o =
-        let g : y + 32 ≡ x + k = omega arith in
-        let e : 2 ^ y * 2 ^ 32 ≡ 2 ^ x * 2 ^ k = sym (pow-add 2 y 32) ∙ ap (λ (z : ℕ). 2 ^ z) g ∙ pow-add 2 x k in
-        let a = ap (λ (z : ℕ). z * (2 ^ k * 2 ^ j)) o in
-        let b = ap (λ (z : ℕ). n * 2 ^ j * q .low * z) e in
-        omega arith
-
-    candidate-over : Over S (float m i j) (m * D' * (2 ^ i * scale))
-    candidate-over = omega arith
-
-  nonzero-nearest : (q : Fraction) → Over (d * scale) q (n * 2 ^ x) → Nearest q (round n d x)
-  nonzero-nearest q o = record { best = best; even = even }
-    where
-      pS : (j : ℕ) → 0 < S 0 0 j
-      pS j = mul-pos (mul-pos (mul-pos pd (pow-pos k)) scale-positive) (pow-pos j)
-
-      best : (m i j : ℕ) → m < 2 ^ 32 → AtLeastAsNear q (value (round n d x)) (float m i j)
-      best m i j h =
-          near-over _ _ _ _ (value (round n d x)) q (float m i j) (pS j) (result-over m i j) (exact-over m i j q o) (candidate-over m i j)
-          (chosen m i j h .best)
-
-      even : (m i j : ℕ) → m < 2 ^ 32 → AtLeastAsNear q (float m i j) (value (round n d x)) → (Same (float m i j) (value (round n d x)) → ⊥)
-          → round n d x .m % 2 ≡ 0
-      even m i j h g ne =
-          represents .even
-          (chosen m i j h .even
-          (over-near _ _ _ _ (float m i j) q (value (round n d x)) (pS j) (candidate-over m i j) (exact-over m i j q o) (result-over m i j) g)
-          (λ e. ne (same-over _ _ _ _ (value (round n d x)) q (float m i j) (pS j) (result-over m i j) (exact-over m i j q o) (candidate-over m i j) e)))
+    even : (m i j : ℕ) → m < 2 ^ 32 → AtLeastAsNear q (float m i j) (value r) → (Same (float m i j) (value r) → ⊥) → r .m % 2 ≡ 0
+    even m i j h g ne =
+        let P = place m i j in
+        P .even
+        (chosen P h .even (over-near (P .S) _ _ _ (float m i j) q (value r) (P .positive) (P .other) (P .exact) (P .result) g)
+        (λ e. ne (same-over (P .S) _ _ _ (value r) q (float m i j) (P .positive) (P .result) (P .exact) (P .other) e)))
 
 -- ---- zero is exact
-zero-nearest : (q : Fraction) (r : Number) → q .top ≡ 0 → r .m ≡ 0 → Nearest q r
+zero-nearest : (q : Fraction) (r : Number) → q .top ≡ 0 → r .m ≡ 0 → NearestTo q r
 unfolding value
 zero-nearest q r e f =
     let g : r .m * 2 ^ (r .x - bias) * q .low ≡ 0 = ap (λ (z : ℕ). z * 2 ^ (r .x - bias) * q .low) f ∙ omega arith in
@@ -207,31 +155,19 @@ zero-nearest q r e f =
       even = λ m i j l n ne. ap (λ (z : ℕ). z % 2) f;
     }
 
--- a fraction of which a multiple is zero
-top-zero : (s : ℕ) (q : Fraction) → 0 < s → Over s q 0 → q .top ≡ 0
-top-zero s q p o = eq-of-mul-eq-mul-right s p (q .top) 0 (omega arith)
+pub rounds-nearest : {q : Fraction} {r : Number} → Rounds Nearest q r → NearestTo q r
+rounds-nearest {q} {r} h = ⊎-elim (λ (z : BothZero q r). zero-nearest q r (z .0) (z .1)) placed-nearest (rounds-placed h)
 
-pub rounds-nearest : {q : Fraction} {r : Number} → Rounds q r → Nearest q r
-rounds-nearest {q} {r} w = subst (Nearest q) (w .result) (go (w .n) refl)
-  where
-    go : (n : ℕ) → w .n ≡ n → Nearest q (round (w .n) (w .d) (w .x))
-    go zero e =
-        let z = ap (λ (n : ℕ). n * 2 ^ w .x * q .low) e in
-        let o : Over (w .d * scale) q 0 = w .exact ∙ z ∙ ap (λ (k : ℕ). k * q .low) (zero-mul (2 ^ w .x)) in
-        zero-nearest q (round (w .n) (w .d) (w .x)) (top-zero (w .d * scale) q (mul-pos (w .divisor) scale-positive) o)
-        (ap (λ (n : ℕ). round n (w .d) (w .x) .m) e ∙ ap (λ (r : Number). r .m) (round-zero (w .d) (w .x)))
-    go (suc n) e = nonzero-nearest (w .n) (w .d) (w .x) (omega arith) (w .divisor) (w .half (omega arith)) (w .start) q (w .exact)
-
-pub round-nearest : (n d x : ℕ) (p : 0 < d) → (0 < n → d ≤ 2 * n) → 32 ≤ x → Nearest (unrounded n d x p) (round n d x)
+pub round-nearest : (n d x : ℕ) (p : 0 < d) → (0 < n → d ≤ 2 * n) → 32 ≤ x → NearestTo (unrounded n d x p) (round n d x)
 round-nearest n d x p h s = rounds-nearest (unrounded-rounds n d x p h s)
 
 -- ---- the operations
-pub sum-nearest : {r : ℕ} {a b : Number} → Ranged r a → Ranged r b → r + 64 ≤ bias → Nearest (fractionSum (value a) (value b)) (sumOf a b)
+pub sum-nearest : {r : ℕ} {a b : Number} → Ranged r a → Ranged r b → r + 64 ≤ bias → NearestTo (fractionSum (value a) (value b)) (sumOf a b)
 sum-nearest u v h = rounds-nearest (sum-rounds u v h)
 
 module _ {r s : ℕ} {a b : Number} (u : Ranged r a) (v : Ranged s b) (h : r + s + 64 ≤ bias) where
-  pub product-nearest : Nearest (fractionProduct (value a) (value b)) (productOf a b)
+  pub product-nearest : NearestTo (fractionProduct (value a) (value b)) (productOf a b)
   product-nearest = rounds-nearest (product-rounds u v h)
 
-  pub quotient-nearest : 0 < b .m → Nearest (fractionQuotient (value a) (value b)) (quotientOf a b)
+  pub quotient-nearest : 0 < b .m → NearestTo (fractionQuotient (value a) (value b)) (quotientOf a b)
   quotient-nearest p = rounds-nearest (quotient-rounds u v h p)

@@ -13,6 +13,7 @@ use Rattle.number.proofs.Rounding.{round-zero}
 use Rattle.number.proofs.Zero.{round-back}
 use Rattle.number.specs.Number.{zeroNumber, round, Ranged}
 use Rattle.number.specs.Signed.{below, differenceOf}
+use Rattle.number.specs.declared.Direction.the-variants.{Nearest}
 use Rattle.number.specs.declared.Number.{Number}
 
 -- ---- which of two numbers is less
@@ -93,11 +94,11 @@ difference-equal a b e f =
     let h : b .x ≤ a .x = omega arith in
     let g : a .x - b .x ≡ 0 = omega arith in
     let n : a .m * 2 ^ (a .x - b .x) - b .m ≡ 0 = rw g (omega arith) in
-    difference-is a b h ∙ ap (λ (z : ℕ). round z 1 (b .x)) n ∙ round-zero 1 (b .x)
+    difference-is a b h ∙ ap (λ (z : ℕ). round z 1 (b .x)) n ∙ round-zero Nearest 1 (b .x)
 
 pub difference-zero-right : {r : ℕ} (a b : Number) → Ranged r a → b .m ≡ 0 → differenceOf a b ≡ a
 unfolding differenceOf
 difference-zero-right a b f h =
     let l : ℕ = min (a .x) (b .x) in
     let s : a .m * 2 ^ (a .x - l) - b .m * 2 ^ (b .x - l) ≡ a .m * 2 ^ (a .x - l) = omega (arith, ap (λ (z : ℕ). z * 2 ^ (b .x - l)) h) in
-    ap (λ (n : ℕ). round n 1 l) s ∙ round-back a l f (min-le-left (a .x) (b .x))
+    ap (λ (n : ℕ). round n 1 l) s ∙ round-back Nearest a l f (min-le-left (a .x) (b .x))

@@ -1,21 +1,23 @@
--- One rounding. `round-is`, `round-normal` and `round-parts` say which whole number it takes, `round-same` that it goes by the exact value alone;
--- `round-represents`, `round-near`, `round-start` and `round-stop` give a result's digits, its error and its exponent.
+-- One rounding, in any direction. `round-is`, `round-normal` and `round-parts` say which whole number it takes, `round-same` that it goes by the exact value
+-- alone; `round-represents`, `round-near`, `round-start` and `round-stop` give a result's digits, its error and its exponent.
 use mathlib.Core.Path.{_≡_, refl, sym, ap, ap₂, _∙_, subst}
 use mathlib.Core.Logic.{⊎-elim}
-use Prim.Native.Nat.{ℕ, suc, _+_, _-_, _*_, _/_, _%_, _^_, _≤_, _<_, compare}
+use Prim.Native.Nat.{ℕ, suc, _+_, _-_, _*_, _/_, _%_, _^_, _≤_, _<_}
 use native.Mathlib.Nat.{mul-add-div-right, mul-add-mod-self-right, div-eq-of-lt, mod-eq-of-lt, div-one, mod-one, mul-pos, mul-le-mul-right}
 use native.Mathlib.Nat.{mul-lt-mul-of-pos-right, le-of-mul-le-mul-right, lt-of-mul-lt-mul-right, le-div-iff-mul-le, div-lt-iff-lt-mul, le-antisymm}
 use native.Mathlib.Nat.{lt-of-lt-of-le, lt-of-le-of-lt, lt-of-not-le, not-le-of-lt, eq-or-lt-of-le}
 use native.Mathlib.Omega.{arith}
 use borrow.Author.Tests.{ne-eqb, eq-eqb}
 use lib.Pow.{pow-pos, pow-mono, pow-add}
-use lib.Ieee.{size, nearest}
+use lib.Ieee.{size}
 use lib.Ieee.Digits.{size-lt, size-le, size-reaches}
-use lib.Ieee.Nearest.{closest, closest-same}
-use Rattle.number.proofs.Closest.{Near, nearest-down, closest-near}
-use Rattle.number.proofs.Taken.{taken-between}
-use Rattle.number.specs.Direction.{Nearest}
-use Rattle.number.specs.Number.{zeroNumber, round, renormalised}
+use Rattle.fraction.specs.Fraction.{Fraction, natural}
+use Rattle.fraction.specs.Within.{Within}
+use Rattle.fraction.proofs.Within.{within-scaled}
+use Rattle.number.proofs.Taken.{taken-whole, taken-same, taken-above, taken-below, taken-near}
+use Rattle.number.specs.Direction.{taken, wholeBy, roundings}
+use Rattle.number.specs.Number.{zeroNumber, roundBy, renormalised}
+use Rattle.number.specs.declared.Direction.{Direction}
 use Rattle.number.specs.declared.Number.{Number}
 
 -- where a power of 2 is below another, so is its exponent
@@ -29,15 +31,15 @@ size-is n j lo hi =
     (lt-of-not-le (λ (g : size n ≤ j). not-le-of-lt (lt-of-lt-of-le (size-lt n) (pow-mono g)) lo))
 
 -- ---- which whole number it is
-pub round-zero : (d x : ℕ) → round 0 d x ≡ zeroNumber
-unfolding round
-round-zero d x = refl
+pub round-zero : (w : Direction) (d x : ℕ) → roundBy w 0 d x ≡ zeroNumber
+unfolding roundBy
+round-zero w d x = refl
 
 -- n / d is N / D times 2 ^ k / 2 ^ 32, where N / D has 32 digits before the point
-pub round-is : (n d x N D k : ℕ) → 0 < n → 0 < d → 0 < D → n * 2 ^ 32 * D ≡ N * (d * 2 ^ k) → 2 ^ 31 * D ≤ N → N < 2 ^ 32 * D
-    → round n d x ≡ renormalised (closest N D) (x + k - 32)
-unfolding round
-round-is n d x N D k pn pd pD e lo hi =
+pub round-is : (w : Direction) (n d x N D k : ℕ) → 0 < n → 0 < d → 0 < D → n * 2 ^ 32 * D ≡ N * (d * 2 ^ k) → 2 ^ 31 * D ≤ N → N < 2 ^ 32 * D
+    → roundBy w n d x ≡ renormalised (wholeBy w N D) (x + k - 32)
+unfolding roundBy
+round-is w n d x N D k pn pd pD e lo hi =
     let P : ℕ = 2 ^ k in
     let pP : 0 < P = pow-pos k in
     let pdP : 0 < d * P = mul-pos pd pP in
@@ -48,38 +50,38 @@ round-is n d x N D k pn pd pD e lo hi =
     let hi₂ : n * 2 ^ 32 / d < 2 ^ suc (31 + k) = rw s (div-lt-iff-lt-mul pd .1 (lt-of-mul-lt-mul-right D hi₁)) in
     let t : size (n * 2 ^ 32 / d) - 32 ≡ k = omega (arith, size-is (n * 2 ^ 32 / d) (31 + k) lo₂ hi₂) in
     rw (ne-eqb n 0 (omega arith), t)
-    (ap (λ (m : ℕ). renormalised m (x + k - 32)) (closest-same (n * 2 ^ 32) (d * P) N D pdP pD e))
+    (ap (λ (m : ℕ). renormalised m (x + k - 32)) (taken-same w (n * 2 ^ 32) (d * P) N D pdP pD e))
 
 -- n / d has 32 digits before the point itself
-pub round-normal : (n d x : ℕ) → 0 < d → 2 ^ 31 * d ≤ n → n < 2 ^ 32 * d → round n d x ≡ renormalised (closest n d) x
-round-normal n d x p lo hi = round-is n d x n d 32 (omega arith) p p (omega arith) lo hi ∙ ap (renormalised (closest n d)) (omega arith)
+pub round-normal : (w : Direction) (n d x : ℕ) → 0 < d → 2 ^ 31 * d ≤ n → n < 2 ^ 32 * d → roundBy w n d x ≡ renormalised (wholeBy w n d) x
+round-normal w n d x p lo hi = round-is w n d x n d 32 (omega arith) p p (omega arith) lo hi ∙ ap (renormalised (wholeBy w n d)) (omega arith)
 
 -- q and r / d: the whole part and the remainder, as division gives them
-pub round-parts : (q r d x : ℕ) → r < d → 2 ^ 31 ≤ q → q < 2 ^ 32 → round (q * d + r) d x ≡ renormalised (nearest q (compare (r * 2) d)) x
-round-parts q r d x h lo hi =
+pub round-parts : (w : Direction) (q r d x : ℕ) → r < d → 2 ^ 31 ≤ q → q < 2 ^ 32 → roundBy w (q * d + r) d x ≡ renormalised (taken w q r d) x
+round-parts w q r d x h lo hi =
     let p : 0 < d = omega arith in
     let a : 2 ^ 31 * d ≤ q * d = mul-le-mul-right d lo in
     let s : suc q ≤ 2 ^ 32 = hi in
     let b : suc q * d ≤ 2 ^ 32 * d = mul-le-mul-right d s in
     let e : (q * d + r) / d ≡ q = mul-add-div-right p q r ∙ ap (λ (z : ℕ). q + z) (div-eq-of-lt h) ∙ omega arith in
     let f : (q * d + r) % d ≡ r = mul-add-mod-self-right q d r ∙ mod-eq-of-lt h in
-    round-normal (q * d + r) d x p (omega arith) (omega arith) ∙ ap₂ (λ (m k : ℕ). renormalised (nearest m (compare (k * 2) d)) x) e f
+    round-normal w (q * d + r) d x p (omega arith) (omega arith) ∙ ap₂ (λ (m k : ℕ). renormalised (taken w m k d) x) e f
 
 -- n / d at exponent x and N / D at exponent y are the same fraction, the second with 32 digits before the point
-pub round-same : (n d x N D y k : ℕ) → 0 < n → 0 < d → 0 < D → n * 2 ^ 32 * D ≡ N * (d * 2 ^ k) → x + k - 32 ≡ y → 2 ^ 31 * D ≤ N → N < 2 ^ 32 * D
-    → round n d x ≡ round N D y
-round-same n d x N D y k pn pd pD e f lo hi =
-    round-is n d x N D k pn pd pD e lo hi ∙ ap (renormalised (closest N D)) f ∙ sym (round-normal N D y pD lo hi)
+pub round-same : (w : Direction) (n d x N D y k : ℕ) → 0 < n → 0 < d → 0 < D → n * 2 ^ 32 * D ≡ N * (d * 2 ^ k) → x + k - 32 ≡ y → 2 ^ 31 * D ≤ N
+    → N < 2 ^ 32 * D → roundBy w n d x ≡ roundBy w N D y
+round-same w n d x N D y k pn pd pD e f lo hi =
+    round-is w n d x N D k pn pd pD e lo hi ∙ ap (renormalised (wholeBy w N D)) f ∙ sym (round-normal w N D y pD lo hi)
 
 pub renormalised-small : (m x : ℕ) → m < 2 ^ 32 → renormalised m x ≡ record { m = m; x = x }
 unfolding renormalised
 renormalised-small m x h = simp (ne-eqb m (2 ^ 32) (omega arith))
 
 -- a whole number whose digits all fit is kept as it is
-pub round-exact : (n x N k : ℕ) → 0 < n → n * 2 ^ 32 ≡ N * 2 ^ k → 2 ^ 31 ≤ N → N < 2 ^ 32 → round n 1 x ≡ record { m = N; x = x + k - 32 }
-round-exact n x N k p e lo hi =
-    let c : closest N 1 ≡ N = rw (div-one N, mod-one N) (nearest-down N 0 1 (omega arith)) in
-    round-is n 1 x N 1 k p (omega arith) (omega arith) (omega arith) (omega arith) (omega arith)
+pub round-exact : (w : Direction) (n x N k : ℕ) → 0 < n → n * 2 ^ 32 ≡ N * 2 ^ k → 2 ^ 31 ≤ N → N < 2 ^ 32 → roundBy w n 1 x ≡ record { m = N; x = x + k - 32 }
+round-exact w n x N k p e lo hi =
+    let c : wholeBy w N 1 ≡ N = rw (div-one N, mod-one N) (taken-whole w N 1 (omega arith)) in
+    round-is w n 1 x N 1 k p (omega arith) (omega arith) (omega arith) (omega arith) (omega arith)
     ∙ ap (λ (z : ℕ). renormalised z (x + k - 32)) c ∙ renormalised-small N (x + k - 32) hi
 
 -- ---- a result of 32 digits that stands for m × 2 ^ x
@@ -136,32 +138,36 @@ module _ (n d x : ℕ) (pn : 0 < n) (pd : 0 < d) (half : d ≤ 2 * n) where
       let b : q < 2 ^ (32 + k) = subst (λ (s : ℕ). q < 2 ^ s) e (size-lt q) in
       omega (arith, rw (pow-add 2 32 k) at (div-lt-iff-lt-mul pd .0 b))
 
-  pub round-represents : Represents (closest (n * 2 ^ 32) (d * 2 ^ k)) (x + k - 32) (round n d x)
-  unfolding round
-  round-represents =
-      let r = taken-between Nearest (2 ^ 31) (2 ^ 32) (n * 2 ^ 32) (d * 2 ^ k) (mul-pos pd (pow-pos k)) scaled-low (omega (arith, scaled-high)) in
-      rw (ne-eqb n 0 (omega arith)) (renormalised-represents (closest (n * 2 ^ 32) (d * 2 ^ k)) (x + k - 32) (r .0) (r .1))
+  module _ (w : Direction) where
+    abbrev M : ℕ
+    M = wholeBy w (n * 2 ^ 32) (d * 2 ^ k)
 
-  -- the rounded value over the exact one
-  pub round-near : 32 ≤ x → Near (round n d x .m * 2 ^ round n d x .x * d) (n * 2 ^ x)
-  round-near hx =
-      let M : ℕ = closest (n * 2 ^ 32) (d * 2 ^ k) in
-      let Y : ℕ = 2 ^ (x + k - 32) in
-      let near = closest-near (n * 2 ^ 32) (d * 2 ^ k) (mul-pos pd (pow-pos k)) scaled-low in
-      let g : x + k - 32 + 32 ≡ x + k = omega arith in
-      let e : Y * 2 ^ 32 ≡ 2 ^ x * 2 ^ k = sym (pow-add 2 (x + k - 32) 32) ∙ ap (λ (i : ℕ). 2 ^ i) g ∙ pow-add 2 x k in
-      let f : M * d * (Y * 2 ^ 32) ≡ M * d * (2 ^ x * 2 ^ k) = ap (λ (z : ℕ). M * d * z) e in
-      let a = mul-le-mul-right (2 ^ x) (near .above) in
-      let b = mul-le-mul-right (2 ^ x) (near .below) in
-      rw (round-represents .same) (record { above = omega (arith, f, a); below = omega (arith, f, b) })
+    pub round-represents : Represents M (x + k - 32) (roundBy w n d x)
+    unfolding roundBy
+    round-represents =
+        let p = mul-pos pd (pow-pos k) in
+        rw (ne-eqb n 0 (omega arith))
+        (renormalised-represents M (x + k - 32) (taken-above (n * 2 ^ 32) (d * 2 ^ k) p w (2 ^ 31) scaled-low)
+        (taken-below (n * 2 ^ 32) (d * 2 ^ k) p w (2 ^ 32) (omega (arith, scaled-high))))
 
-  -- the exponent, from powers of 2 around n / d
-  pub round-start : (i : ℕ) → 2 ^ i * d ≤ n * 2 ^ 32 → x + i ≤ round n d x .x + 63
-  round-start i h =
-      let a : 2 ^ i * d < 2 ^ (32 + k) * d = lt-of-le-of-lt h (rw (pow-add 2 32 k) (omega (arith, scaled-high))) in
-      omega (arith, pow-less {i = i} {j = 32 + k} (lt-of-mul-lt-mul-right d a), round-represents .start)
+    -- the rounded value and the exact one, both times 2 ^ 32 / 2 ^ x
+    pub round-near : 32 ≤ x → Within (roundings w) (natural (roundBy w n d x .m * 2 ^ roundBy w n d x .x * d)) (natural (n * 2 ^ x))
+    round-near hx =
+        let Y : ℕ = 2 ^ (x + k - 32) in
+        let near = taken-near (n * 2 ^ 32) (d * 2 ^ k) (mul-pos pd (pow-pos k)) scaled-low w in
+        let g : x + k - 32 + 32 ≡ x + k = omega arith in
+        let e : Y * 2 ^ 32 ≡ 2 ^ x * 2 ^ k = sym (pow-add 2 (x + k - 32) 32) ∙ ap (λ (i : ℕ). 2 ^ i) g ∙ pow-add 2 x k in
+        let c : Fraction = record { top = 2 ^ x; low = 2 ^ 32; above-zero = omega arith } in
+        rw (round-represents .same)
+        (within-scaled c (natural (M * Y * d)) (natural (n * 2 ^ x)) near (omega (arith, ap (λ (z : ℕ). M * d * z) e)) (omega arith))
 
-  pub round-stop : (j : ℕ) → n * 2 ^ 32 < 2 ^ j * d → 32 ≤ x → round n d x .x + 63 ≤ x + j
-  round-stop j h hx =
-      let a : 2 ^ (31 + k) * d < 2 ^ j * d = lt-of-le-of-lt (rw (pow-add 2 31 k) (omega (arith, scaled-low))) h in
-      omega (arith, pow-less {i = 31 + k} {j = j} (lt-of-mul-lt-mul-right d a), round-represents .stop)
+    -- the exponent, from powers of 2 around n / d
+    pub round-start : (i : ℕ) → 2 ^ i * d ≤ n * 2 ^ 32 → x + i ≤ roundBy w n d x .x + 63
+    round-start i h =
+        let a : 2 ^ i * d < 2 ^ (32 + k) * d = lt-of-le-of-lt h (rw (pow-add 2 32 k) (omega (arith, scaled-high))) in
+        omega (arith, pow-less {i = i} {j = 32 + k} (lt-of-mul-lt-mul-right d a), round-represents .start)
+
+    pub round-stop : (j : ℕ) → n * 2 ^ 32 < 2 ^ j * d → 32 ≤ x → roundBy w n d x .x + 63 ≤ x + j
+    round-stop j h hx =
+        let a : 2 ^ (31 + k) * d < 2 ^ j * d = lt-of-le-of-lt (rw (pow-add 2 31 k) (omega (arith, scaled-low))) h in
+        omega (arith, pow-less {i = 31 + k} {j = j} (lt-of-mul-lt-mul-right d a), round-represents .stop)

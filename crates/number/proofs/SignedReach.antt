@@ -11,6 +11,7 @@ use Rattle.number.proofs.Signs.{signed-sum-left, signed-sum-right, nega
 use Rattle.number.proofs.Zero.{sum-positive-left}
 use Rattle.number.specs.Number.{bias, Ranged, sumOf}
 use Rattle.number.specs.Signed.{below, plain, zeroSigned, signedDifference, signedSum, signedProduct, withSign, SignedRanged}
+use Rattle.number.specs.declared.Direction.the-variants.{Nearest}
 use Rattle.number.specs.declared.Number.{Number}
 use Rattle.number.specs.declared.signed.Signed.{Signed}
 
@@ -41,12 +42,12 @@ pub signed-ranged-sum : {r : ℕ} {a b : Signed} → SignedRanged r a → Signed
 signed-ranged-sum {r} {a} {b} u v small = go (a .negative) (b .negative) refl refl
   where
     total : Ranged (r + 31) (sumOf (a .size) (b .size))
-    total = ranged-more (omega arith) (ranged-sum (u .size) (v .size) small)
+    total = ranged-more (omega arith) (ranged-sum Nearest (u .size) (v .size) small)
 
     go : (s t : Bool) → a .negative ≡ s → b .negative ≡ t → SignedRanged (r + 31) (signedSum a b)
     go true true e f =
         let p = negative-positive a u e in
-        subst (SignedRanged (r + 31)) (sym (signed-sum-negative a b e f p)) (signed-ranged-nonzero total (sum-positive-left (a .size) (b .size) p))
+        subst (SignedRanged (r + 31)) (sym (signed-sum-negative a b e f p)) (signed-ranged-nonzero total (sum-positive-left Nearest (a .size) (b .size) p))
     go true false e f = subst (SignedRanged (r + 31)) (sym (signed-sum-left a b e f)) (signed-ranged-difference (v .size) (u .size) small)
     go false true e f = subst (SignedRanged (r + 31)) (sym (signed-sum-right a b e f)) (signed-ranged-difference (u .size) (v .size) small)
     go false false e f = subst (SignedRanged (r + 31)) (sym (signed-sum-plain a b e f)) (signed-ranged-plain total)
@@ -55,7 +56,7 @@ pub signed-ranged-product : {r s : ℕ} {a b : Signed} → SignedRanged r a → 
 unfolding signedProduct withSign
 signed-ranged-product {r} {s} {a} {b} u v small =
     record {
-      size = ranged-product (u .size) (v .size) small;
+      size = ranged-product Nearest (u .size) (v .size) small;
       zero = λ e. ap (λ (t : Bool). xor (a .negative) (b .negative) && not t) (eq-eqb _ 0 e)
           ∙ go (xor (a .negative) (b .negative));
     }

@@ -9,8 +9,9 @@ use borrow.Author.Tests.{lt-ltb, le-ltb, ltb-true, ltb-false, eq-eqb, ne-eqb}
 use lib.Dec.{ltb}
 use lib.Pow.{pow-pos}
 use Rattle.number.proofs.Zero.{product-comm}
-use Rattle.number.specs.Number.{round, sumOf, productOf}
+use Rattle.number.specs.Number.{round, sumOf, sumBy, productOf}
 use Rattle.number.specs.Signed.{integerAt, below, differenceOf, plain, signedRound, signedDifference, signedSum, signedProduct, withSign, SignedRanged}
+use Rattle.number.specs.declared.Direction.the-variants.{Nearest}
 use Rattle.number.specs.declared.Number.{Number}
 use Rattle.number.specs.declared.signed.Signed.{Signed}
 
@@ -54,13 +55,13 @@ module _ (a b : Number) where
   l = min (a .x) (b .x)
 
   both-plain : signedSum (plain a) (plain b) ≡ plain (sumOf a b)
-  unfolding signedSum sumOf
+  unfolding signedSum sumBy
   both-plain =
       signed-round-more (integerAt l a + integerAt l b) 0 l (omega arith)
       ∙ ap (λ (n : ℕ). plain (round n 1 l)) (sub-zero (integerAt l a + integerAt l b))
 
   both-minus : 0 < a .m → signedSum (minus a) (minus b) ≡ minus (sumOf a b)
-  unfolding signedSum sumOf
+  unfolding signedSum sumBy
   both-minus p =
       let n : 0 < integerAt l a = mul-pos p (pow-pos (a .x - l)) in
       signed-round-less 0 (integerAt l a + integerAt l b) l (omega arith)
@@ -102,7 +103,7 @@ module _ (a b : Signed) where
 -- ---- products
 pub signed-product-comm : (a b : Signed) → signedProduct a b ≡ signedProduct b a
 unfolding signedProduct xor
-signed-product-comm a b = ap₂ withSign (go (a .negative) (b .negative)) (product-comm (a .size) (b .size))
+signed-product-comm a b = ap₂ withSign (go (a .negative) (b .negative)) (product-comm Nearest (a .size) (b .size))
   where
     go : (s t : Bool) → xor s t ≡ xor t s
     go true true = refl

@@ -1,18 +1,22 @@
 -- The property determines the number: two mantissas of 32 bits that are both nearest to a fraction, ties going to the even one, are the same number
--- (`nearest-unique`). So what `Nearest` says of a result leaves no choice.
+-- (`nearest-unique`); so are two that are the largest not above it, or the smallest not below it (`toward-unique`). So what `Toward` says of a result leaves no
+-- choice, in any direction.
 use mathlib.Core.Path.{_≡_, sym, ap, ap₂, _∙_}
 use mathlib.Core.Logic.{_⊎_, inl, inr}
 use Prim.Native.Nat.{ℕ, _+_, _-_, _*_, _%_, _^_, _≤_, _<_}
 use native.Mathlib.Nat.{mul-pos, mul-le-mul, mul-le-mul-right, lt-of-mul-lt-mul-right, eq-of-mul-eq-mul-right, le-of-lt, not-le-of-lt, mul-lt-mul-of-pos-right}
-use native.Mathlib.Nat.{eq-or-lt-of-le}
+use native.Mathlib.Nat.{eq-or-lt-of-le, le-antisymm}
 use native.Mathlib.Decide.{decLe, decLt}
 use native.Mathlib.Omega.{arith}
 use lib.Pow.{pow-pos, pow-add, pow-mono}
 use Rattle.fraction.specs.Fraction.{Fraction, Same}
 use Rattle.number.proofs.Nearest.{over-near}
 use Rattle.number.proofs.Value.{scale, scale-positive, Over, value-over}
-use Rattle.number.specs.Nearest.{gap, AtLeastAsNear, Nearest, Normal}
+use Rattle.number.specs.Nearest.{gap, AtLeastAsNear, NearestTo, Normal}
 use Rattle.number.specs.Number.{bias, value}
+use Rattle.number.specs.Toward.{Toward}
+use Rattle.number.specs.declared.Direction.{Direction}
+use Rattle.number.specs.declared.Direction.the-variants.{Nearest, Down, Up}
 use Rattle.number.specs.declared.Number.{Number}
 
 -- ---- the order of m × 2 ^ x
@@ -71,11 +75,11 @@ module _ (q : Fraction) where
       over-near (scale * q .low) (top a * q .low) (q .top * scale) (top b * q .low) (value a) q (value b)
       (mul-pos scale-positive (q .above-zero)) (number-over a) (omega arith) (number-over b) h
 
-  best : (a b : Number) → Nearest q a → b .m < 2 ^ 32 → AtLeastAsNear q (value a) (value b)
+  best : (a b : Number) → NearestTo q a → b .m < 2 ^ 32 → AtLeastAsNear q (value a) (value b)
   unfolding value
   best a b n h = n .best (b .m) (b .x - bias) (bias - b .x) h
 
-  even : (a b : Number) → Nearest q a → Nearest q b → a .m < 2 ^ 32 → b .m < 2 ^ 32 → (top b ≡ top a → ⊥) → a .m % 2 ≡ 0
+  even : (a b : Number) → NearestTo q a → NearestTo q b → a .m < 2 ^ 32 → b .m < 2 ^ 32 → (top b ≡ top a → ⊥) → a .m % 2 ≡ 0
   unfolding value
   even a b n o g h ne = n .even (b .m) (b .x - bias) (bias - b .x) h (best b a o g) (λ s. ne (value-top b a s))
 
@@ -84,7 +88,7 @@ between : (p c p' e : ℕ) → p < c → c < p' → gap p' e ≤ gap p e → gap
 between p c p' e a b g h = omega arith
 
 -- Of two different numbers that are nearest both are even; but the number next to the lesser is odd, and so lies between them, and is nearer.
-no-larger : (q : Fraction) (a b : Number) → Normal a → Normal b → Nearest q a → Nearest q b → top a < top b → ⊥
+no-larger : (q : Fraction) (a b : Number) → Normal a → Normal b → NearestTo q a → NearestTo q b → top a < top b → ⊥
 no-larger q a b u v n o l = go (eq-or-lt-of-le (next (a .m) (a .x) (b .m) (b .x) (u .low) (v .high) l))
   where
     even-a : a .m % 2 ≡ 0
@@ -109,10 +113,25 @@ no-larger q a b u v n o l = go (eq-or-lt-of-le (next (a .m) (a .x) (b .m) (b .x)
         (omega (arith, mul-pos (pow-pos (a .x)) (q .above-zero))) (omega arith)
         (nearer q b a (best q b a o (u .high))) (nearer q a c (best q a c n (normal .high)))
 
-pub nearest-unique : (q : Fraction) (a b : Number) → Normal a → Normal b → Nearest q a → Nearest q b → a ≡ b
+pub nearest-unique : (q : Fraction) (a b : Number) → Normal a → Normal b → NearestTo q a → NearestTo q b → a ≡ b
 nearest-unique q a b u v n o = go (decLt (top a) (top b)) (decLt (top b) (top a))
   where
     go : Dec (top a < top b) → Dec (top b < top a) → a ≡ b
     go (yes h) k = absurd (no-larger q a b u v n o h)
     go (no h) (yes k) = absurd (no-larger q b a v u o n k)
     go (no h) (no k) = same-number a b u v (omega arith)
+
+-- of two extremes neither is beyond the other
+pub toward-unique : (w : Direction) (q : Fraction) (a b : Number) → Normal a → Normal b → Toward w q a → Toward w q b → a ≡ b
+unfolding value
+toward-unique Nearest q a b u v n o = nearest-unique q a b u v n o
+toward-unique Down q a b u v n o =
+    same-number a b u v
+    (value-top a b
+    (le-antisymm (o .largest (a .m) (a .x - bias) (bias - a .x) (u .high) (n .not-above))
+    (n .largest (b .m) (b .x - bias) (bias - b .x) (v .high) (o .not-above))))
+toward-unique Up q a b u v n o =
+    same-number a b u v
+    (value-top a b
+    (le-antisymm (n .smallest (b .m) (b .x - bias) (bias - b .x) (v .high) (o .not-below))
+    (o .smallest (a .m) (a .x - bias) (bias - a .x) (u .high) (n .not-below))))

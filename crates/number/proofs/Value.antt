@@ -1,15 +1,17 @@
 -- What a number stands for, over the denominator 2 ^ bias, which is kept shut and never computed: `value-over`, `value-zero`, `value-one`, `value-positive`.
--- `Rounds q r` says that r is q rounded once: `sum-rounds`, `product-rounds` and `quotient-rounds` say it of the operations and the exact fractions.
+-- `Rounds w q r` says that r is q rounded once in direction w: `sum-rounds`, `product-rounds` and `quotient-rounds` say it of the operations and the exact
+-- fractions.
 use mathlib.Core.Path.{_≡_, refl, sym, ap, _∙_}
 use mathlib.Core.Logic.{_↔_}
 use Prim.Native.Nat.{ℕ, _+_, _-_, _*_, _^_, _≤_, _<_, min}
-use native.Mathlib.Nat.{mul-pos, eq-of-mul-eq-mul-right, min-le-left, min-le-right}
+use native.Mathlib.Nat.{zero-mul, mul-pos, eq-of-mul-eq-mul-right, min-le-left, min-le-right}
 use native.Mathlib.Omega.{arith}
 use lib.Pow.{pow-pos, pow-add}
 use Rattle.fraction.specs.Fraction.{Fraction, Same, natural, fractionSum, fractionProduct, fractionQuotient}
 use Rattle.fraction.proofs.Fraction.{factor-positive, quotient-top, quotient-low}
 use Rattle.number.specs.Nearest.{unrounded}
-use Rattle.number.specs.Number.{bias, zeroNumber, oneNumber, round, value, Ranged, sumOf, productOf, quotientOf}
+use Rattle.number.specs.Number.{bias, zeroNumber, oneNumber, roundBy, value, Ranged, sumBy, productBy, quotientBy}
+use Rattle.number.specs.declared.Direction.{Direction}
 use Rattle.number.specs.declared.Number.{Number}
 
 unfoldable pub scale : ℕ
@@ -51,6 +53,10 @@ value-one = refl
 pub value-positive : (a : Number) → (0 < a .m) ↔ (0 < value a .top)
 unfolding value
 value-positive a = (λ p. mul-pos p (pow-pos (a .x - bias)), λ p. factor-positive (a .m) (2 ^ (a .x - bias)) p)
+
+pub value-top-zero : (a : Number) → a .m ≡ 0 → value a .top ≡ 0
+unfolding value
+value-top-zero a e = ap (λ (z : ℕ). z * 2 ^ (a .x - bias)) e ∙ zero-mul (2 ^ (a .x - bias))
 
 -- ---- exact results, over the denominator of what is rounded
 module _ (a b : Number) where
@@ -95,23 +101,24 @@ module _ (a b : Number) where
       let w = ap (λ (z : ℕ). a .m * 2 ^ x * A .low * z) (value-over b) in
       rw (quotient-top (value a) (value b) q, quotient-low (value a) (value b) q) (eq-of-mul-eq-mul-right scale scale-positive _ _ (omega arith))
 
--- ---- r is the fraction q, which is n / d at exponent x, rounded once
-pub record Rounds (q : Fraction) (r : Number) : Type 0 where
+-- ---- r is the fraction q, which is n / d at exponent x, rounded once in direction w
+pub record Rounds (w : Direction) (q : Fraction) (r : Number) : Type 0 where
   pub n : ℕ
   pub d : ℕ
   pub x : ℕ
-  pub result : round n d x ≡ r
+  pub result : roundBy w n d x ≡ r
   pub exact : Over (d * scale) q (n * 2 ^ x)
   pub divisor : 0 < d
   pub half : 0 < n → d ≤ 2 * n
   pub start : 32 ≤ x
 
-pub unrounded-rounds : (n d x : ℕ) (p : 0 < d) → (0 < n → d ≤ 2 * n) → 32 ≤ x → Rounds (unrounded n d x p) (round n d x)
+pub unrounded-rounds : {w : Direction} (n d x : ℕ) (p : 0 < d) → (0 < n → d ≤ 2 * n) → 32 ≤ x → Rounds w (unrounded n d x p) (roundBy w n d x)
 unrounded-rounds n d x p h s = record { n = n; d = d; x = x; result = refl; exact = unrounded-over n d x p; divisor = p; half = h; start = s }
 
-pub sum-rounds : {r : ℕ} {a b : Number} → Ranged r a → Ranged r b → r + 64 ≤ bias → Rounds (fractionSum (value a) (value b)) (sumOf a b)
-unfolding sumOf
-sum-rounds {r} {a} {b} u v h =
+pub sum-rounds : {w : Direction} {r : ℕ} {a b : Number} → Ranged r a → Ranged r b → r + 64 ≤ bias
+    → Rounds w (fractionSum (value a) (value b)) (sumBy w a b)
+unfolding sumBy
+sum-rounds {w} {r} {a} {b} u v h =
     let l : ℕ = min (a .x) (b .x) in
     record {
       n = a .m * 2 ^ (a .x - l) + b .m * 2 ^ (b .x - l);
@@ -124,9 +131,9 @@ sum-rounds {r} {a} {b} u v h =
       start = omega (arith, u .start, v .start);
     }
 
-module _ {r s : ℕ} {a b : Number} (u : Ranged r a) (v : Ranged s b) (h : r + s + 64 ≤ bias) where
-  pub product-rounds : Rounds (fractionProduct (value a) (value b)) (productOf a b)
-  unfolding productOf
+module _ {w : Direction} {r s : ℕ} {a b : Number} (u : Ranged r a) (v : Ranged s b) (h : r + s + 64 ≤ bias) where
+  pub product-rounds : Rounds w (fractionProduct (value a) (value b)) (productBy w a b)
+  unfolding productBy
   product-rounds =
       let g : bias + 64 ≤ a .x + b .x = omega (arith, u .start, v .start) in
       record {
@@ -140,8 +147,8 @@ module _ {r s : ℕ} {a b : Number} (u : Ranged r a) (v : Ranged s b) (h : r + s
         start = omega arith;
       }
 
-  pub quotient-rounds : 0 < b .m → Rounds (fractionQuotient (value a) (value b)) (quotientOf a b)
-  unfolding quotientOf
+  pub quotient-rounds : 0 < b .m → Rounds w (fractionQuotient (value a) (value b)) (quotientBy w a b)
+  unfolding quotientBy
   quotient-rounds p =
       let g : b .x + 64 ≤ a .x + bias = omega (arith, u .start, v .stop) in
       record {

@@ -3,8 +3,9 @@ use Prim.Native.Nat.{ℕ, _+_, _-_, _*_, _/_, _^_}
 use mathlib.Core.Path.{_≡_}
 use mathlib.Core.Bool.{cond}
 use lib.Dec.{ltb}
-use Rattle.number.specs.Direction.{Direction, Nearest, taken}
+use Rattle.number.specs.Direction.{taken}
 use Rattle.number.specs.Number.{bias, FullDigits}
+use Rattle.number.specs.declared.Direction.{Direction}
 use Rattle.number.specs.declared.Number.{Number}
 
 -- by how many places the dividend a is shifted: 32 where it is the smaller mantissa, else 31
@@ -27,10 +28,10 @@ remainder a b = shifted a b - wholeQuotient a b * b
 abbrev pub roundedQuotient : Direction → ℕ → ℕ → ℕ
 roundedQuotient w a b = taken w (wholeQuotient a b) (remainder a b) b
 
--- r is the quotient of the positive numbers a and b: the whole quotient has 32 digits before rounding and after it, whatever the direction; rounded to
--- nearest it is r's mantissa as it stands, and nothing is carried
-pub record Divided (a b r : Number) : Type 0 where
+-- r is the quotient of the positive numbers a and b in direction w: the whole quotient has 32 digits before rounding and after it, so what rounding takes is
+-- r's mantissa as it stands, and nothing is carried
+pub record Divided (w : Direction) (a b r : Number) : Type 0 where
   pub before : FullDigits (wholeQuotient (a .m) (b .m))
-  pub after : (w : Direction) → FullDigits (roundedQuotient w (a .m) (b .m))
-  pub mantissa : r .m ≡ roundedQuotient Nearest (a .m) (b .m)
+  pub after : FullDigits (roundedQuotient w (a .m) (b .m))
+  pub mantissa : r .m ≡ roundedQuotient w (a .m) (b .m)
   pub exponent : r .x ≡ a .x + bias - b .x - shiftOf (a .m) (b .m)

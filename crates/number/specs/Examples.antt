@@ -1,10 +1,11 @@
--- Worked examples as rows of a table (`Row`, `AllHold`), and those of numbers (`arithmeticTable`, `divisionTable`).
+-- Worked examples as rows of a table (`Row`, `AllHold`), and those of numbers (`arithmeticTable`, `directionTable`, `divisionTable`).
 use mathlib.Core.Path.{_≡_}
 use mathlib.Core.List.{List, [], _∷_}
 use Prim.Native.Nat.{ℕ, _+_, _-_, _*_, _^_}
-use Rattle.number.specs.Direction.{Nearest, Up}
 use Rattle.number.specs.Division.{shiftOf, wholeQuotient, roundedQuotient}
-use Rattle.number.specs.Number.{bias, sumOf, productOf, quotientOf}
+use Rattle.number.specs.Number.{bias, sumOf, productOf, quotientOf, sumBy, productBy, quotientBy}
+use Rattle.number.specs.declared.Direction.{Direction}
+use Rattle.number.specs.declared.Direction.the-variants.{Nearest, Down, Up}
 use Rattle.number.specs.declared.Number.{Number}
 
 -- what the definitions give, and what the paper says
@@ -37,6 +38,24 @@ arithmeticTable =
     ∷ row (sumOf (up (2 ^ 32 - 1) 0) (down (2 ^ 31) 32)) (up (2 ^ 31) 1)  -- (2 ^ 32 - 1) + 1 / 2
     ∷ row (productOf (up (2 ^ 32 - 1) 0) (up (2 ^ 32 - 1) 0)) (up 4294967294 32)  -- (2 ^ 32 - 1) squared
     ∷ row (quotientOf (down (2 ^ 31) 31) (down (3 * 2 ^ 30) 30)) (down 2863311531 33)  -- 1 / 3
+    ∷ []
+
+-- an operation rounded down, to nearest and up
+abbrev pub eachWay : (Direction → Number → Number → Number) → Number → Number → List Number
+eachWay f a b = f Down a b ∷ f Nearest a b ∷ f Up a b ∷ []
+
+-- where the directions part, and where they agree
+unfoldable pub directionTable : List Row
+directionTable =
+    row (eachWay sumBy (up (2 ^ 31) 0) (down (3 * 2 ^ 30) 32)) (up (2 ^ 31) 0 ∷ up (2 ^ 31 + 1) 0 ∷ up (2 ^ 31 + 1) 0 ∷ [])  -- 2 ^ 31 + 3 / 4
+    ∷ row (eachWay sumBy (up (2 ^ 31) 0) (down (2 ^ 31) 33)) (up (2 ^ 31) 0 ∷ up (2 ^ 31) 0 ∷ up (2 ^ 31 + 1) 0 ∷ [])  -- and 1 / 4
+    ∷ row (eachWay sumBy (up (2 ^ 31) 0) (up (2 ^ 31) 0)) (up (2 ^ 31) 1 ∷ up (2 ^ 31) 1 ∷ up (2 ^ 31) 1 ∷ [])  -- exact: up takes no more
+    ∷ row (eachWay sumBy (up (2 ^ 32 - 1) 0) (down (2 ^ 31) 33)) (up (2 ^ 32 - 1) 0 ∷ up (2 ^ 32 - 1) 0 ∷ up (2 ^ 31) 1 ∷ [])  -- up to 2 ^ 32, and carried
+    ∷ row (eachWay sumBy (up (2 ^ 31) 0) (down (2 ^ 31) 1000)) (up (2 ^ 31) 0 ∷ up (2 ^ 31) 0 ∷ up (2 ^ 31 + 1) 0 ∷ [])  -- far apart, the least still counts
+    ∷ row (eachWay productBy (up (2 ^ 32 - 1) 0) (up (2 ^ 32 - 1) 0)) (up 4294967294 32 ∷ up 4294967294 32 ∷ up 4294967295 32 ∷ [])
+    ∷ row (eachWay productBy (up (2 ^ 32 - 2) 0) (up (2 ^ 31 + 1) 0)) (up (2 ^ 32 - 1) 31 ∷ up (2 ^ 31) 32 ∷ up (2 ^ 31) 32 ∷ [])  -- 2 ^ 63 - 2
+    ∷ row (eachWay quotientBy (down (2 ^ 31) 31) (down (3 * 2 ^ 30) 30)) (down 2863311530 33 ∷ down 2863311531 33 ∷ down 2863311531 33 ∷ [])  -- 1 / 3
+    ∷ row (eachWay quotientBy (up (3 * 2 ^ 30) 0) (up (2 ^ 31) 0)) (down (3 * 2 ^ 30) 31 ∷ down (3 * 2 ^ 30) 31 ∷ down (3 * 2 ^ 30) 31 ∷ [])  -- exact
     ∷ []
 
 -- the shift of a division, and the whole quotient: before rounding, to nearest, up

@@ -1,6 +1,7 @@
+pub mod Direction
 pub mod Number
 pub mod Nearest
-pub mod Direction
+pub mod Toward
 pub mod Division
 pub mod Signed
 pub mod Examples

@@ -15,7 +15,7 @@ gap a b = (a - b) + (b - a)
 abbrev pub AtLeastAsNear : Fraction → Fraction → Fraction → Type 0
 AtLeastAsNear q x y = gap (x .top * q .low) (q .top * x .low) * y .low ≤ gap (y .top * q .low) (q .top * y .low) * x .low
 
--- n / d at exponent x, which `round n d x` rounds
+-- n / d at exponent x, which `roundBy` rounds
 abbrev pub unrounded : (n d x : ℕ) → 0 < d → Fraction
 unrounded n d x p = record { top = n * 2 ^ (x - bias); low = d * 2 ^ (bias - x); above-zero = mul-pos p (pow-pos (bias - x)) }
 
@@ -24,7 +24,7 @@ abbrev pub float : ℕ → ℕ → ℕ → Fraction
 float m i j = record { top = m * 2 ^ i; low = 2 ^ j; above-zero = pow-pos j }
 
 -- Of all m × 2 ^ (i - j) with m of at most 32 bits, zero among them, none is nearer to q than r; where another is as near, r's mantissa is even.
-pub record Nearest (q : Fraction) (r : Number) : Type 0 where
+pub record NearestTo (q : Fraction) (r : Number) : Type 0 where
   pub best : (m i j : ℕ) → m < 2 ^ 32 → AtLeastAsNear q (value r) (float m i j)
   pub even : (m i j : ℕ) → m < 2 ^ 32 → AtLeastAsNear q (float m i j) (value r) → (Same (float m i j) (value r) → ⊥) → r .m % 2 ≡ 0
 

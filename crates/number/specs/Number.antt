@@ -1,4 +1,4 @@
--- Document 01's numbers, and IEEE 754 roundTiesToEven at 32 bits of precision.
+-- Document 01's numbers, and IEEE 754 rounding at 32 bits of precision: roundTiesToEven, and document 02's other directions.
 -- A number with mantissa m and exponent e is kept as m and x = e + bias, so that all is said in whole numbers.
 use Prim.Native.Nat.{ℕ, _+_, _-_, _*_, _/_, _^_, _≤_, _<_, min}
 use mathlib.Core.Path.{_≡_}
@@ -7,9 +7,11 @@ use lib.Dec.{eqb, leb}
 use lib.IntN.{ℤ, subℕ}
 use lib.Pow.{pow-pos}
 use lib.Ieee.{size}
-use lib.Ieee.Nearest.{closest}
 use Rattle.fraction.specs.Arithmetic.{Arithmetic}
 use Rattle.fraction.specs.Fraction.{Fraction}
+use Rattle.number.specs.Direction.{wholeBy}
+use Rattle.number.specs.declared.Direction.{Direction}
+use Rattle.number.specs.declared.Direction.the-variants.{Nearest}
 use Rattle.number.specs.declared.Number.{Number}
 
 -- the exponent 0
@@ -28,31 +30,49 @@ oneNumber = record { m = 2 ^ 31; x = bias - 31 }
 unfoldable pub renormalised : ℕ → ℕ → Number
 renormalised m x = cond (eqb m (2 ^ 32)) (record { m = 2 ^ 31; x = x + 1 }) (record { m = m; x = x })
 
--- The exact n / d at exponent x, rounded once, where n is 0 or n / d at least a half.
+-- The exact n / d at exponent x, rounded once in direction w, where n is 0 or n / d at least a half.
 -- With 32 more binary places its whole part, n * 2 ^ 32 / d, has 32 digits or more; 32 of them are kept and k dropped.
--- `closest` rounds to the nearest multiple of 2 ^ k, at a tie to the even one.
-unfoldable pub round : ℕ → ℕ → ℕ → Number
-round n d x =
+-- `wholeBy` rounds to a multiple of 2 ^ k: to nearest, at a tie to the even one; down; up.
+unfoldable pub roundBy : Direction → ℕ → ℕ → ℕ → Number
+roundBy w n d x =
     let k = size (n * 2 ^ 32 / d) - 32 in
-    cond (eqb n 0) zeroNumber (renormalised (closest (n * 2 ^ 32) (d * 2 ^ k)) (x + k - 32))
+    cond (eqb n 0) zeroNumber (renormalised (wholeBy w (n * 2 ^ 32) (d * 2 ^ k)) (x + k - 32))
 
 -- the exact sum, both operands brought to the lower exponent, rounded once
-unfoldable pub sumOf : Number → Number → Number
-sumOf a b =
+unfoldable pub sumBy : Direction → Number → Number → Number
+sumBy w a b =
     let l = min (a .x) (b .x) in
-    round (a .m * 2 ^ (a .x - l) + b .m * 2 ^ (b .x - l)) 1 l
+    roundBy w (a .m * 2 ^ (a .x - l) + b .m * 2 ^ (b .x - l)) 1 l
 
 -- the exact product, rounded once
-unfoldable pub productOf : Number → Number → Number
-productOf a b = round (a .m * b .m) 1 (a .x + b .x - bias)
+unfoldable pub productBy : Direction → Number → Number → Number
+productBy w a b = roundBy w (a .m * b .m) 1 (a .x + b .x - bias)
 
 -- the exact quotient, rounded once
-unfoldable pub quotientOf : Number → Number → Number
-quotientOf a b = round (a .m) (b .m) (a .x + bias - b .x)
+unfoldable pub quotientBy : Direction → Number → Number → Number
+quotientBy w a b = roundBy w (a .m) (b .m) (a .x + bias - b .x)
 
--- the rounded rule's arithmetic
+-- the arithmetic of a direction
+abbrev pub roundedBy : Direction → Arithmetic
+roundedBy w = record { Num = Number; zero = zeroNumber; one = oneNumber; add = sumBy w; mul = productBy w; div = quotientBy w }
+
+-- rounded to nearest
+abbrev pub round : ℕ → ℕ → ℕ → Number
+round = roundBy Nearest
+
+-- the sum, the product and the quotient rounded to nearest
+abbrev pub sumOf : Number → Number → Number
+sumOf = sumBy Nearest
+
+abbrev pub productOf : Number → Number → Number
+productOf = productBy Nearest
+
+abbrev pub quotientOf : Number → Number → Number
+quotientOf = quotientBy Nearest
+
+-- the rounded rule's arithmetic: to nearest
 abbrev pub rounded : Arithmetic
-rounded = record { Num = Number; zero = zeroNumber; one = oneNumber; add = sumOf; mul = productOf; div = quotientOf }
+rounded = roundedBy Nearest
 
 -- the exponent e, which is kept as x = e + bias
 abbrev pub unbiased : ℕ → ℤ

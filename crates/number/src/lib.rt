@@ -1,18 +1,20 @@
-// Numbers of 32 binary digits: add, multiply and divide give the exact result rounded once, to nearest, ties to even.
-// Each operation brings its exact result to the form n / d at an exponent x. Sums and products are rounded by `kept`, differences by `round`, quotients by
-// `nearest_whole` alone, since nothing is carried.
+// Numbers of 32 binary digits: add, multiply and divide give the exact result rounded once, in a direction: to nearest, ties to even, or down, or up.
+// Each operation brings its exact result to the form n / d at an exponent x, whatever the direction. Sums and products are rounded by `kept`, quotients by
+// `whole`, since nothing is carried; differences to nearest by `round_integer`. Where a caller names a direction, it is chosen when the code is compiled.
 ghost use mathlib.Core.Path.{_≡_};
 ghost use mathlib.Core.Bool.{false, cond};
 ghost use Prim.Native.Nat.{_+_, _-_, _*_, _^_, _≤_, _<_, min};
-ghost use Rattle.number.specs.Number.{zeroNumber, oneNumber, unbiased, renormalised, round, sumOf, productOf, quotientOf, Ranged, reach, exponentOf};
-ghost use Rattle.number.specs.Number.{inRange, FullDigits};
-ghost use Rattle.number.specs.Direction.{Nearest, taken};
+ghost use Rattle.fraction.specs.Fraction.{fractionSum, fractionProduct, fractionQuotient};
+ghost use Rattle.number.specs.Number.{zeroNumber, oneNumber, unbiased, round, roundBy, sumOf, productOf, sumBy, productBy, quotientBy};
+ghost use Rattle.number.specs.Number.{value, Ranged, reach, exponentOf, inRange, FullDigits};
+ghost use Rattle.number.specs.Toward.{Directed};
 ghost use Rattle.number.specs.Division.{shiftOf, roundedQuotient, Divided};
 ghost use Rattle.number.specs.Signed.{below, differenceOf};
 ghost use Rattle.number.specs.Digits.{unlikeOf, alignedOf};
 
 pub mod integer; // integer.rt: whole numbers with a sign
 pub mod packed; // packed.rt: a number in one word
+mod roundings; // roundings.rt: whole numbers and digits, rounded
 pub mod signed; // signed.rt: numbers with a sign
 
 // The exponent 0.
@@ -23,6 +25,13 @@ pub const BIAS: u64 = 4194304;
 pub struct Number {
     pub m: u64,
     pub x: u64,
+}
+
+// Which way a result is rounded: IEEE 754's roundTiesToEven, its roundTowardZero, and the upward partner of that.
+pub enum Direction {
+    Nearest,
+    Down,
+    Up,
 }
 
 // The exponent that is kept as x.
@@ -40,36 +49,6 @@ fn either(first: bool, a: u64, b: u64) -> u64
     if first { a } else { b }
 }
 
-// q and remainder / d to the nearest whole number, at a tie to the even one: one comparison, since an odd q goes up at a tie too.
-fn nearest_whole(q: u64, remainder: u64, d: u64) -> u64
-    requires { ⌜ (q < 2 ^ 32) × (remainder < d) × (d ≤ 2 ^ 62) ⌝ }
-    ensures { λ r. ⌜ r ≡ taken Nearest q remainder d ⌝ }
-{
-    either(d < remainder * 2 + q % 2, q + 1, q)
-}
-
-// A mantissa that was rounded up to 2^32 is 2^31 one exponent higher.
-fn renormalised(m: u64, x: u64) -> Number
-    requires { ⌜ x < 2 ^ 62 ⌝ }
-    ensures { λ r. ⌜ r ≡ renormalised m x ⌝ }
-{
-    if m == 0x1_0000_0000 {
-        return Number {
-            m: 0x8000_0000,
-            x: x + 1,
-        };
-    }
-    Number { m, x }
-}
-
-// q and remainder / d, with 32 digits before the point, to the nearest number.
-fn round(q: u64, remainder: u64, d: u64, x: u64) -> Number
-    requires { ⌜ (2 ^ 31 ≤ q) × (q < 2 ^ 32) × (remainder < d) × (d ≤ 2 ^ 62) × (x < 2 ^ 62) ⌝ }
-    ensures { λ r. ⌜ r ≡ round (q * d + remainder) d x ⌝ }
-{
-    renormalised(nearest_whole(q, remainder, d), x)
-}
-
 pub fn power(k: u64) -> u64
     requires { ⌜ k < 64 ⌝ }
     ensures { λ r. ⌜ r ≡ 2 ^ k ⌝ }
@@ -77,53 +56,18 @@ pub fn power(k: u64) -> u64
     1u64 << k
 }
 
-// A whole number of more than 32 digits at exponent x: w digits are left behind the point.
-fn round_long(n: u64, w: u64, x: u64) -> Number
-    requires { ⌜ (w ≤ 32) × (2 ^ 31 * 2 ^ w ≤ n) × (n < 2 ^ 32 * 2 ^ w) × (x < 2 ^ 61) ⌝ }
-    ensures { λ r. ⌜ r ≡ round n (2 ^ w) (x + w) ⌝ }
-{
-    let d = power(w);
-    let q = n >> w;
-    round(q, n - q * d, d, x + w)
-}
-
-// A whole number at exponent x: digits past the 32nd are left behind the point, zeros are joined to fewer.
-fn round_integer(n: u64, x: u64) -> Number
-    requires { ⌜ (0 < n) × (32 ≤ x) × (x < 2 ^ 61) ⌝ }
-    ensures { λ r. ⌜ r ≡ round n 1 x ⌝ }
-{
-    let z = u64::leading_zeros(n) as u64;
-    if z < 32 {
-        return round_long(n, 32 - z, x);
-    }
-    round(n * power(z - 32), 0, 1, x - (z - 32))
-}
-
 // a / b at exponent x: the mantissas are compared, the shift is chosen, one division gives the whole quotient, and this is rounded.
-// It has 32 digits before rounding and after it, so nothing is carried.
-fn quotient(a: u64, b: u64, x: u64) -> Number
+// It has 32 digits before rounding and after it, so nothing is carried. The direction is asked first: nothing stands between the division and its rounding.
+fn quotient(a: u64, b: u64, x: u64, direction: Direction) -> Number
     requires { ⌜ FullDigits a × FullDigits b × (32 ≤ x) × (x < 2 ^ 61) ⌝ }
-    ensures { λ r. ⌜ r ≡ record { m = roundedQuotient Nearest a b; x = x - shiftOf a b } ⌝ }
+    ensures { λ r. ⌜ r ≡ record { m = roundedQuotient direction a b; x = x - shiftOf a b } ⌝ }
 {
+    let k = roundings::multiplier(b, direction);
     let s = either(a < b, 32, 31);
     let y = x - s;
     let n = a << s;
     let q = n / b;
-    let m = nearest_whole(q, n - q * b, b);
-    Number { m, x: y }
-}
-
-// p, of 63 or 64 digits, at exponent x, to 32 digits, at a tie to the even mantissa: no branch. Half a unit less one is added, and one more where the last
-// digit that is kept is odd.
-fn kept(p: u64, x: u64) -> Number
-    requires { ⌜ (2 ^ 62 ≤ p) × (p < 2 ^ 64 - 2 ^ 32 + 2) × (x < 2 ^ 61) ⌝ }
-    ensures { λ r. ⌜ r ≡ round p 1 x ⌝ }
-{
-    let t = p >> 63;
-    let r = p + 0x3fff_ffff + t * 0x4000_0000 + ((p >> 31) >> t) % 2;
-    let u = r >> 63;
-    let m = (r >> 31) >> u;
-    let y = x + 31 + u;
+    let m = roundings::whole(q, n - q * b, b, k);
     Number { m, x: y }
 }
 
@@ -151,12 +95,13 @@ fn aligned(a: u64, b: u64, k: u64) -> u64
     (a * 0x4000_0000 + y) * 2 + unlike(whole, z)
 }
 
-// The sum, where the second exponent is not above the first. Up to 31 places apart it is exact before it is rounded; from 32 on it rounds as the exact one.
-fn sum(a: u64, i: u64, b: u64, j: u64) -> Number
+// The sum, where the second exponent is not above the first. Up to 31 places apart it is exact before it is rounded; from 32 on it rounds as the exact one,
+// in every direction, since a digit stands for those of b that are dropped.
+fn sum(a: u64, i: u64, b: u64, j: u64, direction: Direction) -> Number
     requires { ⌜ (2 ^ 31 ≤ a) × (a < 2 ^ 32) × (b < 2 ^ 32) × (j ≤ i) × (32 ≤ j) × (i < 2 ^ 61) ⌝ }
-    ensures { λ r. ⌜ r ≡ round (a * 2 ^ (i - j) + b) 1 j ⌝ }
+    ensures { λ r. ⌜ r ≡ roundBy direction (a * 2 ^ (i - j) + b) 1 j ⌝ }
 {
-    kept(aligned(a, b, lower(i - j, 63)), i - 31)
+    roundings::kept(aligned(a, b, lower(i - j, 63)), i - 31, direction)
 }
 
 // The difference, where the second number is the smaller and its exponent not above the first's.
@@ -168,14 +113,14 @@ fn difference(a: u64, i: u64, b: u64, j: u64) -> Number
 {
     let k = i - j;
     if k < 33 {
-        return round_integer(a * power(k) - b, j);
+        return roundings::round_integer(a * power(k) - b, j);
     }
     if k == 33 {
         if a == 0x8000_0000 {
-            return round_integer(u64::MAX - b + 1, j);
+            return roundings::round_integer(u64::MAX - b + 1, j);
         }
     }
-    round_integer(a * 8 - 1, i - 3)
+    roundings::round_integer(a * 8 - 1, i - 3)
 }
 
 impl Number {
@@ -212,9 +157,10 @@ impl Number {
         self.x <= BIAS + 1000
     }
 
-    pub fn add(self, other: Number) -> Number
+    pub fn add(self, other: Number, direction: Direction) -> Number
         requires { ⌜ Ranged reach self × Ranged reach other ⌝ }
-        ensures { λ r. ⌜ r ≡ sumOf self other ⌝ }
+        ensures { λ r. ⌜ r ≡ sumBy direction self other ⌝ }
+        ensures { λ r. ⌜ Directed direction (reach + 2) (fractionSum (value self) (value other)) r ⌝ }
     {
         if self.m == 0 {
             return other;
@@ -228,12 +174,14 @@ impl Number {
             either(turned, other.x, self.x),
             either(turned, self.m, other.m),
             either(turned, self.x, other.x),
+            direction,
         )
     }
 
-    pub fn mul(self, other: Number) -> Number
+    pub fn mul(self, other: Number, direction: Direction) -> Number
         requires { ⌜ Ranged reach self × Ranged reach other ⌝ }
-        ensures { λ r. ⌜ r ≡ productOf self other ⌝ }
+        ensures { λ r. ⌜ r ≡ productBy direction self other ⌝ }
+        ensures { λ r. ⌜ Directed direction (reach + reach + 33) (fractionProduct (value self) (value other)) r ⌝ }
     {
         if self.m == 0 {
             return self;
@@ -241,26 +189,27 @@ impl Number {
         if other.m == 0 {
             return other;
         }
-        kept(self.m * other.m, self.x + other.x - BIAS)
+        roundings::kept(self.m * other.m, self.x + other.x - BIAS, direction)
     }
 
-    pub fn div(self, other: Number) -> Number
+    pub fn div(self, other: Number, direction: Direction) -> Number
         requires { ⌜ Ranged reach self × Ranged reach other × (0 < other .m) ⌝ }
-        ensures { λ r. ⌜ r ≡ quotientOf self other ⌝ }
-        ensures { λ r. ⌜ (0 < self .m → Divided self other r) ⌝ }
+        ensures { λ r. ⌜ r ≡ quotientBy direction self other ⌝ }
+        ensures { λ r. ⌜ Directed direction (reach + reach + 32) (fractionQuotient (value self) (value other)) r ⌝ }
+        ensures { λ r. ⌜ (0 < self .m → Divided direction self other r) ⌝ }
     {
         if self.m == 0 {
             return self;
         }
-        quotient(self.m, other.m, self.x + BIAS - other.x)
+        quotient(self.m, other.m, self.x + BIAS - other.x, direction)
     }
 
-    // This number plus w times b, the product rounded first.
+    // This number plus w times b, to nearest, the product rounded first.
     pub fn add_product(self, w: Number, b: Number) -> Number
         requires { ⌜ Ranged reach self × Ranged reach w × Ranged reach b × Ranged reach (productOf w b) ⌝ }
         ensures { λ r. ⌜ r ≡ sumOf self (productOf w b) ⌝ }
     {
-        self.add(w.mul(b))
+        self.add(w.mul(b, Direction::Nearest), Direction::Nearest)
     }
 
     // Whether this number is less than the other.

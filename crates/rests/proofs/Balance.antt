@@ -16,6 +16,7 @@ use Rattle.number.proofs.Reach.{ranged-sum, ranged-product, ranged-quotient}
 use Rattle.number.proofs.Value.{scale, scale-positive, Over, value-over}
 use Rattle.number.specs.Integer.{isNegative}
 use Rattle.number.specs.Number.{bias, value, sumOf, productOf, quotientOf}
+use Rattle.number.specs.declared.Direction.the-variants.{Nearest}
 use Rattle.number.specs.declared.Number.{Number}
 use Rattle.rests.specs.Rest.{sumRest, productRest, quotientRest, sumRounded, productRounded, quotientRounded, workedBy}
 use Rattle.rests.specs.Rest.{restInteger, restExponent, PositivePair, Small}
@@ -153,7 +154,8 @@ small : (r : Rounded) (E F : Fraction) → Works E F (r .rest) → r .number .x 
 small r E F w h = record { exponent = h; odd = odd-small E F (r .rest) w; rest-exponent = place-small E F (r .rest) w }
 
 pub rounded-small : (o : Operator) (a b : Number) → PositivePair a b → Small (workedBy o a b)
-rounded-small Add a b g = small (sumRounded a b) _ _ (sum-works a b g) (omega (arith, ranged-sum (g .first) (g .second) (omega arith) .stop))
-rounded-small Multiply a b g = small (productRounded a b) _ _ (product-works a b g) (omega (arith, ranged-product (g .first) (g .second) (omega arith) .stop))
+rounded-small Add a b g = small (sumRounded a b) _ _ (sum-works a b g) (omega (arith, ranged-sum Nearest (g .first) (g .second) (omega arith) .stop))
+rounded-small Multiply a b g =
+    small (productRounded a b) _ _ (product-works a b g) (omega (arith, ranged-product Nearest (g .first) (g .second) (omega arith) .stop))
 rounded-small Divide a b g =
-    small (quotientRounded a b) _ _ (quotient-works a b g) (omega (arith, ranged-quotient (g .first) (g .second) (g .second-positive) .stop))
+    small (quotientRounded a b) _ _ (quotient-works a b g) (omega (arith, ranged-quotient Nearest (g .first) (g .second) (g .second-positive) .stop))

@@ -1,18 +1,20 @@
 -- Products and quotients by whole numbers (`product-works`, `quotient-works`): both sides are words, and one rounding keeps them close.
 use mathlib.Core.Path.{_≡_, refl, sym, ap, _∙_, subst}
 use Prim.Native.Nat.{ℕ, _+_, _-_, _*_, _^_, _≤_, _<_}
-use native.Mathlib.Nat.{mul-le-mul, mul-le-mul-right, le-of-mul-le-mul-right, mul-one}
+use native.Mathlib.Nat.{mul-le-mul, le-of-mul-le-mul-right, mul-one}
 use native.Mathlib.Omega.{arith}
 use lib.Pow.{pow-pos, pow-add, pow-mono}
-use Rattle.fraction.specs.Fraction.{fractionProduct}
-use Rattle.number.proofs.Closest.{Near}
+use Rattle.fraction.specs.Fraction.{Fraction, natural, fractionProduct}
+use Rattle.fraction.specs.Within.{Within}
+use Rattle.fraction.proofs.Within.{within-one, within-scaled}
 use Rattle.number.proofs.Digits.{product-low}
 use Rattle.number.proofs.Exact.{sum-fits, product-fits}
 use Rattle.number.proofs.Reach.{product-spans, quotient-spans}
 use Rattle.number.proofs.Rounding.{round-near}
 use Rattle.number.proofs.Value.{scale, scale-positive, scale-is, Over, value-over, product-over}
-use Rattle.number.specs.Number.{bias, value, productOf, quotientOf}
+use Rattle.number.specs.Number.{bias, value, productOf, quotientOf, productBy, quotientBy}
 use Rattle.number.specs.Signed.{integerAt}
+use Rattle.number.specs.declared.Direction.the-variants.{Nearest}
 use Rattle.number.specs.declared.Number.{Number}
 use Rattle.rests.specs.Rest.{productRest, quotientRest, PositivePair}
 use Rattle.rests.proofs.Whole.{lowered, once, Works, apart}
@@ -26,10 +28,10 @@ module _ (a b : Number) (g : PositivePair a b) where
   y = a .x + b .x - bias
 
   pub product-start : y + 31 ≤ z .x
-  product-start = product-spans (g .first) (g .second) (omega arith) (g .first-positive) (g .second-positive) .start
+  product-start = product-spans Nearest (g .first) (g .second) (omega arith) (g .first-positive) (g .second-positive) .start
 
   pub product-stop : z .x ≤ y + 33
-  product-stop = product-spans (g .first) (g .second) (omega arith) (g .first-positive) (g .second-positive) .stop
+  product-stop = product-spans Nearest (g .first) (g .second) (omega arith) (g .first-positive) (g .second-positive) .stop
 
   low : 2 ^ 62 ≤ a .m * b .m
   low = product-low (a .m) (b .m) (g .first .low (g .first-positive)) (g .second .low (g .second-positive))
@@ -43,18 +45,19 @@ module _ (a b : Number) (g : PositivePair a b) where
   product-places : integerAt y z * 2 ^ y ≡ z .m * 2 ^ z .x
   product-places = lowered y z (omega (arith, product-start))
 
-  product-round : Near (z .m * 2 ^ z .x * 1) (a .m * b .m * 2 ^ y)
-  unfolding productOf
+  product-round : Within 1 (natural (z .m * 2 ^ z .x * 1)) (natural (a .m * b .m * 2 ^ y))
+  unfolding productBy
   product-round =
-      round-near (a .m * b .m) 1 y (omega (arith, low)) (omega arith) (omega (arith, low)) (omega (arith, g .first .start, g .second .start))
+      round-near (a .m * b .m) 1 y (omega (arith, low)) (omega arith) (omega (arith, low)) Nearest (omega (arith, g .first .start, g .second .start))
 
-  product-near : Near (integerAt y z * 2 ^ y) (a .m * b .m * 2 ^ y)
+  product-near : Within 1 (natural (integerAt y z * 2 ^ y)) (natural (a .m * b .m * 2 ^ y))
   product-near = rw product-places (rw mul-one at product-round)
 
   -- the result's side is a word
   pub result-fits : integerAt y z < 2 ^ 64
   result-fits =
-      let l : (2 ^ 32 - 1) * integerAt y z ≤ 2 ^ 32 * (a .m * b .m) = le-of-mul-le-mul-right {k = 2 ^ y} (omega (arith, product-near .below)) (pow-pos y) in
+      let n = within-one product-near in
+      let l : (2 ^ 32 - 1) * integerAt y z ≤ 2 ^ 32 * (a .m * b .m) = le-of-mul-le-mul-right {k = 2 ^ y} (omega (arith, n .1)) (pow-pos y) in
       omega (arith, product-high)
 
   pub product-works : Works (fractionProduct (value a) (value b)) (value z) (productRest a b)
@@ -74,16 +77,6 @@ module _ (a b : Number) (g : PositivePair a b) where
       }
 
 -- ---- quotients
--- both sides times Y, as multiples of S
-moved : (c b a X W Y T U S : ℕ) → Near (c * X * b) (a * W) → X * Y ≡ T * S → W * Y ≡ U * S → 0 < S → Near (c * b * T) (a * U)
-moved c b a X W Y T U S n e f p =
-    let l = ap (λ (z : ℕ). c * b * z) e in
-    let r = ap (λ (z : ℕ). a * z) f in
-    record {
-      above = le-of-mul-le-mul-right {k = S} (omega (arith, mul-le-mul-right Y (n .above))) p;
-      below = le-of-mul-le-mul-right {k = S} (omega (arith, mul-le-mul-right Y (n .below))) p;
-    }
-
 module _ (a b : Number) (g : PositivePair a b) where
   abbrev c : Number
   c = quotientOf a b
@@ -94,12 +87,12 @@ module _ (a b : Number) (g : PositivePair a b) where
 
   quotient-start : a .x + bias ≤ c .x + b .x + 32
   quotient-start =
-      let s = quotient-spans (g .first) (g .second) (g .first-positive) (g .second-positive) in
+      let s = quotient-spans Nearest (g .first) (g .second) (g .first-positive) (g .second-positive) in
       omega (arith, s .start, g .first .start, g .second .stop)
 
   pub quotient-stop : c .x + b .x + 31 ≤ a .x + bias
   quotient-stop =
-      let s = quotient-spans (g .first) (g .second) (g .first-positive) (g .second-positive) in
+      let s = quotient-spans Nearest (g .first) (g .second) (g .first-positive) (g .second-positive) in
       omega (arith, s .stop, g .first .start, g .second .stop)
 
   pub quotient-under : bias ≤ c .x + b .x
@@ -118,26 +111,30 @@ module _ (a b : Number) (g : PositivePair a b) where
 
   pub divisor-fits : c .m * b .m < 2 ^ 64
   divisor-fits =
-      product-fits (c .m) (b .m) (quotient-spans (g .first) (g .second) (g .first-positive) (g .second-positive) .high) (g .second .high)
+      product-fits (c .m) (b .m) (quotient-spans Nearest (g .first) (g .second) (g .first-positive) (g .second-positive) .high) (g .second .high)
 
   -- the one rounding, of the quotient of the mantissas at exponent w
   abbrev w : ℕ
   w = a .x + bias - b .x
 
-  quotient-round : Near (c .m * 2 ^ c .x * b .m) (a .m * 2 ^ w)
-  unfolding quotientOf
+  quotient-round : Within 1 (natural (c .m * 2 ^ c .x * b .m)) (natural (a .m * 2 ^ w))
+  unfolding quotientBy
   quotient-round =
       let la : 2 ^ 31 ≤ a .m = g .first .low (g .first-positive) in
       let hb : b .m < 2 ^ 32 = g .second .high in
-      round-near (a .m) (b .m) w (g .first-positive) (g .second-positive) (omega arith) (omega (arith, g .first .start, g .second .stop))
+      round-near (a .m) (b .m) w (g .first-positive) (g .second-positive) (omega arith) Nearest (omega (arith, g .first .start, g .second .stop))
 
-  quotient-near : Near (c .m * b .m * 2 ^ v) (integerAt v a * 2 ^ v)
+  -- both sides times 2 ^ b .x, over the scale
+  quotient-near : Within 1 (natural (c .m * b .m * 2 ^ v)) (natural (integerAt v a * 2 ^ v))
   quotient-near =
       let e : c .x + b .x ≡ v + bias = omega (arith, quotient-under) in
       let f : w + b .x ≡ a .x + bias = omega (arith, g .first .start, g .second .stop) in
+      let l : 2 ^ c .x * 2 ^ b .x ≡ 2 ^ v * scale = sym (pow-add 2 (c .x) (b .x)) ∙ sym (scale-is v (c .x + b .x) e) in
+      let r : 2 ^ w * 2 ^ b .x ≡ 2 ^ a .x * scale = sym (pow-add 2 w (b .x)) ∙ sym (scale-is (a .x) (w + b .x) f) in
+      let q : Fraction = record { top = 2 ^ b .x; low = scale; above-zero = scale-positive } in
       rw dividend-places
-      (moved (c .m) (b .m) (a .m) (2 ^ c .x) (2 ^ w) (2 ^ b .x) (2 ^ v) (2 ^ a .x) scale quotient-round
-      (sym (pow-add 2 (c .x) (b .x)) ∙ sym (scale-is v (c .x + b .x) e)) (sym (pow-add 2 w (b .x)) ∙ sym (scale-is (a .x) (w + b .x) f)) scale-positive)
+      (within-scaled q (natural (c .m * b .m * 2 ^ v)) (natural (a .m * 2 ^ a .x)) quotient-round
+      (omega (arith, ap (λ (z : ℕ). c .m * b .m * z) l)) (omega (arith, ap (λ (z : ℕ). a .m * z) r)))
 
   pub quotient-works : Works (value a) (fractionProduct (value c) (value b)) (quotientRest a b)
   unfolding quotientRest

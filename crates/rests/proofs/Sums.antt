@@ -17,6 +17,7 @@ use Rattle.number.proofs.Zero.{sum-is, sum-comm}
 use Rattle.number.specs.Nearest.{gap}
 use Rattle.number.specs.Number.{bias, reach, value, sumOf}
 use Rattle.number.specs.Signed.{integerAt}
+use Rattle.number.specs.declared.Direction.the-variants.{Nearest}
 use Rattle.number.specs.declared.Number.{Number}
 use Rattle.rests.specs.Rest.{oddPart, restOf, sumRest, PositivePair}
 use Rattle.rests.proofs.Parts.{rest-not-above, rest-shifted}
@@ -46,10 +47,10 @@ module _ (a b : Number) (g : PositivePair a b) (h : b .x ≤ a .x) where
   exact = once (fractionSum (value a) (value b)) (n * 2 ^ b .x) (rw (min-eq-right h, sub-self (b .x), mul-one (b .m)) at (sum-over a b))
 
   pub sum-start : a .x ≤ r .x
-  sum-start = sum-spans reach a b (g .first) (g .second) (g .first-positive) (omega arith) h .start
+  sum-start = sum-spans Nearest reach a b (g .first) (g .second) (g .first-positive) (omega arith) h .start
 
   pub sum-stop : r .x ≤ a .x + 2
-  sum-stop = sum-spans reach a b (g .first) (g .second) (g .first-positive) (omega arith) h .stop
+  sum-stop = sum-spans Nearest reach a b (g .first) (g .second) (g .first-positive) (omega arith) h .stop
 
   result-places : R * 2 ^ b .x ≡ r .m * 2 ^ r .x
   result-places = lowered (b .x) r (omega (arith, sum-start))
@@ -96,7 +97,7 @@ module _ (a b : Number) (g : PositivePair a b) (h : b .x ≤ a .x) where
 
   pub more-word : r .m * 2 ^ (r .x - a .x) < 2 ^ 64
   more-word =
-      let s = sum-spans reach a b (g .first) (g .second) (g .first-positive) (omega arith) h in
+      let s = sum-spans Nearest reach a b (g .first) (g .second) (g .first-positive) (omega arith) h in
       let l : r .x - a .x ≤ 32 = omega (arith, s .stop) in
       sum-fits (r .m) 0 (2 ^ (r .x - a .x)) (s .high) (omega arith) (pow-mono {i = r .x - a .x} {j = 32} l) .0
 
@@ -116,7 +117,7 @@ module _ (a b : Number) (g : PositivePair a b) (h : b .x ≤ a .x) where
   far-rest f =
       let lo : 2 ^ 33 ≤ 2 ^ k = pow-mono {i = 33} {j = k} (omega arith) in
       let e : r ≡ record { m = a .m; x = b .x + k } =
-      sum-is a b h ∙ sum-far (a .m) (b .m) (b .x) k (omega (arith, g .second .high)) (g .first .low (g .first-positive)) (g .first .high) in
+      sum-is Nearest a b h ∙ sum-far (a .m) (b .m) (b .x) k (omega (arith, g .second .high)) (g .first .low (g .first-positive)) (g .first .high) in
       let s : b .x + k - b .x ≡ k = omega arith in
       let q : R ≡ a .m * 2 ^ k + 0 = ap (integerAt (b .x)) e ∙ ap (λ (i : ℕ). a .m * 2 ^ i) s ∙ omega arith in
       let d : b .m - 0 ≡ b .m = omega arith in
@@ -127,7 +128,7 @@ module _ (a b : Number) (g : PositivePair a b) (h : b .x ≤ a .x) where
 pub rest-comm : (a b : Number) → sumRest a b ≡ sumRest b a
 unfolding sumRest
 rest-comm a b =
-    rw (min-comm (a .x) (b .x), sum-comm a b)
+    rw (min-comm (a .x) (b .x), sum-comm Nearest a b)
     (ap (λ (p : ℕ). restOf p (integerAt (min (b .x) (a .x)) (sumOf b a)) (min (b .x) (a .x)))
     (add-comm (integerAt (min (b .x) (a .x)) a) (integerAt (min (b .x) (a .x)) b)))
 
@@ -143,7 +144,7 @@ sum-works a b g = elim (decLe (b .x) (a .x)) [
         x = w .x;
         rest = rest-comm a b ∙ w .rest;
         exact = omega (arith, w .exact);
-        result = subst (λ (r : Number). Over scale (value r) (w .q * 2 ^ w .x)) (sum-comm b a) (w .result);
+        result = subst (λ (r : Number). Over scale (value r) (w .q * 2 ^ w .x)) (sum-comm Nearest b a) (w .result);
         below = w .below;
         above = w .above;
         place = w .place;

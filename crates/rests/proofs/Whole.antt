@@ -5,8 +5,9 @@ use Prim.Native.Nat.{ℕ, _+_, _-_, _*_, _^_, _≤_, _<_}
 use native.Mathlib.Nat.{le-of-mul-le-mul-right, lt-of-mul-lt-mul-right, one-mul, mul-assoc}
 use native.Mathlib.Omega.{arith}
 use lib.Pow.{pow-add}
-use Rattle.fraction.specs.Fraction.{Fraction}
-use Rattle.number.proofs.Closest.{Near}
+use Rattle.fraction.specs.Fraction.{Fraction, natural}
+use Rattle.fraction.specs.Within.{Within}
+use Rattle.fraction.proofs.Within.{within-one}
 use Rattle.number.proofs.Value.{scale, Over}
 use Rattle.number.specs.Signed.{integerAt}
 use Rattle.number.specs.declared.Number.{Number}
@@ -45,8 +46,8 @@ not-far p q h w =
     less : (p q : ℕ) → p * 2 ^ 32 ≤ q * 2 ^ 32 + p → p < 2 ^ 64 → p * 2 ^ 32 < (q + 2 ^ 32) * 2 ^ 32
     less p q h w = omega arith
 
-pub apart : (p q y : ℕ) → Near (q * y) (p * y) → 0 < y → p < 2 ^ 64 → q < 2 ^ 64 → (p < q + 2 ^ 32) × (q < p + 2 ^ 32)
+pub apart : (p q y : ℕ) → Within 1 (natural (q * y)) (natural (p * y)) → 0 < y → p < 2 ^ 64 → q < 2 ^ 64 → (p < q + 2 ^ 32) × (q < p + 2 ^ 32)
 apart p q y w pos hp hq = (
-  not-far p q (le-of-mul-le-mul-right {k = y} (omega (arith, w .above)) pos) hp,
-  not-far q p (le-of-mul-le-mul-right {k = y} (omega (arith, w .below)) pos) hq,
+  not-far p q (le-of-mul-le-mul-right {k = y} (omega (arith, within-one w .0)) pos) hp,
+  not-far q p (le-of-mul-le-mul-right {k = y} (omega (arith, within-one w .1)) pos) hq,
 )

@@ -5,6 +5,7 @@ ghost use Prim.Native.Nat.{_^_, _≤_, _<_};
 ghost use Rattle.rests.specs.Rest.{oddPart, restOf, sumRounded, productRounded, quotientRounded, workedBy, PositivePair};
 ghost use Rattle.rests.specs.Rest.{restInteger, restExponent, Small};
 use number::BIAS;
+use number::Direction;
 use number::Number;
 use number::integer;
 use number::power;
@@ -86,7 +87,7 @@ fn sum(a: Number, b: Number) -> Rounded
     requires { ⌜ PositivePair a b × (b .x ≤ a .x) ⌝ }
     ensures { λ r. ⌜ r ≡ sumRounded a b ⌝ }
 {
-    let number = a.add(b);
+    let number = a.add(b, Direction::Nearest);
     let k = a.x - b.x;
     if 32 < k {
         return Rounded {
@@ -115,7 +116,7 @@ pub fn multiply(a: Number, b: Number) -> Rounded
     requires { ⌜ PositivePair a b ⌝ }
     ensures { λ r. ⌜ r ≡ productRounded a b ⌝ }
 {
-    let number = a.mul(b);
+    let number = a.mul(b, Direction::Nearest);
     let x = a.x + b.x - BIAS;
     Rounded {
         number,
@@ -127,7 +128,7 @@ pub fn divide(a: Number, b: Number) -> Rounded
     requires { ⌜ PositivePair a b ⌝ }
     ensures { λ r. ⌜ r ≡ quotientRounded a b ⌝ }
 {
-    let number = a.div(b);
+    let number = a.div(b, Direction::Nearest);
     let x = number.x + b.x - BIAS;
     Rounded {
         number,

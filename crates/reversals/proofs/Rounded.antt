@@ -7,6 +7,7 @@ use Prim.Native.Nat.{ℕ, zero, suc, _+_, _-_, _*_, _^_, _<_, min}
 use native.Mathlib.Omega.{arith}
 use borrow.Author.Tests.{eq-eqb, ne-eqb, eqb-false, ltb-true}
 use lib.Dec.{eqb, ltb}
+use Rattle.number.specs.declared.Direction.the-variants.{Nearest}
 use Rattle.number.specs.declared.Number.{Number}
 use Rattle.number.specs.declared.signed.Signed.{Signed}
 use Rattle.number.specs.Number.{round}
@@ -65,7 +66,7 @@ rounded-sign p q x S n m u = by (ltb p q) refl
     by false e = size-by false (round (p - q) 1 x) (λ h. u (some (p - q) refl h))
       where
         some : (k : ℕ) → p - q ≡ k → 0 < round k 1 x .m → 0 < p
-        some zero f g = absurd (omega (arith, ap (λ (r : Number). r .m) (round-zero 1 x)))
+        some zero f g = absurd (omega (arith, ap (λ (r : Number). r .m) (round-zero Nearest 1 x)))
         some (suc k) f g = omega arith
 
 pub sum-between : (a b : Signed) → Between (sign b) (sign a) (sign (signedSum a b))
@@ -110,11 +111,11 @@ module _ (a w : Signed) (plus-w : w .negative ≡ false) where
 
   pub product-own : Between none (sign a) (sign (signedProduct a w))
   unfolding signedProduct
-  product-own = own-sign a _ _ same-sign (λ z. ap (λ (p : Number). p .m) (product-zero-left (a .size) (w .size) z))
+  product-own = own-sign a _ _ same-sign (λ z. ap (λ (p : Number). p .m) (product-zero-left Nearest (a .size) (w .size) z))
 
   pub quotient-own : Between none (sign a) (sign (signedQuotient a w))
   unfolding signedQuotient
-  quotient-own = own-sign a _ _ same-sign (λ z. ap (λ (p : Number). p .m) (quotient-zero-left (a .size) (w .size) z))
+  quotient-own = own-sign a _ _ same-sign (λ z. ap (λ (p : Number). p .m) (quotient-zero-left Nearest (a .size) (w .size) z))
 
 -- an item plus a number that is not negative times its neighbour
 pub added-between : (a b w : Signed) → w .negative ≡ false → Between (sign b) (sign a) (sign (signedSum a (signedProduct w b)))

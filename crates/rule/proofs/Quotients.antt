@@ -4,6 +4,7 @@ use mathlib.Core.Path.{_≡_, sym, ap, ap₂, _∙_}
 use Prim.Native.Nat.{ℕ, _+_, _-_, _≤_, _<_}
 use native.Mathlib.Omega.{arith}
 use Rattle.number.specs.Number.{rounded, reach, productOf, quotientOf, Ranged}
+use Rattle.number.specs.declared.Direction.the-variants.{Nearest}
 use Rattle.number.specs.declared.Number.{Number}
 use Rattle.number.proofs.Reach.{ranged-more}
 use Rattle.number.proofs.Zero.{product-positive}
@@ -21,7 +22,7 @@ pub product-reach : {a b : Number} → Usable a → Usable b → Ranged reach (p
 product-reach u v = ranged-more (omega arith) (product-ranged (runReach 6 8) (omega arith) (u .ranged) (v .ranged))
 
 pub product-nonzero : {a b : Number} → Usable a → Usable b → 0 < productOf a b .m
-product-nonzero {a} {b} u v = product-positive a b (u .nonzero) (v .nonzero)
+product-nonzero {a} {b} u v = product-positive Nearest a b (u .nonzero) (v .nonzero)
 
 -- the four minors as document 01 writes them
 module _ (k i j : ℕ) (M : RowSet → RowSet → Number) (low : 1 ≤ j) (order : j < i) (high : i ≤ k) where

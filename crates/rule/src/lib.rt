@@ -9,6 +9,7 @@ ghost use Rattle.walk.specs.Lent.{AllSpelled};
 ghost use Rattle.table.specs.Table.{cellAt, tableOf};
 ghost use Rattle.rule.specs.Chosen.{chosenOf, sizeOf, chosenMinor, chosenFactors, turnedBy, Workable, Lent, Usable};
 ghost use Rattle.rule.specs.Result.{workOf};
+use number::Direction;
 use number::Number;
 use walk::Joined;
 
@@ -103,7 +104,7 @@ impl Chosen {
     {
         let upper = self.run_minor(tables, letters, sources, 1, i, i, false);
         let lower = self.run_minor(tables, letters, sources, 1, i - 1, i - 1, false);
-        upper.div(lower)
+        upper.div(lower, Direction::Nearest)
     }
 
     // Below the diagonal, j < i; turned, the factor of row j and column i above it.
@@ -124,7 +125,9 @@ impl Chosen {
         let before = self.run_minor(tables, letters, sources, i - j, i - 2, j - 1, turned);
         let run = self.run_minor(tables, letters, sources, i - j + 1, i - 1, j - 1, turned);
         let above = self.run_minor(tables, letters, sources, i - j, i - 1, j, turned);
-        corner.mul(before).div(run.mul(above))
+        corner
+            .mul(before, Direction::Nearest)
+            .div(run.mul(above, Direction::Nearest), Direction::Nearest)
     }
 
     fn factor(

@@ -3,7 +3,7 @@ use mathlib.Core.Path.{refl}
 use mathlib.Core.Bool.{xor}
 use lib.Ieee.{size}
 use Rattle.number.specs.Examples.{AllHold}
-use Rattle.number.specs.Number.{round, renormalised, sumOf, productOf, quotientOf, inRange}
+use Rattle.number.specs.Number.{roundBy, renormalised, sumBy, productBy, quotientBy, inRange}
 use Rattle.number.specs.Signed.{signedRound, signedSum, signedProduct, withSign}
 use Rattle.rowset.specs.Mask.{maskHas, countTo, maskCount, maskBeyond}
 use Rattle.words.specs.RowSet.{has, put, count, equal, rows, ofMask, among}
@@ -24,7 +24,7 @@ use Rattle.shelf.specs.Examples.{markedTable}
 
 pub marked-examples : AllHold markedTable
 unfolding markedTable has put count equal rows ofMask among ascending descending word inverseWord converseWord joinedWord oneAt moved scaled act walk minor
-    carry carryLetter onDiagonal belowDiagonal newFactor result rowByRow round renormalised sumOf productOf quotientOf inRange
+    carry carryLetter onDiagonal belowDiagonal newFactor result rowByRow roundBy renormalised sumBy productBy quotientBy inRange
     signedRound signedSum signedProduct withSign size lib.Ieee.span lib.Ieee.climb xor maskHas countTo maskCount maskBeyond
     factorsOf tableOf outside rowsAt tableAt withTable emptyShelf firstBehind
     storable signedItem listOf listNumbers carriedVector anyOutside operationCall minorAt minorCall carryCall run

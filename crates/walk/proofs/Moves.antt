@@ -7,6 +7,7 @@ use Prim.Native.Nat.{ℕ, _+_, _-_, _^_, _≤_, _<_, min}
 use native.Mathlib.Omega.{arith}
 use lib.ListN.{getD, set}
 use Rattle.number.specs.Number.{rounded, sumOf, productOf, Ranged, Stored, reach}
+use Rattle.number.specs.declared.Direction.the-variants.{Nearest}
 use Rattle.number.specs.declared.Number.{Number}
 use Rattle.number.proofs.Reach.{ranged-more, ranged-stored, ranged-product}
 use Rattle.rowset.specs.Mask.{maskMoves, maskReplaced, maskCount, countBelow, positionOf}
@@ -32,7 +33,7 @@ move-reach x w y = (
   ranged-more (omega arith) x,
   ranged-more (omega arith) (ranged-stored w),
   ranged-more (omega arith) y,
-  ranged-more (omega arith) (ranged-product (ranged-stored w) y (omega arith)),
+  ranged-more (omega arith) (ranged-product Nearest (ranged-stored w) y (omega arith)),
 )
 
 module _ (n k a o : ℕ) (w : Number) (v : List Number) where

@@ -8,6 +8,7 @@ use lib.ListN.{getD, set, length, replicate, List·getD-map}
 use lib.Seq.{set-getD}
 use Rattle.number.specs.Number.{zeroNumber, oneNumber, sumOf, productOf, Ranged, reach}
 use Rattle.number.specs.Packed.{packOf, unpackOf}
+use Rattle.number.specs.declared.Direction.the-variants.{Nearest}
 use Rattle.number.specs.declared.Number.{Number}
 use Rattle.number.proofs.Words.{unpack-pack}
 use Rattle.number.proofs.Reach.{ranged-sum}
@@ -56,7 +57,7 @@ module _ (u : List ℕ) (w : Number) (i j : ℕ) (e : length u ≡ 70) (hi : i <
   word-ready = (at-i, R .1, subst (Ranged reach) (number-at u j e hj) (R .2), between)
 
   summed : Ranged (reach + 2) (sumOf x (productOf w y))
-  summed = ranged-sum at-i between (omega arith)
+  summed = ranged-sum Nearest at-i between (omega arith)
 
   pub word-fits : (sumOf x (productOf w y) .m < 2 ^ 32) × (sumOf x (productOf w y) .x < 2 ^ 32)
   word-fits = (summed .high, omega (arith, summed .stop))
@@ -70,8 +71,8 @@ module _ (u : List ℕ) (w : Number) (i j : ℕ) (e : length u ≡ 70) (hi : i <
   pub zero-same : y .m ≡ 0 → getD (numbersOf u) i absent ≡ sumOf (getD (numbersOf u) i absent) (productOf w (getD (numbersOf u) j absent))
   zero-same h =
       let q : getD (numbersOf u) j absent .m ≡ 0 = ap (λ (a : Number). a .m) (number-at u j e hj) ∙ h in
-      let p : productOf w (getD (numbersOf u) j absent) .m ≡ 0 = ap (λ (a : Number). a .m) (product-zero-right w (getD (numbersOf u) j absent) q) in
-      sym (sum-zero-right (getD (numbersOf u) i absent) (productOf w (getD (numbersOf u) j absent)) (R .0) p)
+      let p : productOf w (getD (numbersOf u) j absent) .m ≡ 0 = ap (λ (a : Number). a .m) (product-zero-right Nearest w (getD (numbersOf u) j absent) q) in
+      sym (sum-zero-right Nearest (getD (numbersOf u) i absent) (productOf w (getD (numbersOf u) j absent)) (R .0) p)
 
 pub set-same : (l : List Number) (i : ℕ) → l ≡ set l i (getD l i absent)
 set-same l i = sym (set-getD l i absent)

@@ -8,6 +8,7 @@ use native.Mathlib.Numerals.{add-one}
 use native.Mathlib.Omega.{arith}
 use lib.ListN.{getD, set, length}
 use Rattle.number.specs.Number.{rounded, Ranged, Stored, bias}
+use Rattle.number.specs.declared.Direction.the-variants.{Nearest}
 use Rattle.number.specs.declared.Number.{Number}
 use Rattle.number.proofs.Reach.{ranged-more, ranged-stored, ranged-product, ranged-quotient}
 use Rattle.number.proofs.Zero.{zero-is, product-zero-left, quotient-zero-left}
@@ -38,8 +39,8 @@ module _ (op : Number → Number → Number) (e : ℕ → Number) (s : ℕ) (x :
   scaled-not i h = scaled-row i false h
 
 scale-reach : {r : ℕ} {y e : Number} (b : Bool) → Ranged r y → Stored e → r + 1064 ≤ bias → Ranged (r + 1033) (scaling b y e)
-scale-reach {r} true u s h = ranged-more (omega arith) (ranged-quotient u (ranged-stored s) (omega (arith, s .low)))
-scale-reach {r} false u s h = ranged-more (omega arith) (ranged-product u (ranged-stored s) (omega arith))
+scale-reach {r} true u s h = ranged-more (omega arith) (ranged-quotient Nearest u (ranged-stored s) (omega (arith, s .low)))
+scale-reach {r} false u s h = ranged-more (omega arith) (ranged-product Nearest u (ranged-stored s) (omega arith))
 
 -- y is x scaled by the entries of the first i rows
 pub record Scaled (b : Bool) (e : ℕ → Number) (s : ℕ) (x y : Number) (i : ℕ) : Type 0 where
@@ -83,8 +84,8 @@ scaled-zero b e [] x u z = refl
 scaled-zero {r} b e (true ∷ S) x u z = ap (λ (y : Number). scaling b y (e (suc (length S)))) (scaled-zero b e S x u z) ∙ by b
   where
     by : (b : Bool) → scaling b x (e (suc (length S))) ≡ x
-    by true = quotient-zero-left x (e (suc (length S))) z ∙ sym (zero-is x u z)
-    by false = product-zero-left x (e (suc (length S))) z ∙ sym (zero-is x u z)
+    by true = quotient-zero-left Nearest x (e (suc (length S))) z ∙ sym (zero-is x u z)
+    by false = product-zero-left Nearest x (e (suc (length S))) z ∙ sym (zero-is x u z)
 scaled-zero b e (false ∷ S) x u z = scaled-zero b e S x u z
 
 -- THE SETS OF k ROWS, the set at p in place: no other set is read

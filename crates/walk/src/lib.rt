@@ -16,6 +16,7 @@ ghost use Rattle.walk.specs.Packed.{heldBy};
 ghost use Rattle.walk.specs.Held.{Agree, Working, letterReach, stepReach, scaledReach};
 ghost use Rattle.walk.specs.Steps.{scaling, entriesOf, StoredEntries, divides, backwards, diagonalOf, letterAt};
 ghost use Rattle.walk.specs.Lent.{tableIn, stepIn, Spelled, AllSpelled, stepsOf};
+use number::Direction;
 use number::Number;
 use number::packed;
 use rowset::lent;
@@ -83,7 +84,11 @@ fn scale(x: Number, e: Number, inverse: bool) -> Number
     requires { ⌜ Ranged (2 ^ 20) x × Stored e ⌝ }
     ensures { λ r. ⌜ r ≡ scaling inverse x e ⌝ }
 {
-    if inverse { x.div(e) } else { x.mul(e) }
+    if inverse {
+        x.div(e, Direction::Nearest)
+    } else {
+        x.mul(e, Direction::Nearest)
+    }
 }
 
 fn divides(way: Way) -> bool

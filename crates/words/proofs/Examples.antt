@@ -5,7 +5,7 @@ use Prim.Native.Nat.{ℕ, _+_, _-_, _*_}
 use native.Mathlib.Omega.{arith}
 use lib.Ieee.{size}
 use Rattle.number.specs.Examples.{AllHold}
-use Rattle.number.specs.Number.{round, renormalised, sumOf, productOf, quotientOf, inRange}
+use Rattle.number.specs.Number.{roundBy, renormalised, sumBy, productBy, quotientBy, inRange}
 use Rattle.number.specs.Signed.{signedRound, signedSum, withSign, signedProduct}
 use Rattle.words.specs.RowSet.{has, put, count, equal, rows, ofMask, among}
 use Rattle.words.specs.Word.{ascending, descending, word, inverseWord, converseWord}
@@ -16,7 +16,7 @@ use Rattle.words.specs.Examples.{ruleTable, boundTable}
 
 pub rule-examples : AllHold ruleTable
 unfolding ruleTable has put count equal rows ofMask among ascending descending word inverseWord converseWord joinedWord oneAt moved scaled act walk minor
-    carryLetter carry onDiagonal belowDiagonal newFactor result rowByRow round renormalised sumOf productOf quotientOf signedRound signedSum withSign
+    carryLetter carry onDiagonal belowDiagonal newFactor result rowByRow roundBy renormalised sumBy productBy quotientBy signedRound signedSum withSign
     signedProduct inRange size lib.Ieee.span lib.Ieee.climb mathlib.Core.Bool.xor
 rule-examples = (refl, (refl, (refl, (refl, (refl, (refl, (refl, (refl, (refl, (refl, (refl, tt)))))))))))
 

@@ -9,6 +9,7 @@ use Prim.Native.Nat.{ℕ, _+_, _*_, _≤_, _<_}
 use native.Mathlib.Nat.{mul-le-mul}
 use native.Mathlib.Omega.{arith}
 use lib.ListN.{length}
+use Rattle.number.specs.declared.Direction.the-variants.{Nearest}
 use Rattle.number.specs.declared.Number.{Number}
 use Rattle.number.specs.Number.{bias, reach, zeroNumber, oneNumber, productOf, quotientOf, rounded, Ranged, Stored}
 use Rattle.number.proofs.Reach.{ranged-more, ranged-zero, ranged-one, ranged-stored, ranged-sum, ranged-product, ranged-quotient}
@@ -38,7 +39,7 @@ steps-walkable n = sources-weaken (Each Stored n) (Walkable n) (stored-walkable 
 
 -- a weight times a number, before the sum
 pub weighed-ranged : {r : ℕ} {w x : Number} → r + 1064 ≤ bias → Ranged 1000 w → Ranged r x → Ranged (r + 1033) (productOf w x)
-weighed-ranged room s h = ranged-more (omega arith) (ranged-product s h (omega arith))
+weighed-ranged room s h = ranged-more (omega arith) (ranged-product Nearest s h (omega arith))
 
 -- THE GRADES are exponents from -r to r, where there is room; the second number is not looked at. A letter, or an entry of D, adds 1035 at most:
 -- a product with a stored number 1033, or a quotient by one 1032, and the sum 2.
@@ -52,11 +53,11 @@ ranged-related = record {
   afterMove = λ r. r + 1035;
   rel-stays = λ r x y h room. ranged-more (omega arith) (h (omega arith));
   rel-moves = λ r x x′ w y y′ v h s g room. ranged-more (omega arith)
-      (ranged-sum {r = r + 1033} (ranged-more (omega arith) (h (omega arith))) (weighed-ranged (omega arith) s (g (omega arith))) (omega arith));
+      (ranged-sum Nearest {r = r + 1033} (ranged-more (omega arith) (h (omega arith))) (weighed-ranged (omega arith) s (g (omega arith))) (omega arith));
   afterEntry = λ r. r + 1035;
   rel-skips = λ r x y h room. ranged-more (omega arith) (h (omega arith));
-  rel-times = λ r x e y f h s room. ranged-more (omega arith) (ranged-product (h (omega arith)) (ranged-stored s) (omega arith));
-  rel-over = λ r x e y f h s room. ranged-more (omega arith) (ranged-quotient (h (omega arith)) (ranged-stored s) (omega (arith, s .low)));
+  rel-times = λ r x e y f h s room. ranged-more (omega arith) (ranged-product Nearest (h (omega arith)) (ranged-stored s) (omega arith));
+  rel-over = λ r x e y f h s room. ranged-more (omega arith) (ranged-quotient Nearest (h (omega arith)) (ranged-stored s) (omega (arith, s .low)));
 }
 
 -- ANY WORD of such weights and entries, from any state
@@ -113,10 +114,10 @@ module _ (n : ℕ) (L : List (Step Number)) (walkable : Sources (Walkable n) L) 
 -- THE FORMULAS: products of two minors, and the quotient of two products or of two minors
 module _ (r : ℕ) (room : 4 * r + 194 ≤ bias) where
   pub product-ranged : {a b : Number} → Ranged r a → Ranged r b → Ranged (2 * r + 33) (productOf a b)
-  product-ranged h g = ranged-more (omega arith) (ranged-product h g (omega arith))
+  product-ranged h g = ranged-more (omega arith) (ranged-product Nearest h g (omega arith))
 
   pub quotient-ranged : {p q : Number} → Ranged (2 * r + 33) p → Ranged (2 * r + 33) q → 0 < q .m → Ranged (4 * r + 98) (quotientOf p q)
-  quotient-ranged h g q = ranged-more (omega arith) (ranged-quotient h g q)
+  quotient-ranged h g q = ranged-more (omega arith) (ranged-quotient Nearest h g q)
 
   pub ratio-ranged : {a b : Number} → Ranged r a → Ranged r b → 0 < b .m → Ranged (4 * r + 98) (quotientOf a b)
   ratio-ranged h g q = quotient-ranged (ranged-more (omega arith) h) (ranged-more (omega arith) g) q

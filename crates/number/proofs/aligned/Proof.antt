@@ -5,7 +5,7 @@ use native.Mathlib.Nat.{div-le-self}
 use native.Mathlib.Omega.{arith}
 use borrow.Author.Needs.{needs}
 use lib.Pow as Pow
-use Rattle.number.proofs.Digits.{unlike-le}
+use Rattle.number.proofs.Sums.{unlike-le}
 use Rattle.number.specs.Digits.{alignedOf, unlikeOf}
 use Rattle.number.proofs.aligned.Statement.{statement}
 use Rattle.number.proofs.aligned.Tie as tie

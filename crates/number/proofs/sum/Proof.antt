@@ -3,8 +3,8 @@ use mathlib.Core.Path.{_≡_, sym, ap, _∙_}
 use Prim.Native.Nat.{ℕ, _+_, _-_, min}
 use native.Mathlib.Omega.{arith}
 use borrow.Author.Needs.{needs}
-use Rattle.number.proofs.Digits.{aligned-low, aligned-high, aligned-is}
-use Rattle.number.specs.Number.{round}
+use Rattle.number.proofs.Sums.{aligned-low, aligned-high, aligned-is}
+use Rattle.number.specs.Number.{roundBy}
 use Rattle.number.specs.Digits.{alignedOf}
 use Rattle.number.proofs.sum.Statement.{statement}
 use Rattle.number.proofs.sum.Tie as tie
@@ -33,11 +33,12 @@ returns c =
     let b = c .before .before .before in
     let a = b .args in
     let k = a .i - a .j in
+    let w = a .direction in
     let e : a .j + k ≡ a .i = omega arith in
     c .kept .ensures
-    ∙ ap (λ (p : ℕ). round p 1 (a .i - 31)) (c .before .aligned .ensures ∙ ap (alignedOf (a .a) (a .b)) (c .before .before .lower .ensures))
-    ∙ ap (λ (i : ℕ). round (alignedOf (a .a) (a .b) (min k 63)) 1 (i - 31)) (sym e)
-    ∙ (aligned-is (a .a) (a .b) (a .j) k (b .pre .0) (b .pre .1) (b .pre .2) (omega arith))
+    ∙ ap (λ (p : ℕ). roundBy w p 1 (a .i - 31)) (c .before .aligned .ensures ∙ ap (alignedOf (a .a) (a .b)) (c .before .before .lower .ensures))
+    ∙ ap (λ (i : ℕ). roundBy w (alignedOf (a .a) (a .b) (min k 63)) 1 (i - 31)) (sym e)
+    ∙ aligned-is w (a .a) (a .b) (a .j) k (b .pre .0) (b .pre .1) (b .pre .2) (omega arith)
 
 pub sum-spec : {M : Type 1} → statement M
 sum-spec =

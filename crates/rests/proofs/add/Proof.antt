@@ -2,6 +2,7 @@
 use mathlib.Core.Path.{ap₂, _∙_}
 use borrow.Author.Needs.{needs}
 use Rattle.number.proofs.Zero.{sum-comm}
+use Rattle.number.specs.declared.Direction.the-variants.{Nearest}
 use Rattle.number.specs.declared.Number.{Number}
 use Rattle.rests.specs.declared.Rest.{Rest}
 use Rattle.rests.proofs.Sums.{rest-comm}
@@ -12,7 +13,7 @@ sum-requires : tie.Need-sum-requires
 sum-requires c κs = search needs
 
 returns : tie.Need-returns
-returns c = c .sum .ensures ∙ ap₂ (λ (n : Number) (t : Rest). record { number = n; rest = t }) (sum-comm _ _) (rest-comm _ _)
+returns c = c .sum .ensures ∙ ap₂ (λ (n : Number) (t : Rest). record { number = n; rest = t }) (sum-comm Nearest _ _) (rest-comm _ _)
 
 sum-requires-2 : tie.Need-sum-requires-2
 sum-requires-2 c κs = search needs

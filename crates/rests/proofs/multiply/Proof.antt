@@ -31,15 +31,15 @@ mul-difference c =
     omega (arith, product-fits _ _ (p .first .high) (p .second .high))
 
 sub-power : tie.Need-sub-power
-sub-power c = rw (point c .mul .ensures) (omega (arith, product-start _ _ (point c .before .pre)))
+sub-power c = rw (point c .mul .ensures .0) (omega (arith, product-start _ _ (point c .before .pre)))
 
 power-requires : tie.Need-power-requires
-power-requires c κs = rw (point c .mul .ensures) (omega (arith, product-stop _ _ (point c .before .pre)))
+power-requires c κs = rw (point c .mul .ensures .0) (omega (arith, product-stop _ _ (point c .before .pre)))
 
 mul-difference-2 : tie.Need-mul-difference-2
 mul-difference-2 c =
     let t = point (c .before .before) in
-    rw (c .before .power .ensures, t .mul .ensures) (omega (arith, result-fits _ _ (t .before .pre)))
+    rw (c .before .power .ensures, t .mul .ensures .0) (omega (arith, result-fits _ _ (t .before .pre)))
 
 difference-requires : tie.Need-difference-requires
 difference-requires c κs = search needs
@@ -52,10 +52,10 @@ returns c =
     let a = t .before .args .a in
     let b = t .before .args .b in
     let x = a .x + b .x - bias in
-    ap₂ (λ (n : Number) (t : Rest). record { number = n; rest = t }) (t .mul .ensures)
+    ap₂ (λ (n : Number) (t : Rest). record { number = n; rest = t }) (t .mul .ensures .0)
     (c .difference .ensures
     ∙ ap (λ (u : ℕ). restOf (a .m * b .m) (t .mul .result .m * u) x) (p .power .ensures)
-    ∙ ap (λ (n : Number). restOf (a .m * b .m) (n .m * 2 ^ (n .x - x)) x) (t .mul .ensures))
+    ∙ ap (λ (n : Number). restOf (a .m * b .m) (n .m * 2 ^ (n .x - x)) x) (t .mul .ensures .0))
 
 pub multiply-spec : {M : Type 1} → statement M
 multiply-spec =

@@ -27,7 +27,7 @@ units : (c : tie.After-power) → let t = near (c .before) in let a = t .before 
     t .add .result .m * c .power .result ≡ r .m * 2 ^ (r .x - a .x)
 units c =
     let t = near (c .before) in
-    ap (λ (u : ℕ). t .add .result .m * u) (c .power .ensures) ∙ ap (λ (n : Number). n .m * 2 ^ (n .x - t .before .args .a .x)) (t .add .ensures)
+    ap (λ (u : ℕ). t .add .result .m * u) (c .power .ensures) ∙ ap (λ (n : Number). n .m * 2 ^ (n .x - t .before .args .a .x)) (t .add .ensures .0)
 
 add-requires : tie.Need-add-requires
 add-requires c κs = search needs
@@ -41,14 +41,14 @@ odd-part-requires c κs = search needs
 returns : tie.Need-returns
 returns c =
     let t = c .before .before .before .before in
-    ap₂ (λ (n : Number) (t : Rest). record { number = n; rest = t }) (t .add .ensures)
+    ap₂ (λ (n : Number) (t : Rest). record { number = n; rest = t }) (t .add .ensures .0)
     (c .odd-part .ensures ∙ sym (far-rest _ _ (t .before .pre .0) (t .before .pre .1) (c .before .if1 .taken)))
 
 sub-power : tie.Need-sub-power
-sub-power c = rw (near c .add .ensures) (sum-start _ _ (near c .before .pre .0) (near c .before .pre .1))
+sub-power c = rw (near c .add .ensures .0) (sum-start _ _ (near c .before .pre .0) (near c .before .pre .1))
 
 power-requires : tie.Need-power-requires
-power-requires c κs = rw (near c .add .ensures) (omega (arith, sum-stop _ _ (near c .before .pre .0) (near c .before .pre .1)))
+power-requires c κs = rw (near c .add .ensures .0) (omega (arith, sum-stop _ _ (near c .before .pre .0) (near c .before .pre .1)))
 
 mul-more : tie.Need-mul-more
 mul-more c =
@@ -79,7 +79,7 @@ returns-2 c =
     let t = near (p .before) in
     let a = t .before .args .a in
     let b = t .before .args .b in
-    ap₂ (λ (n : Number) (t : Rest). record { number = n; rest = t }) (t .add .ensures)
+    ap₂ (λ (n : Number) (t : Rest). record { number = n; rest = t }) (t .add .ensures .0)
     (c .difference .ensures
     ∙ ap₂ (λ (u v : ℕ). restOf (b .m) ((u - a .m) * v) (b .x)) (units p) (c .before .power2 .ensures)
     ∙ sym (sum-rest a b (t .before .pre .0) (t .before .pre .1)))

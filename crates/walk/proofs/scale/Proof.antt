@@ -16,7 +16,7 @@ returns : tie.Need-returns
 returns c = c .div .ensures .0 ∙ ap (λ (b : Bool). scaling b (c .before .before .args .x) (c .before .before .args .e)) (sym (c .before .if1 .taken))
 
 returns-2 : tie.Need-returns-2
-returns-2 c = c .mul .ensures ∙ ap (λ (b : Bool). scaling b (c .before .before .args .x) (c .before .before .args .e)) (sym (c .before .if1 .left))
+returns-2 c = c .mul .ensures .0 ∙ ap (λ (b : Bool). scaling b (c .before .before .args .x) (c .before .before .args .e)) (sym (c .before .if1 .left))
 
 pub scale-spec : {M : Type 1} → statement M
 scale-spec = tie.close (tie.spec div-requires mul-requires returns returns-2)

@@ -9,10 +9,10 @@ mul-requires : tie.Need-mul-requires
 mul-requires c κs = search needs
 
 add-requires : tie.Need-add-requires
-add-requires c κs = (c .before .pre .0, subst (Ranged reach) (sym (c .mul .ensures)) (c .before .pre .3))
+add-requires c κs = (c .before .pre .0, subst (Ranged reach) (sym (c .mul .ensures .0)) (c .before .pre .3))
 
 returns : tie.Need-returns
-returns c = c .add .ensures ∙ ap (sumOf (c .before .before .args .self)) (c .before .mul .ensures)
+returns c = c .add .ensures .0 ∙ ap (sumOf (c .before .before .args .self)) (c .before .mul .ensures .0)
 
 pub add-product-spec : {M : Type 1} → statement M
 add-product-spec = tie.close (tie.spec mul-requires add-requires returns)

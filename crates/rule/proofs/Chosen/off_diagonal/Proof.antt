@@ -67,9 +67,9 @@ div-requires c κs =
     let before = c .before .before .before .before .run-minor2 .ensures .1 in
     let run = c .before .before .before .run-minor3 .ensures .1 in
     let above = c .before .before .run-minor4 .ensures .1 in (
-      subst (Ranged reach) (sym (c .before .mul .ensures)) (product-reach corner before),
-      subst (Ranged reach) (sym (c .mul2 .ensures)) (product-reach run above),
-      subst (λ (x : Number). 0 < x .m) (sym (c .mul2 .ensures)) (product-nonzero run above),
+      subst (Ranged reach) (sym (c .before .mul .ensures .0)) (product-reach corner before),
+      subst (Ranged reach) (sym (c .mul2 .ensures .0)) (product-reach run above),
+      subst (λ (x : Number). 0 < x .m) (sym (c .mul2 .ensures .0)) (product-nonzero run above),
     )
 
 returns : tie.Need-returns
@@ -80,7 +80,7 @@ returns c =
     below-answer (sizeOf (a .self)) (a .i) (a .j) (turnedBy (a .turned) (chosenMinor (a .self) (a .sources .now))) (p .1) (p .2) (p .3)
     (c .before .before .before .before .before .before .run-minor .ensures .0) (c .before .before .before .before .before .run-minor2 .ensures .0)
     (c .before .before .before .before .run-minor3 .ensures .0) (c .before .before .before .run-minor4 .ensures .0)
-    (c .before .before .mul .ensures) (c .before .mul2 .ensures) (c .div .ensures .0)
+    (c .before .before .mul .ensures .0) (c .before .mul2 .ensures .0) (c .div .ensures .0)
 
 pub off-diagonal-spec : {M : Type 1} → statement M
 off-diagonal-spec =

@@ -15,7 +15,7 @@ returns : tie.Need-returns
 returns c =
     let b = c .before .before .before .before .before in
     let s = c .before .before .if1 .taken in
-    ap (λ (n : Number). record { negative = true; size = n }) (c .add .ensures)
+    ap (λ (n : Number). record { negative = true; size = n }) (c .add .ensures .0)
     ∙ sym (signed-sum-negative (b .args .self) (b .args .other) s (c .before .if2 .taken) (negative-positive (b .args .self) (b .pre .0) s))
 
 difference-requires : tie.Need-difference-requires
@@ -40,7 +40,7 @@ add-requires-2 c κs = search needs
 returns-4 : tie.Need-returns-4
 returns-4 c =
     let b = c .before .before .before .before .before in
-    ap plain (c .add2 .ensures) ∙ sym (signed-sum-plain (b .args .self) (b .args .other) (c .before .before .if1 .left) (c .before .if3 .left))
+    ap plain (c .add2 .ensures .0) ∙ sym (signed-sum-plain (b .args .self) (b .args .other) (c .before .before .if1 .left) (c .before .if3 .left))
 
 pub add-spec : {M : Type 1} → statement M
 add-spec =

@@ -13,13 +13,13 @@ mul-requires c κs = search needs
 returns : tie.Need-returns
 returns c =
     let b = c .before .before .before .before in
-    let e = c .before .before .mul .ensures in
+    let e = c .before .before .mul .ensures .0 in
     ap plain e ∙ sym (signed-product-zero (b .args .self) (b .args .w) (ap (λ (n : Number). n .m) (sym e) ∙ c .if1 .taken))
 
 returns-2 : tie.Need-returns-2
 returns-2 c =
     let b = c .before .before .before .before in
-    let e = c .before .before .mul .ensures in
+    let e = c .before .before .mul .ensures .0 in
     ap (λ (n : Number). record { negative = b .args .self .negative; size = n }) e
     ∙ sym (signed-product-sign (b .args .self) (b .args .w) (λ f. c .if1 .left (ap (λ (n : Number). n .m) e ∙ f)))
 

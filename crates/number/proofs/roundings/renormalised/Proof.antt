@@ -2,8 +2,8 @@
 use borrow.Author.Tests.{eq-eqb, ne-eqb}
 use borrow.Author.Needs.{needs}
 use Rattle.number.specs.Number.{renormalised}
-use Rattle.number.proofs.renormalised.Statement.{statement}
-use Rattle.number.proofs.renormalised.Tie as tie
+use Rattle.number.proofs.roundings.renormalised.Statement.{statement}
+use Rattle.number.proofs.roundings.renormalised.Tie as tie
 
 add-t4 : tie.Need-add-t4
 add-t4 c = search needs

@@ -7,8 +7,9 @@ use borrow.Author.Needs.{needs}
 use lib.Count.{leadingZeros}
 use Rattle.number.proofs.Exact.{zeros-lt, zeros-long, zeros-short, integer-long, integer-short}
 use Rattle.number.specs.Number.{round}
-use Rattle.number.proofs.round_integer.Statement.{statement}
-use Rattle.number.proofs.round_integer.Tie as tie
+use Rattle.number.specs.declared.Direction.the-variants.{Nearest}
+use Rattle.number.proofs.roundings.round_integer.Statement.{statement}
+use Rattle.number.proofs.roundings.round_integer.Tie as tie
 
 cast-z : tie.Need-cast-z
 cast-z c = omega (arith, zeros-lt (c .args .n) (c .pre .0) (c .fits .n .fits))
@@ -26,7 +27,7 @@ returns : tie.Need-returns
 returns c =
     let s = c .before .before in
     let g = zeros-long (s .args .n) (s .pre .0) (s .fits .n .fits) (le-of-lt (c .before .if1 .taken)) in
-    c .round-long .ensures ∙ sym (integer-long (s .args .n) (s .args .x) (32 - leadingZeros 64 (s .args .n)) (s .pre .0) (g .0) (g .1))
+    c .round-long .ensures ∙ sym (integer-long Nearest (s .args .n) (s .args .x) (32 - leadingZeros 64 (s .args .n)) (s .pre .0) (g .0) (g .1))
 
 power-requires : tie.Need-power-requires
 power-requires c κs = omega (arith, zeros-lt (c .before .args .n) (c .before .pre .0) (c .before .fits .n .fits))

@@ -6,8 +6,8 @@ use native.Mathlib.Omega.{arith}
 use borrow.Author.Needs.{needs}
 use lib.Pow.{pow-pos, pow-mono}
 use Rattle.number.specs.Number.{round}
-use Rattle.number.proofs.round_long.Statement.{statement}
-use Rattle.number.proofs.round_long.Tie as tie
+use Rattle.number.proofs.roundings.round_long.Statement.{statement}
+use Rattle.number.proofs.roundings.round_long.Tie as tie
 
 -- n = q 2 ^ w + remainder, with 32 digits in q
 record Parts (n w : ℕ) : Type 0 where
