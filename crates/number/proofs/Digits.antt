@@ -3,7 +3,7 @@
 use mathlib.Core.Path.{_≡_, refl, sym, ap, ap₂, _∙_}
 use mathlib.Core.Bool.{Bool, true, false, cond}
 use Prim.Native.Nat.{ℕ, zero, suc, _+_, _-_, _*_, _/_, _%_, _^_, _≤_, _<_}
-use native.Mathlib.Nat.{mod-lt, mul-pos, mul-le-mul-right, mul-add-div-right, div-eq-of-lt, div-add-mod'}
+use native.Mathlib.Nat.{mod-lt, mul-pos, mul-le-mul-right, div-add-mod'}
 use native.Mathlib.Decide.{decLt}
 use native.Mathlib.Omega.{arith}
 use borrow.Author.Tests.{eq-eqb, eqb-true, eqb-false, ltb-true, ltb-false}
@@ -12,7 +12,7 @@ use lib.Pow.{pow-pos}
 use Rattle.number.proofs.Closest.{stays, rises, nearest-by}
 use Rattle.number.proofs.Rounding.{round-normal, renormalised-small}
 use Rattle.number.proofs.Exact.{integer-long}
-use Rattle.number.proofs.Tests.{none}
+use Rattle.number.proofs.Tests.{none, quotient-of}
 use Rattle.number.specs.Digits.{liftOf, liftedOf, multiplierOf, wholeOf}
 use Rattle.number.specs.Direction.{taken, wholeBy}
 use Rattle.number.specs.Number.{roundBy, renormalised}
@@ -88,10 +88,6 @@ lift-less Nearest h q p = omega arith
 lift-less Down h q p = omega arith
 lift-less Up h q p = omega arith
 
--- a units and less than one
-whole-units : (a b u : ℕ) → b < u → (a * u + b) / u ≡ a
-whole-units a b u h = mul-add-div-right (omega arith) a b ∙ ap (λ (z : ℕ). a + z) (div-eq-of-lt h) ∙ omega arith
-
 lift-takes : (w : Direction) (h p : ℕ) → 0 < h → (p + liftOf w h (p / (2 * h))) / (2 * h) ≡ wholeBy w p (2 * h)
 lift-takes w h p pos = parts (p / u) (p % u) (div-add-mod' p u) (mod-lt p {m = u} (omega arith))
   where
@@ -105,10 +101,10 @@ lift-takes w h p pos = parts (p / u) (p % u) (div-add-mod' p u) (mod-lt p {m = u
         go true f =
             let g = lift-fills w h q r pos (ltb-true u _ f) in
             let c : p + liftOf w h q ≡ (q + 1) * u + (r + liftOf w h q - u) = omega arith in
-            ap (λ (z : ℕ). z / u) c ∙ whole-units (q + 1) (r + liftOf w h q - u) u (omega (arith, lift-less w h q pos))
+            ap (λ (z : ℕ). z / u) c ∙ quotient-of u (q + 1) (r + liftOf w h q - u) (omega (arith, lift-less w h q pos))
         go false f =
             let c : p + liftOf w h q ≡ q * u + (r + liftOf w h q) = omega arith in
-            ap (λ (z : ℕ). z / u) c ∙ whole-units q (r + liftOf w h q) u (lift-lacks w h q r pos l (ltb-false u _ f))
+            ap (λ (z : ℕ). z / u) c ∙ quotient-of u q (r + liftOf w h q) (lift-lacks w h q r pos l (ltb-false u _ f))
 
 lifted-31 : (w : Direction) (p : ℕ) → liftedOf w p 0 / 2 ^ 31 ≡ wholeBy w p (2 ^ 31)
 lifted-31 w p =

@@ -3,7 +3,7 @@
 use mathlib.Core.Path.{_≡_, refl, sym, ap, ap₂, _∙_, subst}
 use mathlib.Core.Logic.{⊎-elim}
 use Prim.Native.Nat.{ℕ, suc, _+_, _-_, _*_, _/_, _%_, _^_, _≤_, _<_}
-use native.Mathlib.Nat.{mul-add-div-right, mul-add-mod-self-right, div-eq-of-lt, mod-eq-of-lt, div-one, mod-one, mul-pos, mul-le-mul-right}
+use native.Mathlib.Nat.{div-one, mod-one, mul-pos, mul-le-mul-right}
 use native.Mathlib.Nat.{mul-lt-mul-of-pos-right, le-of-mul-le-mul-right, lt-of-mul-lt-mul-right, le-div-iff-mul-le, div-lt-iff-lt-mul, le-antisymm}
 use native.Mathlib.Nat.{lt-of-lt-of-le, lt-of-le-of-lt, lt-of-not-le, not-le-of-lt, eq-or-lt-of-le}
 use native.Mathlib.Omega.{arith}
@@ -15,6 +15,7 @@ use Rattle.fraction.specs.Fraction.{Fraction, natural}
 use Rattle.fraction.specs.Within.{Within}
 use Rattle.fraction.proofs.Within.{within-scaled}
 use Rattle.number.proofs.Taken.{taken-whole, taken-same, taken-above, taken-below, taken-near}
+use Rattle.number.proofs.Tests.{quotient-of, remainder-of}
 use Rattle.number.specs.Direction.{taken, wholeBy, roundings}
 use Rattle.number.specs.Number.{zeroNumber, roundBy, renormalised}
 use Rattle.number.specs.declared.Direction.{Direction}
@@ -63,9 +64,8 @@ round-parts w q r d x h lo hi =
     let a : 2 ^ 31 * d ≤ q * d = mul-le-mul-right d lo in
     let s : suc q ≤ 2 ^ 32 = hi in
     let b : suc q * d ≤ 2 ^ 32 * d = mul-le-mul-right d s in
-    let e : (q * d + r) / d ≡ q = mul-add-div-right p q r ∙ ap (λ (z : ℕ). q + z) (div-eq-of-lt h) ∙ omega arith in
-    let f : (q * d + r) % d ≡ r = mul-add-mod-self-right q d r ∙ mod-eq-of-lt h in
-    round-normal w (q * d + r) d x p (omega arith) (omega arith) ∙ ap₂ (λ (m k : ℕ). renormalised (taken w m k d) x) e f
+    round-normal w (q * d + r) d x p (omega arith) (omega arith)
+    ∙ ap₂ (λ (m k : ℕ). renormalised (taken w m k d) x) (quotient-of d q r h) (remainder-of d q r h)
 
 -- n / d at exponent x and N / D at exponent y are the same fraction, the second with 32 digits before the point
 pub round-same : (w : Direction) (n d x N D y k : ℕ) → 0 < n → 0 < d → 0 < D → n * 2 ^ 32 * D ≡ N * (d * 2 ^ k) → x + k - 32 ≡ y → 2 ^ 31 * D ≤ N

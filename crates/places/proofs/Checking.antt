@@ -1,7 +1,7 @@
 -- The test of a shelf holds of no shelf but good ones (`tested-good`), and of every good one (`good-tested`). Its loops are tests of all numbers below one
 -- (`all-below`, `all-fails`).
 use Prim.Native.Nat.{ℕ, zero, suc, _+_, _-_, _*_, _/_, _%_, _^_, _<_, _≤_}
-use native.Mathlib.Nat.{mul-add-div-right, mul-add-mod-self-right, div-eq-of-lt, mod-eq-of-lt, add-zero, div-add-mod', div-lt-iff-lt-mul, mod-lt}
+use native.Mathlib.Nat.{div-add-mod', div-lt-iff-lt-mul, mod-lt}
 use native.Mathlib.Decide.{ℕ-discrete}
 use native.Mathlib.Omega.{arith}
 use mathlib.Core.Path.{_≡_, refl, sym, ap, ap₂, subst, _∙_}
@@ -13,7 +13,7 @@ use lib.Seq.{length-take-le}
 use borrow.Author.Tests.{leb-true, le-leb, ltb-true, lt-ltb, eqb-true}
 use Rattle.number.specs.declared.Number.{Number}
 use Rattle.number.specs.Number.{bias, zeroNumber, inRange, Stored}
-use Rattle.number.proofs.Tests.{unless}
+use Rattle.number.proofs.Tests.{unless, quotient-of, remainder-of}
 use Rattle.words.specs.Word.{Factors}
 use Rattle.words.specs.Sources.{Each}
 use Rattle.table.specs.Table.{absent, factorsOf, padded, tableOf}
@@ -108,13 +108,6 @@ within-tested n b s i j h g =
     within-cases n (λ t. cond t (isStored (cond t (b i j) zeroNumber)) (isZero (cond t (b i j) zeroNumber)) ≡ true) i j h g
     (λ x y. stored-tested (b i j) (s i j x y)) zero-tested
 
--- p * m + k, taken apart
-pub quotient-of : (m p k : ℕ) → k < m → (p * m + k) / m ≡ p
-quotient-of m p k h = mul-add-div-right {m = m} (omega arith) p k ∙ ap (λ (q : ℕ). p + q) (div-eq-of-lt h) ∙ add-zero p
-
-pub rest-of : (m p k : ℕ) → k < m → (p * m + k) % m ≡ k
-rest-of m p k h = mul-add-mod-self-right p m k ∙ mod-eq-of-lt h
-
 module _ (s : Shelf) (eight : length (s .sizes) ≡ 8) (all : length (s .numbers) ≡ 512) where
   table-long : (p : ℕ) → p < 8 → length (tableAt s p) ≡ 64
   unfolding tableAt
@@ -132,14 +125,14 @@ module _ (s : Shelf) (eight : length (s .sizes) ≡ 8) (all : length (s .numbers
     unfolding soundNumbers
     sound-of p k h g =
         let e : soundAt s (p * 64 + k) ≡ true = all-each (soundAt s) 512 (parts .1) (p * 64 + k) (omega arith) in
-        rw (quotient-of 64 p k g, rest-of 64 p k g, number-of p k h g) at e
+        rw (quotient-of 64 p k g, remainder-of 64 p k g, number-of p k h g) at e
 
     cell-of : (p i j : ℕ) → p < 8 → i < 8 → j < 8 → (a : Number) → a ≡ getD (tableAt s p) (i * 8 + j) zeroNumber
         → cond (leb (suc i) (rowsAt s p) && leb (suc j) (rowsAt s p)) (isStored a) (isZero a) ≡ true
     unfolding sound
     cell-of p i j h k l a e =
         let f : sound (rowsAt s p) (i * 8 + j) a ≡ true = rw e (sound-of p (i * 8 + j) h (omega arith)) in
-        rw (quotient-of 8 i j l, rest-of 8 i j l) at f
+        rw (quotient-of 8 i j l, remainder-of 8 i j l) at f
 
     few-of : (p : ℕ) → p < 8 → rowsAt s p ≤ 8
     unfolding fewRows

@@ -12,12 +12,12 @@ use lib.ListN.{getD}
 use borrow.Author.Tests.{le-leb, lt-leb, eq-eqb, ne-eqb}
 use Rattle.number.specs.declared.Number.{Number}
 use Rattle.number.specs.Number.{bias}
-use Rattle.number.proofs.Tests.{unless}
+use Rattle.number.proofs.Tests.{unless, quotient-of, remainder-of}
 use Rattle.table.specs.Table.{absent}
 use Rattle.places.specs.declared.Shelf.{Shelf}
 use Rattle.places.specs.Shelf.{rowsAt}
 use Rattle.places.specs.Check.{isZero, sound, fewRows, soundAt, soundNumbers, isGood}
-use Rattle.places.proofs.Checking.{Seen, seen-more, seen-all, all-fails, quotient-of, rest-of}
+use Rattle.places.proofs.Checking.{Seen, seen-more, seen-all, all-fails}
 
 -- FAULTS
 or-none : (x y : ℕ) → bitOr x y ≡ 0 → (x ≡ 0) × (y ≡ 0)
@@ -73,7 +73,7 @@ module _ (s : Shelf) where
 
     module _ (k : ℕ) (number : k < 64) where
       sound-there : soundAt s (p * 64 + k) ≡ sound (rowsAt s p) k (getD (s .numbers) (p * 64 + k) absent)
-      sound-there = rw (quotient-of 64 p k number, rest-of 64 p k number)
+      sound-there = rw (quotient-of 64 p k number, remainder-of 64 p k number)
 
       pub number-failed : sound (rowsAt s p) k (getD (s .numbers) (p * 64 + k) absent) ≡ false → isGood s ≡ false
       unfolding isGood soundNumbers
