@@ -7,9 +7,10 @@ use number::BIAS;
 use number::Direction;
 use number::Number;
 
-// The least and the largest exponent that the operations take.
+// The least exponent that the operations take.
 const START: u64 = 2097216;
 
+// The largest.
 const STOP: u64 = 6291392;
 
 fn nothing() -> Number

@@ -10,7 +10,7 @@ examples = (refl, (refl, (refl, (refl, (refl, tt)))))
 
 pub directions : AllHold directionTable
 unfolding directionTable roundBy renormalised sumBy productBy quotientBy size lib.Ieee.span lib.Ieee.climb
-directions = (refl, (refl, (refl, (refl, (refl, (refl, (refl, (refl, (refl, tt)))))))))
+directions = (refl, (refl, (refl, (refl, (refl, (refl, (refl, (refl, (refl, (refl, tt))))))))))
 
 pub divisions : AllHold divisionTable
 unfolding divisionTable

@@ -2,6 +2,7 @@
 use mathlib.Core.Path.{_≡_}
 use mathlib.Core.List.{List, [], _∷_}
 use Prim.Native.Nat.{ℕ, _+_, _-_, _*_, _^_}
+use Rattle.number.specs.Direction.{roundings}
 use Rattle.number.specs.Division.{shiftOf, wholeQuotient, roundedQuotient}
 use Rattle.number.specs.Number.{bias, sumOf, productOf, quotientOf, sumBy, productBy, quotientBy}
 use Rattle.number.specs.declared.Direction.{Direction}
@@ -44,10 +45,11 @@ arithmeticTable =
 abbrev pub eachWay : (Direction → Number → Number → Number) → Number → Number → List Number
 eachWay f a b = f Down a b ∷ f Nearest a b ∷ f Up a b ∷ []
 
--- where the directions part, and where they agree
+-- how far off each may be; where they part, and where they agree
 unfoldable pub directionTable : List Row
 directionTable =
-    row (eachWay sumBy (up (2 ^ 31) 0) (down (3 * 2 ^ 30) 32)) (up (2 ^ 31) 0 ∷ up (2 ^ 31 + 1) 0 ∷ up (2 ^ 31 + 1) 0 ∷ [])  -- 2 ^ 31 + 3 / 4
+    row (roundings Nearest ∷ roundings Down ∷ roundings Up ∷ []) (1 ∷ 2 ∷ 2 ∷ [])  -- document 02: nearest within 1, down and up within 2
+    ∷ row (eachWay sumBy (up (2 ^ 31) 0) (down (3 * 2 ^ 30) 32)) (up (2 ^ 31) 0 ∷ up (2 ^ 31 + 1) 0 ∷ up (2 ^ 31 + 1) 0 ∷ [])  -- 2 ^ 31 + 3 / 4
     ∷ row (eachWay sumBy (up (2 ^ 31) 0) (down (2 ^ 31) 33)) (up (2 ^ 31) 0 ∷ up (2 ^ 31) 0 ∷ up (2 ^ 31 + 1) 0 ∷ [])  -- and 1 / 4
     ∷ row (eachWay sumBy (up (2 ^ 31) 0) (up (2 ^ 31) 0)) (up (2 ^ 31) 1 ∷ up (2 ^ 31) 1 ∷ up (2 ^ 31) 1 ∷ [])  -- exact: up takes no more
     ∷ row (eachWay sumBy (up (2 ^ 32 - 1) 0) (down (2 ^ 31) 33)) (up (2 ^ 32 - 1) 0 ∷ up (2 ^ 32 - 1) 0 ∷ up (2 ^ 31) 1 ∷ [])  -- up to 2 ^ 32, and carried
