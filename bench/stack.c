@@ -81,6 +81,13 @@ static void call_transpose(void)
     number = a.number;
 }
 
+static void call_build(void)
+{
+    static const uint64_t stamps[] = {1, 2, 4, 7, 11, 16, 22, 4294967295u};
+    tnb_answer a = tnb_build(shelf, 2, stamps, 8);
+    number = a.number;
+}
+
 static void call_minor(void)
 {
     tnb_value a = tnb_minor(shelf, 0, 0xf0, 0x0f);
@@ -150,6 +157,7 @@ static const struct {
     {"tnb_converse", call_converse, sizeof(tnb_shelf) + sizeof(tnb_answer)},
     {"tnb_submatrix", call_submatrix, sizeof(tnb_shelf) + sizeof(tnb_answer)},
     {"tnb_transpose", call_transpose, sizeof(tnb_shelf) + sizeof(tnb_answer)},
+    {"tnb_build", call_build, sizeof(tnb_shelf) + sizeof(tnb_answer)},
     {"tnb_minor", call_minor, sizeof(tnb_shelf) + sizeof(tnb_value)},
     {"tnb_rows", call_rows, sizeof(tnb_shelf) + sizeof(tnb_length)},
     {"tnb_factor", call_factor, sizeof(tnb_shelf) + sizeof(tnb_value)},

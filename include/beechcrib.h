@@ -6,9 +6,9 @@
  *
  * Places count from 0 to 7. Row and column sets are masks, bit 0 for row 1.
  *
- * Every answer has a number: 0 for accepted, 1 to 14 for a refusal, 255 where the shelf handed over is not one that these calls can have made;
+ * Every answer has a number: 0 for accepted, 1 to 15 for a refusal, 255 where the shelf handed over is not one that these calls can have made;
  * they have names below. A refused call changes neither the shelf nor lent memory. Where several conditions hold, the order is 1 (sources, then
- * target), 11, 12, 13, 8, 9, 14, 10; a load tests 1, 12, then bytes from the left.
+ * target), 11, 12, 15, 13, 8, 9, 14, 10; a load tests 1, 12, then bytes from the left.
  *
  * The offset: for 3 to 6 the first byte of the group number at fault, for 2 the length of the input, for 7 the first byte behind the matrix, else 0.
  *
@@ -23,10 +23,10 @@ extern "C" {
 #endif
 
 /* The version of this header and of the archive built beside it. It rises whenever a struct changes its size, a call or a number is added, or a call
- * answers otherwise than before (2: tnb_reversals passes over zeros; 3: tnb_add, tnb_multiply and tnb_divide are new). A program that uses only what
- * stands here, and not the inside of a shelf, compiles again with every later version; it is compiled again for each, since structs go by value. Later
- * versions may refuse with numbers that are not listed yet: test for TNB_ACCEPTED. */
-#define TNB_VERSION 3
+ * answers otherwise than before (2: tnb_reversals passes over zeros; 3: tnb_add, tnb_multiply and tnb_divide are new; 4: tnb_build and its refusal 15
+ * are new). A program that uses only what stands here, and not the inside of a shelf, compiles again with every later version; it is compiled again
+ * for each, since structs go by value. Later versions may refuse with numbers that are not listed yet: test for TNB_ACCEPTED. */
+#define TNB_VERSION 4
 
 /* The numbers of answers. */
 enum {
@@ -45,6 +45,7 @@ enum {
     TNB_TARGET_FULL = 12,        /* target place holds a matrix */
     TNB_SIZES_DIFFER = 13,       /* sizes differ */
     TNB_EXPONENT_OUTSIDE = 14,   /* a new factor, an answered minor or a nonzero carried item has an exponent outside -1000 to 1000 */
+    TNB_BAD_STAMPS = 15,         /* a time stamp is zero, is 2^32 or more, or does not exceed the one before it, or their count is not 1 to 8 */
     TNB_FOREIGN_SHELF = 255      /* the shelf handed over is not one that these calls can have made */
 };
 
@@ -55,7 +56,7 @@ typedef struct {
     uint64_t private_[1025];
 } tnb_shelf;
 
-/* What a call answers that may change the shelf: the bound of an operation (0 for a load or drop), and the shelf after the call. */
+/* What a call answers that may change the shelf: the bound of an operation or a build (0 for a load or drop), and the shelf after the call. */
 typedef struct {
     uint8_t number;
     uint32_t bound;
@@ -130,6 +131,12 @@ tnb_answer tnb_submatrix(tnb_shelf shelf, size_t source, uint8_t rows, uint8_t c
 
 /* The transpose of a place, to an empty place; no rounding, bound 0. Refusals 1, 11, 12. */
 tnb_answer tnb_transpose(tnb_shelf shelf, size_t source, size_t target);
+
+/* Fills an empty place from time stamps: with n of them, 1 to 8, the matrix whose row i holds the powers 0 to n - 1 of stamp i, as a polynomial through
+ * positions at those times needs it. Stamps are positive, strictly increasing and below 2^32; they go in as 64-bit numbers, so that a larger one is refused
+ * and not cut. The bound is 11: each factor is within 11 unit roundings of the exact one, and the exact ones multiply out to exactly that matrix. Exponents
+ * are always in range. Refusals 1, 12, 15. */
+tnb_answer tnb_build(tnb_shelf shelf, size_t target, const uint64_t *stamps, size_t count);
 
 /* A minor of a place. Refusals 1, 11, 8, 14. */
 tnb_value tnb_minor(tnb_shelf shelf, size_t place, uint8_t rows, uint8_t columns);

@@ -56,6 +56,27 @@ static tnb_shelf operations(tnb_shelf s)
     return s;
 }
 
+/* the stamps 1, 3, 7: factors worked by hand; a single stamp, the largest; and stamps that are turned down */
+static void building(tnb_shelf s)
+{
+    static const uint64_t stamps[] = {1, 3, 7}, largest[] = {4294967295u}, nine[] = {1, 2, 3, 4, 5, 6, 7, 8, 9};
+    static const uint64_t zero[] = {0, 1}, alike[] = {3, 3}, falling[] = {7, 3}, large[] = {1, 4294967296u}, cut[] = {1, 4294967299u};
+    const uint64_t one = 2147483648u, three = 3221225472u; /* mantissas of 1 and 2, of 3 and 24 */
+    tnb_shelf t = accepted(tnb_build(s, 7, stamps, 3), 11, "build");
+    want(tnb_rows(t, 7).length == 3, "build, rows");
+    want(factor(&t, 7, 1, 1, one, -31) && factor(&t, 7, 2, 2, one, -30) && factor(&t, 7, 3, 3, three, -27), "build, on the diagonal");
+    want(factor(&t, 7, 1, 2, one, -31) && factor(&t, 7, 1, 3, one, -31) && factor(&t, 7, 2, 3, three, -30), "build, above the diagonal");
+    want(factor(&t, 7, 2, 1, one, -31) && factor(&t, 7, 3, 1, one, -31) && factor(&t, 7, 3, 2, one, -30), "build, below the diagonal");
+    t = accepted(tnb_build(s, 7, largest, 1), 11, "build, one stamp");
+    want(tnb_rows(t, 7).length == 1 && factor(&t, 7, 1, 1, one, -31), "build, one stamp");
+    want(tnb_rows(accepted(tnb_build(s, 7, nine, 8), 11, "build, eight stamps"), 7).length == 8, "build, eight stamps");
+    want(tnb_build(s, 7, nine, 9).number == TNB_BAD_STAMPS && tnb_build(s, 7, NULL, 0).number == TNB_BAD_STAMPS, "build, nine stamps and none");
+    want(tnb_build(s, 7, zero, 2).number == TNB_BAD_STAMPS && tnb_build(s, 7, alike, 2).number == TNB_BAD_STAMPS, "build, zero and equal stamps");
+    want(tnb_build(s, 7, falling, 2).number == TNB_BAD_STAMPS && tnb_build(s, 7, large, 2).number == TNB_BAD_STAMPS, "build, falling and large stamps");
+    want(tnb_build(s, 7, cut, 2).number == TNB_BAD_STAMPS, "build, a stamp of more than 32 bits");
+    want(tnb_build(s, 8, zero, 2).number == TNB_PLACE_ABOVE_7 && tnb_build(s, 0, zero, 2).number == TNB_TARGET_FULL, "build, the place first");
+}
+
 static void reading(tnb_shelf s)
 {
     want(tnb_rows(s, 0).length == 2 && tnb_rows(s, 1).length == 3 && tnb_rows(s, 7).length == 0 && tnb_rows(s, 8).length == 0, "rows");
@@ -166,6 +187,7 @@ static void foreign(void)
     want(tnb_minor(s, 1, 1, 1).number == TNB_FOREIGN_SHELF && tnb_carry(s, 0, list, 6, out, 6).number == TNB_FOREIGN_SHELF, "foreign shelf");
     want(tnb_rows(s, 0).number == TNB_FOREIGN_SHELF && tnb_rows(s, 0).length == 0, "rows, foreign shelf");
     want(tnb_factor(s, 0, 1, 1).number == TNB_FOREIGN_SHELF && tnb_factor(s, 0, 1, 1).mantissa == 0, "factor, foreign shelf");
+    want(tnb_build(s, 0, NULL, 0).number == TNB_FOREIGN_SHELF, "build, foreign shelf");
 }
 
 int main(void)
@@ -176,6 +198,7 @@ int main(void)
     want(tnb_load(s, 2, two, 14).number == TNB_BYTES_BEHIND_MATRIX && tnb_load(s, 2, two, 14).offset == 13, "load, bytes behind");
     want(tnb_rest(two, 14) == 1 && tnb_rest(two, 5) == 5, "rest");
     s = operations(s);
+    building(s);
     reading(s);
     lists(s);
     working();

@@ -10,7 +10,7 @@ from collections import Counter
 from console_model import Console, parse
 from model import PLACES
 
-CHANGING = {"load", "drop", "product", "inverse", "converse", "transpose", "submatrix"}
+CHANGING = {"load", "build", "drop", "product", "inverse", "converse", "transpose", "submatrix"}
 SHOW_ALL_EVERY = 100
 SECONDS_PER_BATCH = 120
 
@@ -21,7 +21,7 @@ def touched(line):
     if request is None or request[0] not in CHANGING:
         return []
     call, words = request
-    named = words[:1] if call in ("load", "drop") else [words[0], words[-1]] if call == "submatrix" else words
+    named = words[:1] if call in ("load", "build", "drop") else [words[0], words[-1]] if call == "submatrix" else words
     return sorted({place for place in named if place < PLACES})
 
 

@@ -11,7 +11,7 @@ from encoding import Refusal
 from model import ONE_SOURCE, PLACES, WORKED, Shelf
 
 LONGEST_LINE = 4096
-MOST_PLACE, MOST_MASK, MOST_LENT, MOST_ITEMS = 2 ** 32 - 1, 255, 512, 16
+MOST_PLACE, MOST_MASK, MOST_LENT, MOST_STAMP, MOST_LISTED = 2 ** 32 - 1, 255, 512, 2 ** 64 - 1, 16
 LENT_BYTE, LENT_ITEM = "a5", (1, 2 ** 31, 0)
 BAD_REQUEST = "bad request"
 # The calls take an item as three whole numbers of 64 bits with a sign, so these are passed on.
@@ -23,11 +23,11 @@ WHOLE = re.compile(r"[0-9]+\Z")
 SIGNED = re.compile(r"-?[0-9]+\Z")
 HEX = re.compile(r"(?:[0-9a-f]{2})+\Z")
 
-# What follows each word of the console: P a place, M a mask, C a length to lend, B bytes, N one item, I any number of items.
+# What follows each word of the console: P a place, M a mask, C a length to lend, B bytes, N one item; at the end any number of items, I, or of stamps, S.
 FORMS = {
     "load": "PB", "write": "PC", "drop": "P", "product": "PPP", "inverse": "PP", "converse": "PP", "transpose": "PP",
     "submatrix": "PMMP", "minor": "PMM", "carry": "PCI", "reversals": "I", "rest": "B", "show": "P",
-    "add": "NN", "multiply": "NN", "divide": "NN",
+    "add": "NN", "multiply": "NN", "divide": "NN", "build": "PS",
 }
 
 
@@ -53,15 +53,17 @@ def item(text):
     return numbers if all(LEAST <= number <= LARGEST for number in numbers) else None
 
 
-def items(texts):
-    found = [item(text) for text in texts]
-    return None if None in found or len(found) > MOST_ITEMS else found
-
-
 READERS = {
     "P": lambda text: whole(text, MOST_PLACE), "M": lambda text: whole(text, MOST_MASK),
     "C": lambda text: whole(text, MOST_LENT), "B": data, "N": item,
 }
+# What reads each member of a list.
+LISTS = {"I": item, "S": lambda text: whole(text, MOST_STAMP)}
+
+
+def members(kind, texts):
+    found = [LISTS[kind](text) for text in texts]
+    return None if None in found or len(found) > MOST_LISTED else found
 
 
 def parse(line):
@@ -72,17 +74,17 @@ def parse(line):
     form = FORMS.get(call)
     if form is None:
         return None
-    fixed = len(form.rstrip("I"))
-    if len(texts) < fixed or (len(texts) > fixed and form[-1] != "I"):
+    kinds = form.rstrip("IS")
+    if len(texts) < len(kinds) or (len(texts) > len(kinds) and form == kinds):
         return None
-    arguments = [READERS[kind](text) for kind, text in zip(form.rstrip("I"), texts)]
-    if form[-1] == "I":
-        arguments.append(items(texts[fixed:]))
+    arguments = [READERS[kind](text) for kind, text in zip(kinds, texts)]
+    if form != kinds:
+        arguments.append(members(form[-1], texts[len(kinds):]))
     return None if None in arguments else (call, arguments)
 
 
 def doubtful(line):
-    """Leading zeros, plus signs, minus zero, and places that only some types hold."""
+    """Leading zeros, plus signs, minus zero, and places that only some types hold. A stamp has no sign."""
     call, *texts = line.split(" ")
     form = FORMS.get(call, "")
     for kind, text in zip(form.ljust(len(texts), form[-1:] or "?"), texts):
@@ -90,7 +92,7 @@ def doubtful(line):
             continue
         if kind == "P" and WHOLE.match(text) and MOST_PLACE < int(text) < BEYOND:
             return True
-        if any(re.match(r"[-+]?0[0-9]|\+|-0", part) for part in text.split(",")):
+        if any(re.match(r"0[0-9]" if kind == "S" else r"[-+]?0[0-9]|\+|-0", part) for part in text.split(",")):
             return True
     return False
 
@@ -140,6 +142,9 @@ class Console:
     def load(self, place, content):
         self.shelf.load(place, content)
         return "loaded"
+
+    def build(self, place, stamps):
+        return f"bound {self.shelf.build(place, stamps)}"
 
     def write(self, place, length):
         content = self.shelf.write(place, length)

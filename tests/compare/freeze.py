@@ -2,8 +2,9 @@
 """Writes a transcript of the console with the model's answers: stdin and stdout of crates/tnb_console, which the gate runs.
 
 freeze.py [--seed S] [--count N] [--check]: about N requests, the same for the same seed. It covers every call, each refusal of
-each call, every pair of refusals that a call can meet at once, each operation in all sizes, and every way that a sum, a product
-and a quotient can be rounded, or it fails. With --check nothing is written: the files are held to what would be.
+each call, every pair of refusals that a call can meet at once, each operation in all sizes, every number of stamps and every fault
+of them that can stand alone, and every way that a sum, a product and a quotient can be rounded, or it fails. With --check nothing
+is written: the files are held to what would be.
 """
 import argparse
 import os
@@ -14,7 +15,7 @@ from itertools import combinations, product
 
 import sweeps
 from comparison import Tally, batch
-from console_model import LARGEST, LEAST, MOST_ITEMS, MOST_PLACE, Console, call_words, doubtful, parse, text_of_bytes, text_of_items
+from console_model import LARGEST, LEAST, MOST_LISTED, MOST_PLACE, MOST_STAMP, Console, call_words, doubtful, parse, text_of_bytes, text_of_items
 from encoding import encode
 from garbage import ODD_LINES
 from model import ORDER, WORKED, conditions, pair_good
@@ -22,12 +23,14 @@ from number import HIGH, LOW, ONE
 from pairs import cases, every_case, pair
 from requests import Stream, stream
 from sources import far_apart, good_masks, spread_number, unit_items
+from stamp_lists import build_line, lone_faults, rising
+from stamps import MOST_STAMPS, stamp_faults
 from words import Matrix
 
 HERE = os.path.dirname(os.path.abspath(__file__))
 FOLDER = os.path.join(os.path.dirname(os.path.dirname(HERE)), "crates", "tnb_console")
 OPERATIONS = ("product", "inverse", "converse", "transpose", "submatrix")
-COUNT = 5500
+COUNT = 6300
 TWO, THREE = (LOW, -30), (LOW + (1 << 30), -30)
 
 
@@ -53,11 +56,11 @@ def marked():
 
 
 def tour(maker):
-    """Each size through every call."""
+    """Each size through every call, with loaded sources and with built ones."""
     rng = maker.rng
-    for n in range(1, 9):
+    for n, stamped in product(range(1, 9), (False, True)):
         for place in (0, 1):
-            yield load(place, n, [spread_number(rng, 2) for _ in range(n * n)])
+            yield build_line(place, rising(rng, n)) if stamped else load(place, n, [spread_number(rng, 2) for _ in range(n * n)])
         yield from ("product 0 1 2", "inverse 0 3", "converse 1 4", "transpose 0 5")
         rows, columns = good_masks(rng, n)
         yield from (f"submatrix 0 {rows} {columns} 6", f"submatrix 1 {2 ** n - 1} {2 ** n - 1} 7")
@@ -112,12 +115,25 @@ def rests(maker):
         yield f"{kind} {text_of_items(items)}"
 
 
+def builds(maker):
+    """Stamps from 1 on and stamps up to 2^32 - 1, as many as the console takes and one more; single ones; each way to draw them, each fault."""
+    counts = (*range(10), MOST_LISTED, MOST_LISTED + 1)
+    lists = [range(first, first + count) for count in counts for first in (1, HIGH - count)]
+    lists += [[stamp] for stamp in (0, LOW, HIGH, MOST_STAMP // 2, MOST_STAMP // 2 + 1, MOST_STAMP, MOST_STAMP + 1)]
+    for stamps in lists:
+        yield build_line(0, stamps)
+        if maker.shelf.places[0] is not None:
+            yield "drop 0"
+    yield from sweeps.every_kind_of_stamps(maker)
+    yield from sweeps.every_wrong_stamp(maker)
+
+
 def borders():
     """Places above 7, lists about the longest and about the most that a call takes, numbers of an item at the ends and one beyond."""
     yield from (f"show {place}" for place in (7, 8, MOST_PLACE))
     yield load(0, 2, [ONE] * 4)
     one = (1,) + ONE
-    lists = [[one] * count for count in (8, 9, MOST_ITEMS, MOST_ITEMS + 1)]
+    lists = [[one] * count for count in (8, 9, MOST_LISTED, MOST_LISTED + 1)]
     for place, number in product(range(3), (LEAST - 1, LEAST, -LOW, -1, LARGEST, LARGEST + 1)):
         lists.append([one, one[:place] + (number,) + one[place + 1:]])
     for listed in lists:
@@ -130,7 +146,7 @@ def borders():
 def lines(seed, shelf):
     maker = Stream(random.Random(f"frozen {seed}"), shelf)
     yield from marked()
-    for part in (tour, limits, sums, standstills, rests):
+    for part in (tour, limits, sums, standstills, rests, builds):
         yield from part(maker)
     yield from borders()
     yield from sweeps.every_order(maker)
@@ -161,6 +177,21 @@ def uncovered(asked):
     return [(kind, case) for kind in WORKED for case in sorted(every_case(kind) - met[kind])]
 
 
+def stamp_case(stamps, answer):
+    """What a build shows: so many stamps taken, or a fault that is refused by itself."""
+    faults = stamp_faults(stamps)
+    if answer.startswith("bound"):
+        return f"{len(stamps)} taken"
+    return faults[0] if answer.startswith("refused 15") and len(faults) == 1 else None
+
+
+def unbuilt(asked, wanted):
+    """The numbers of stamps that no build was accepted with, and the faults that none was refused for alone."""
+    requests = zip(map(parse, asked), wanted)
+    met = {stamp_case(request[1][1], answer) for request, answer in requests if request and request[0] == "build"}
+    return [case for case in (*(f"{count} taken" for count in range(1, MOST_STAMPS + 1)), *lone_faults()) if case not in met]
+
+
 def wanted_pairs():
     """The pairs of conditions that a call can meet at once. Faults in bytes come one at a time; 13 and 8 leave nothing to work."""
     alone = [{2, 3, 4, 5, 6, 7}, {13, 14}, {8, 14}, {9, 14}]
@@ -168,7 +199,7 @@ def wanted_pairs():
         for pair in combinations(order, 2):
             # A place above 7 holds nothing, and an empty source leaves nothing to be judged but the target.
             lone = call in ("write", "drop", "minor", "carry") and pair[0] in (1, 11)
-            hidden = pair[0] == 11 and set(pair[1:]) & {8, 9, 10, 13, 14} or (call, *pair) == ("load", 1, 12)
+            hidden = pair[0] == 11 and set(pair[1:]) & {8, 9, 10, 13, 14} or call in ("load", "build") and pair == (1, 12)
             if not lone and not hidden and not any(set(pair) <= group for group in alone):
                 yield (call,) + pair
 
@@ -183,6 +214,7 @@ def missing(asked, wanted, tally):
         if len(bounds) < (1 if call == "transpose" else 8):
             yield f"{call} in all sizes"
     yield from (f"{call}, {case}" for call, case in uncovered(asked))
+    yield from (f"build, {case}" for case in unbuilt(asked, wanted))
     pairs = together(asked)
     yield from (f"{call} {first} with {second}" for call, first, second in wanted_pairs() if not pairs[call, first, second])
 

@@ -9,6 +9,7 @@ SAMPLES = (
     "minor 0 1 1", "carry 0 2 1,2147483648,-31 -1,2147483648,-31", "reversals 1,2147483648,0 0,0,0", "rest 01ca0700ff", "show 0",
     "carry 1 4", "load 0 -", "rest -", "reversals -9223372036854775808,9223372036854775807,-9223372036854775807",
     "add 1,2147483648,-31 1,2147483649,-63", "multiply 1,4294967295,0 1,4294967295,1000", "divide 1,2147483648,-31 1,3221225472,-30",
+    "build 3 1 3 7", "build 6 4294967290 4294967295", "build 1 18446744073709551615",
 )
 ODD_LINES = (
     "", " ", "-", "0", "load", "load 0", "load 0 ", "load 0  -", "load 0 0", "load 0 0G", "load 0 CA", "load 0 ca0", "load 0 - -",
@@ -30,6 +31,14 @@ ODD_LINES = (
     "divide", "divide 1 3", "divide 1,2147483648,0 1,2147483648,0 0", "divide 1,2147483648,0 1,2147483648,-9223372036854775809",
     "divide 0,0,0 1,2147483648,0", "divide 1,2147483648,0 0,0,0", "divide 1,2147483648,0 -1,2147483648,0", "number 2147483648 -31 rest 0 0",
     "divide 1,2147483648,0 1,2147483648,-9223372036854775808", "add 0 1,2147483648,0 1,2147483648,0", "multiply 4294967297,2147483648,0 1,2147483648,0",
+    "build", "build ", "build 3", "build 3 ", "build  3 1", "build 3  1", "build 3 1 3 7 ", "build - 1", "build -1 1", "build x 1", "Build 3 1 3",
+    "built 3 1 3", "build 3 -", "build 3 -1", "build 3 -0", "build 3 +1", "build 3 1 -3", "build 3 1 x", "build 3 1,3,7", "build 3 1.0", "build 3 1e3",
+    "build 3 0x1", "build 3 1_0", "build 3 1\t3", "build 3 1 3\r", "build 3 1 \xb2", "build 3 1 3\x00", "build 3 18446744073709551615",
+    "build 3 18446744073709551616", "build 3 1 18446744073709551619 7", "build 3 1 3 18446744073709551616", "build 9 18446744073709551616",
+    "build 3 -18446744073709551615", "build 3 1 " + "3" * 30, "build 3 " + "9" * 4088, "build 3 " + "9" * 4089, "build " + "9" * 30 + " 1 3 7",
+    "build 8 1 3 7", "build 8 0", "build 256 1 3 7", "build 65536 1 3 7", "build 4294967295 1 3 7", "build 3 1 2 3 4 5 6 7 8",
+    "build 3 " + " ".join(map(str, range(1, 17))), "build 3 " + " ".join(map(str, range(1, 18))), "build 3" + " 0" * 16, "build 3" + " 0" * 17,
+    "build 8" + " 1" * 17,
     "show " + "9" * 30, "drop " + "1" * 4000, "write 0 " + "8" * 40, "minor 0 " + "1" * 30 + " 1", "quit", "help", "exit 0", "#",
     "bound 11", "refused 1 at 0", "\x00", "show 0\x00", "\xff\xfe", "show \xb2", "sh\xf6w 0", "reversals " + " ".join(["0,0,0"] * 17),
     "reversals " + " ".join(["0,0,0"] * 16), "carry 0 2 " + " ".join(["1,2147483648,0"] * 16),

@@ -1,4 +1,4 @@
-"""Document 01, with what document 02 adds to it, as a program: the shelf and its calls, over number.py, words.py, exact.py and encoding.py.
+"""Document 01, with what document 02 adds to it, as a program: the shelf and its calls, over number.py, words.py, stamps.py and encoding.py.
 
 Shelf: places 0 to 7. Each call returns its answer or raises Refusal with the number and the offset, in document 01's
 order of tests, and then the shelf is as before. conditions: every condition of the two tables that holds for a call.
@@ -6,6 +6,7 @@ shown: what the program of "Shown in full" prints.
 """
 from encoding import Refusal, encode, read_single, rest
 from number import HIGH, ITEM_ZERO, LOW, stored, worked
+from stamps import BUILT_BOUND, built, stamp_faults, stamps_good
 from words import bound, carry, count, interval, minor, operate, reversals, transpose
 
 PLACES = 8
@@ -13,7 +14,7 @@ ONE_SOURCE = ("inverse", "converse", "transpose")
 WORKED = ("add", "multiply", "divide")
 # The tests of each call, in order. A load reads its bytes (2 to 7) from the left, last.
 ORDER = {
-    "load": (1, 12, 2, 3, 4, 5, 6, 7), "write": (1, 11, 10), "drop": (1, 11),
+    "load": (1, 12, 2, 3, 4, 5, 6, 7), "build": (1, 12, 15), "write": (1, 11, 10), "drop": (1, 11),
     "product": (1, 11, 12, 13, 14), "inverse": (1, 11, 12, 14), "converse": (1, 11, 12, 14), "transpose": (1, 11, 12),
     "submatrix": (1, 11, 12, 8, 14), "minor": (1, 11, 8, 14), "carry": (1, 11, 9, 14, 10), "reversals": (9,), "rest": (),
     "add": (9,), "multiply": (9,), "divide": (9,),
@@ -69,6 +70,13 @@ class Shelf:
         self.known(place)
         self.free(place)
         self.places[place] = read_single(data)
+
+    def build(self, place, stamps):
+        self.known(place)
+        self.free(place)
+        if not stamps_good(stamps):
+            raise Refusal(15)
+        return self.keep(place, built(stamps), BUILT_BOUND)
 
     def write(self, place, length):
         self.known(place)
@@ -148,7 +156,7 @@ class Shelf:
 
 def places_named(call, words):
     """The sources and the target (or None) that a call names."""
-    if call == "load":
+    if call in ("load", "build"):
         return [], words[0]
     if call in ("write", "drop", "minor", "carry"):
         return [words[0]], None
@@ -174,6 +182,9 @@ def conditions(shelf, call, words):
             read_single(words[1])
         except Refusal as fault:
             found.add(fault.number)
+    elif call == "build":
+        if stamp_faults(words[1]):
+            found.add(15)
     elif call == "reversals":
         if not 1 <= len(words[0]) <= 8 or not all(map(item_good, words[0])):
             found.add(9)

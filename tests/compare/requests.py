@@ -12,6 +12,7 @@ from garbage import garbled
 from model import ONE_SOURCE, PLACES, WORKED
 from pairs import pair, spoiled
 from sources import aimed, faulty, good_masks, listed, masks, matrix, odd_item, overflowing, random_item, still_or_moving
+from stamp_lists import build_line, rising, spoiled as spoiled_stamps, unread as unread_stamps
 from words import reversals
 
 SIZE_WEIGHTS = (12, 20, 20, 16, 11, 8, 6, 6)
@@ -207,6 +208,34 @@ class Stream:
                 items = rng.choice(([], items[:1], items + items[:1], items * 8, items * 8 + items[:1]))
             yield f"{kind} {text_of_items(items)}" if items else kind
 
+    def build(self):
+        """A matrix from stamps, put to use."""
+        yield from self.make_room(2)
+        place = self.rng.choice(self.free())
+        yield build_line(place, rising(self.rng))
+        for _ in range(self.rng.choice((0, 0, 1, 1, 2, 3))):
+            yield from self.make_room(kept=place)
+            yield self.use(place)
+
+    def use(self, place):
+        """A request about a place, an operation the rarer the larger the matrix is."""
+        rng, source = self.rng, self.shelf.places[place]
+        if rng.random() < 0.6 * COST_WEIGHTS[source.n - 1]:
+            return self.operation(rng.choice(("product", "submatrix") + ONE_SOURCE), place, rng.choice(self.free()))
+        rows, columns = good_masks(rng, source.n)
+        return rng.choice((f"minor {place} {rows} {columns}", f"write {place} {self.lent(len(encode(source)), 512)}",
+                           f"carry {place} {source.n} {text_of_items(listed(rng, source))}", f"transpose {place} {rng.choice(self.free())}"))
+
+    def wrong_stamps(self):
+        """Builds to an empty place, so that only the stamps are wrong, or the way they are written."""
+        yield from self.make_room()
+        for _ in range(self.rng.randint(1, 4)):
+            yield build_line(self.rng.choice(self.free()), (spoiled_stamps if self.rng.random() < 0.75 else unread_stamps)(self.rng))
+
+    def build_anywhere(self):
+        """Builds that may meet a place above 7 or one that is full before a fault in the stamps."""
+        yield build_line(self.any_place(), spoiled_stamps(self.rng) if self.rng.random() < 0.6 else rising(self.rng))
+
     def bytes_judged(self, data):
         """A load, undone if it is accepted, and the same bytes as a bundle."""
         target = self.rng.choice(self.free())
@@ -254,7 +283,8 @@ SCENARIOS = (
     (Stream.fill, 30), (Stream.operate, 80), (Stream.chain, 14), (Stream.edge, 24), (Stream.faults, 60), (Stream.drop, 14),
     (Stream.minor, 14), (sweeps.every_minor, 0.1), (Stream.write, 12), (sweeps.every_length, 0.5), (Stream.carry, 25),
     (Stream.counted_carry, 8), (Stream.no_items, 1), (Stream.reversals, 4), (Stream.standstills, 4), (Stream.work, 40), (Stream.byte_faults, 12),
-    (Stream.load_anywhere, 12), (Stream.random_bytes, 4), (Stream.bundle, 4), (Stream.garbage, 12),
+    (Stream.load_anywhere, 12), (Stream.random_bytes, 4), (Stream.bundle, 4), (Stream.garbage, 12), (Stream.build, 28),
+    (Stream.wrong_stamps, 12), (Stream.build_anywhere, 8), (sweeps.every_wrong_stamp, 0.1), (sweeps.every_kind_of_stamps, 0.1),
     (sweeps.every_cut, 0.3), (sweeps.every_flip, 0.1), (sweeps.every_order, 0.1), (sweeps.every_gap, 0.1), (sweeps.every_distance, 0.1),
     (sweeps.every_pair, 0.1),
 )

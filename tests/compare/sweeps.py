@@ -1,4 +1,4 @@
-"""Scenarios that go through every case of something: sets, lengths, cuts, flipped bits, distances, ends of ranges, orders of tests.
+"""Scenarios that go through every case of something: sets, lengths, cuts, flipped bits, distances, ends of ranges, stamps, orders of tests.
 
 Each takes a requests.Stream and gives lines as its scenarios do.
 """
@@ -10,6 +10,8 @@ from model import ONE_SOURCE, PLACES, WORKED
 from number import HIGH, ITEM_ZERO, LOW, ONE
 from pairs import GAPS, pair
 from sources import EDGE, mantissa, matrix
+from stamp_lists import DRAWS, build_line, each_fault
+from stamps import MOST_STAMPS
 from words import Matrix
 
 BEYOND = 9
@@ -20,6 +22,8 @@ BYTES = (
     "01ca078080808010", "01ca070000", "8080808080", "8080808000", "018080808000", "01ca078080808000",
     "01ca07ffffffff07", "01d10f00", "010100",
 )
+# Two that are taken, and one with each fault.
+STAMPS = ([1, 3, 7], [HIGH - 1], [], [0], [1, 1], [3, 2], [1, HIGH], [1, HIGH + 2], [1, 2 ** 64 - 1], list(range(1, 10)))
 
 
 def every_minor(stream):
@@ -94,6 +98,23 @@ def every_pair(stream):
         yield from (kind + f" {text_of_items([one])}" * count for count in (0, 1, 3))
 
 
+def every_wrong_stamp(stream):
+    """Each fault of a list of stamps, for an empty place."""
+    yield from stream.make_room()
+    place = stream.rng.choice(stream.free())
+    yield from (build_line(place, stamps) for stamps in each_fault(stream.rng))
+
+
+def every_kind_of_stamps(stream):
+    """Each number of stamps drawn in a few ways, eight of them in every way."""
+    yield from stream.make_room()
+    place = stream.rng.choice(stream.free())
+    for count in range(1, MOST_STAMPS + 1):
+        for draw in dict.fromkeys(DRAWS if count == MOST_STAMPS else stream.rng.sample(DRAWS, 3)):
+            yield build_line(place, draw(stream.rng, count))
+            yield f"drop {place}"
+
+
 def every_order(stream):
     """Each call with arguments good and bad in every combination, so that each test meets each later one."""
     for place in stream.full():
@@ -107,8 +128,10 @@ def every_order(stream):
         yield line
         if stream.shelf.places[target] is not None:
             yield f"drop {target}"
-    for place, text in product(targets, BYTES):
-        yield f"load {place} {text}"
+    filling = [f"load {place} {text}" for place, text in product(targets, BYTES)]
+    filling += [build_line(place, stamps) for place, stamps in product(targets, STAMPS)]
+    for line in filling:
+        yield line
         if stream.shelf.places[target] is not None:
             yield f"drop {target}"
     yield f"drop {hollow}"

@@ -8,7 +8,7 @@ use Rattle.fraction.specs.Arithmetic.{Arithmetic}
 use Rattle.fraction.specs.Fraction.{Fraction, Same, fractionProduct, exact}
 use Rattle.fraction.specs.Ring.{arithmetic}
 use Rattle.fraction.specs.Rational.{rationals, rationals-ordered, rational}
-use Rattle.fraction.proofs.Fraction.{product-positive}
+use Rattle.fraction.proofs.Fraction.{product-positive, quotient-positive}
 use Rattle.fraction.proofs.Rational.{same-rational, rational-zero, rational-one, rational-sum, rational-product, rational-quotient, positive-rational}
 use Rattle.words.specs.RowSet.{RowSet, count}
 use Rattle.words.specs.Word.{Factors}
@@ -27,14 +27,24 @@ use Rattle.factors.specs.Demand.{Proper, AboveZero, multipliedOut}
 use Rattle.factors.proofs.Result.{multiplied-equal, operationMatrix, asked-positive, result-positive, result-multiplied, result-unique}
 
 -- the rational numbers' arithmetic
-abbrev ℚ : Arithmetic
+abbrev pub ℚ : Arithmetic
 ℚ = arithmetic rationals rationals-ordered
 
+-- a fraction stands for a rational number, and is above zero
 abbrev Stands : Fraction → rationals .R → Type 0
 Stands x y = rational x ≡ y
 
-abbrev StandsAbove : Fraction → rationals .R → Type 0
+abbrev pub StandsAbove : Fraction → rationals .R → Type 0
 StandsAbove x y = Stands x y × (0 < x .top)
+
+pub stands-product : {a a′ : Fraction} {b b′ : rationals .R} → StandsAbove a b → StandsAbove a′ b′ → StandsAbove (exact .mul a a′) (ℚ .mul b b′)
+stands-product {a} {a′} p q = (rational-product a a′ ∙ ap₂ (rationals .mul) (p .0) (q .0), product-positive a a′ (p .1) (q .1))
+
+pub stands-quotient : {a a′ : Fraction} {b b′ : rationals .R} → StandsAbove a b → StandsAbove a′ b′ → StandsAbove (exact .div a a′) (ℚ .div b b′)
+stands-quotient {a} {a′} p q = (
+  rational-quotient a a′ (q .1) ∙ ap₂ (λ u v. rationals .mul u (rationals-ordered .inv v)) (p .0) (q .0),
+  quotient-positive a a′ (p .1) (q .1),
+)
 
 -- a fraction stands for a rational number through every sum, product and quotient
 abbrev rational-related : Related exact ℚ (Unit {0}) (λ g x y. Stands x y)
@@ -102,12 +112,8 @@ module _ (n : ℕ) where
     result-rational i j x y =
         subst (λ m. rational (newFactor exact k (justBefore k) (askedMinor exact n o) i j) ≡ newFactor ℚ m (justBefore m) (askedMinor ℚ n q) i j) (sym same)
         (newFactor-related exact ℚ k StandsAbove StandsAbove Stands
-        (λ a a′ b b′ p q. (rational-product a a′ ∙ ap₂ (rationals .mul) (p .0) (q .0), product-positive a a′ (p .1) (q .1)))
-        quotients quotients
+        (λ a a′ b b′ p q. stands-product p q) (λ a a′ b b′ p q. stands-quotient p q .0) (λ a a′ b b′ p q. stands-quotient p q .0)
         _ _ (λ I J i j e. (asked-rational I J i, exact-asked-positive I J i j e)) i j (x .0) (x .1) (y .0) (y .1))
-      where
-        quotients : (a a′ : Fraction) (b b′ : rationals .R) → StandsAbove a b → StandsAbove a′ b′ → Stands (exact .div a a′) (ℚ .div b b′)
-        quotients a a′ b b′ p q = rational-quotient a a′ (q .1) ∙ ap₂ (λ u v. rationals .mul u (rationals-ordered .inv v)) (p .0) (q .0)
 
     -- POSITIVE
     pub exact-positive : Each AboveZero (size n o) (result exact n o)

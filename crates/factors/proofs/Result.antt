@@ -10,12 +10,10 @@ use lib.ListN.{length}
 use Rattle.fraction.specs.Ring.{CRing, Ordered, arithmetic}
 use Rattle.words.specs.RowSet.{RowSet, count, among}
 use Rattle.words.specs.Word.{Factors, Letter, E, Et, D, Dinv, Word, word}
-use Rattle.words.specs.Walk.{minor}
 use Rattle.words.specs.Formula.{justBefore, newFactor}
 use Rattle.words.specs.Operation.{Operation, joined, submatrix, joinedWord, steps, rowsOf, columnsOf, size, Fit, askedMinor, result}
 use Rattle.words.proofs.RowSets.{length-rows}
 use Rattle.words.proofs.Chosen.{length-among}
-use Rattle.words.proofs.Walks.{Rows, All}
 use Rattle.words.proofs.Stages.{word-rows}
 use Rattle.words.proofs.Steps.{joined-rows}
 use Rattle.words.proofs.Formulas.{newFactor-equal}
@@ -24,9 +22,9 @@ use Rattle.words.proofs.Related.{Matched, Letters}
 use Rattle.words.proofs.Alike.{letters-word}
 use Rattle.minors.specs.Matrix.{In, Matrix, Equal, submatrixOf, letterMatrix, wordMatrix, multiplied, Positive}
 use Rattle.minors.proofs.Products.{times-equal}
-use Rattle.minors.proofs.Determinant.{determinant, matrixOf, minor-determinant, determinant-equal, determinant-among}
+use Rattle.minors.proofs.Determinant.{determinant, determinant-among}
 use Rattle.minors.proofs.Determined.{initial}
-use Rattle.minors.proofs.Multiply.{wordMatrix-carried}
+use Rattle.minors.proofs.Multiply.{word-determinant}
 use Rattle.minors.proofs.Positive.{PositiveSteps, joined-positive}
 use Rattle.minors.proofs.Factors.{factors-positive, factors-multiplied, factors-unique, initial-counts}
 
@@ -58,19 +56,12 @@ module _ (K : CRing) (O : Ordered K) where
   operationMatrix n (joined L) = wordMatrix K O n (joinedWord n L)
   operationMatrix n (submatrix b P Q) = submatrixOf K P Q (multiplied K O n b)
 
-  -- the minors of a word are the determinants of its matrix
-  word-determinant : (n : ℕ) (W : Word R) → All (Rows n) W → (I J : RowSet) → length I ≡ n → length J ≡ n
-      → minor (arithmetic K O) W I J ≡ determinant K (wordMatrix K O n W) I J
-  word-determinant n W h I J i j =
-      minor-determinant K O n W h I J i j
-      ∙ determinant-equal K n (matrixOf K O W) (wordMatrix K O n W) (λ r c x y. sym (wordMatrix-carried K O n W h r c x y)) I J i j
-
   asked-determinant : (n : ℕ) (o : Operation R) → Fit n o → (I J : RowSet) → length I ≡ size n o → length J ≡ size n o
       → askedMinor (arithmetic K O) n o I J ≡ determinant K (operationMatrix n o) I J
   unfolding joinedWord
-  asked-determinant n (joined L) f I J i j = word-determinant n (joinedWord n L) (joined-rows n L) I J i j
+  asked-determinant n (joined L) f I J i j = word-determinant K O n (joinedWord n L) (joined-rows n L) I J i j
   asked-determinant n (submatrix b P Q) f I J i j =
-      word-determinant n (word n b) (word-rows n b) (among P I) (among Q J) (length-among P I i ∙ f .0) (length-among Q J (j ∙ sym (f .2)) ∙ f .1)
+      word-determinant K O n (word n b) (word-rows n b) (among P I) (among Q J) (length-among P I i ∙ f .0) (length-among Q J (j ∙ sym (f .2)) ∙ f .1)
       ∙ determinant-among K (multiplied K O n b) P Q I J i (j ∙ sym (f .2))
 
   -- OPERATIONS ON POSITIVE SOURCES

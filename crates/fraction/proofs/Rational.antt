@@ -1,10 +1,10 @@
 -- Document 01's fractions among the rational numbers: `rational` takes the same fractions, and only these, to one number (`rational-same`, `same-rational`),
--- keeps zero, one, sum, product and quotient, and takes those above zero to positive numbers (`positive-rational`).
+-- keeps zero, one, sum, product, quotient and a difference of whole numbers, and takes those above zero to positive numbers (`positive-rational`).
 use mathlib.Core.Path.{_≡_, refl, sym, _∙_}
 use mathlib.Core.Logic.{_↔_}
 use mathlib.Core.Quot.{Quot·mk, Quot·sound}
 use mathlib.Mathlib.Data.Quot.{Equivalence·quot-mk-eq-iff}
-use Prim.Native.Nat.{ℕ, zero, suc, _<_}
+use Prim.Native.Nat.{ℕ, zero, suc, _-_, _≤_, _<_}
 use native.Mathlib.Nat.{ℕ-set}
 use native.Mathlib.Omega.{arith}
 use Rattle.fraction.specs.Fraction.{Fraction, Same, natural, fractionSum, fractionProduct, fractionQuotient}
@@ -36,6 +36,9 @@ rational-sum x y = Quot·sound (omega arith)
 
 pub rational-product : (x y : Fraction) → rational (fractionProduct x y) ≡ rationals .mul (rational x) (rational y)
 rational-product x y = Quot·sound (omega arith)
+
+pub rational-difference : (a b : ℕ) → b ≤ a → rational (natural (a - b)) ≡ rationals .add (rational (natural a)) (rationals .neg (rational (natural b)))
+rational-difference a b h = Quot·sound (omega arith)
 
 pub positive-rational : (x : Fraction) → 0 < x .top ↔ rationals-ordered .Pos (rational x)
 positive-rational x = (λ p. p, λ p. p)

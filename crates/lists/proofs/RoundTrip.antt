@@ -1,6 +1,6 @@
 -- What a carry writes reads back (`carry-back`): carried items of which none is outside are zero or stored (`carried-formed`).
 use mathlib.Core.Path.{_≡_, refl, sym, ap, ap₂, _∙_, subst}
-use mathlib.Core.Bool.{Bool, true, false, not, _&&_, _||_, true≢false}
+use mathlib.Core.Bool.{Bool, false, not, _&&_}
 use mathlib.Core.List.{List, [], _∷_}
 use mathlib.Core.Logic.{inl, inr}
 use mathlib.Core.Option.{some}
@@ -18,6 +18,7 @@ use Rattle.number.specs.Number.{Stored, inRange}
 use Rattle.number.specs.Signed.{zeroSigned, SignedRanged}
 use Rattle.number.specs.declared.Number.{Number}
 use Rattle.number.specs.declared.signed.Signed.{Signed}
+use Rattle.number.proofs.Tests.{neither}
 use Rattle.number.proofs.Reach.{in-range-stored}
 use Rattle.words.specs.Word.{Factors}
 use Rattle.words.specs.Sources.{Each}
@@ -40,10 +41,6 @@ formed-item a u h = go (a .size .m) refl
     go (suc m) e =
         let f : not (inRange (a .size)) ≡ false = sym (ap (λ (t : Bool). not t && not (inRange (a .size))) (ne-eqb (a .size .m) 0 (λ z. omega arith))) ∙ h in
         inr (in-range-stored (u .size) (omega arith) (not-false (inRange (a .size)) f))
-
-neither : (s t : Bool) → (s || t) ≡ false → (s ≡ false) × (t ≡ false)
-neither true t e = absurd (true≢false e)
-neither false t e = (refl, e)
 
 formed-list : {r : ℕ} (L : List Signed) → ((k : ℕ) → k < length L → SignedRanged r (getD L k zeroSigned)) → anyOutside L ≡ false → AllFormed L
 unfolding anyOutside

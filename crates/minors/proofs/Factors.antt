@@ -1,5 +1,6 @@
 -- THE FACTOR THEOREM. A matrix with positive initial minors is what its new factors multiply out to (factors-multiplied), these are positive
--- (factors-positive), and no other positive factors multiply out to it (factors-unique).
+-- (factors-positive), and no other positive factors multiply out to it (factors-unique). Positive factors that multiply out to one matrix are the same
+-- (factors-same), whatever that matrix.
 use mathlib.Core.Path.{_≡_, sym, ap, ap₂, _∙_, subst, subst₂}
 use Prim.Native.Nat.{ℕ, zero, suc, _≤_, _-_, min, _+_ as _+ℕ_}
 use native.Mathlib.Decide.{decLe}
@@ -19,7 +20,7 @@ use Rattle.minors.specs.Matrix.{Matrix, Equal, multiplied, Positive}
 use Rattle.minors.proofs.Determinant.{determinant, matrixOf, minor-determinant, determinant-equal, determinant-empty}
 use Rattle.minors.proofs.Determined.{initial, initial-determined}
 use Rattle.minors.proofs.Recovery.{diagonalProduct, blockProduct, recovery-below, recovery-above}
-use Rattle.minors.proofs.Multiply.{wordMatrix-carried}
+use Rattle.minors.proofs.Multiply.{wordMatrix-carried, word-determinant}
 use Rattle.minors.proofs.Ratios.{ratioOf, lower, upper, factor-below, factor-above, ratio-pos, block-solves, block-ratios}
 
 -- what holds below the diagonal, on it and above it holds everywhere
@@ -117,6 +118,20 @@ module _ (K : CRing) (O : Ordered K) where
           ∙ ratio-equal n _ (blockProduct K (exchanged b)) (λ r j l. recovery-above K O n b r j l) (suc r) t h
           ∙ block-ratios K O n (exchanged b) (λ r t l. block-positive n (exchanged b) (λ i j x y. p j i y x) r (suc t) l) (suc r) t h
 
+  -- so positive factors are given by the matrix that they multiply out to
+  multiplied-minors : (n : ℕ) (c : Factors R) (M : Matrix K) → Equal K n (multiplied K O n c) M → (I J : RowSet) → length I ≡ n → length J ≡ n
+      → minor F (word n c) I J ≡ determinant K M I J
+  multiplied-minors n c M e I J u v =
+      word-determinant K O n (word n c) (word-rows n c) I J u v ∙ determinant-equal K n (multiplied K O n c) M e I J u v
+
+  pub factors-same : (n : ℕ) (b c : Factors R) → Positive K O n b → Positive K O n c → Equal K n (multiplied K O n b) (multiplied K O n c)
+      → (i j : ℕ) → In n i → In n j → b i j ≡ c i j
+  factors-same n b c p q e i j x y =
+      sym (factors-recovered n b p i j x y)
+      ∙ newFactor-equal F n (minor F (word n b)) (minor F (word n c))
+      (λ I J u v w. multiplied-minors n b _ e I J u v ∙ sym (word-determinant K O n (word n c) (word-rows n c) I J u v)) i j x y
+      ∙ factors-recovered n c q i j x y
+
   module _ (n : ℕ) (M : Matrix K) (positive : (i j : ℕ) → In n i → In n j → Pos (initial K n M i j)) where
     abbrev f : Factors R
     f = newFactor F n (justBefore n) (determinant K M)
@@ -179,10 +194,4 @@ module _ (K : CRing) (O : Ordered K) where
     pub factors-unique : (c : Factors R) → Positive K O n c → Equal K n (multiplied K O n c) M → (i j : ℕ) → In n i → In n j → c i j ≡ f i j
     factors-unique c p e i j x y =
         sym (factors-recovered n c p i j x y)
-        ∙ newFactor-equal F n (minor F (word n c)) (determinant K M) same i j x y
-      where
-        same : (I J : RowSet) → length I ≡ n → length J ≡ n → count I ≡ count J → minor F (word n c) I J ≡ determinant K M I J
-        same I J u v w =
-            minor-determinant K O n (word n c) (word-rows n c) I J u v
-            ∙ determinant-equal K n (matrixOf K O (word n c)) M
-            (λ i j x y. sym (wordMatrix-carried K O n (word n c) (word-rows n c) i j x y) ∙ e i j x y) I J u v
+        ∙ newFactor-equal F n (minor F (word n c)) (determinant K M) (λ I J u v w. multiplied-minors n c M e I J u v) i j x y

@@ -1,15 +1,18 @@
 -- The letters of a word multiplied as matrices give the matrix that the word carries the unit vectors to (wordMatrix-carried), and joined steps multiply
 -- (joined-multiplied). The converse's word gives the matrix read backwards (wordMatrix-converse), exchanged factors its transpose (multiplied-exchanged).
-use mathlib.Core.Path.{refl, sym, ap, _∙_}
+-- The minors of a word are the determinants of its matrix (word-determinant).
+use mathlib.Core.Path.{_≡_, refl, sym, ap, _∙_}
 use mathlib.Core.List.{List, [], _∷_}
 use Prim.Native.Nat.{ℕ, _+_ as _+ℕ_, _-_}
-use Rattle.fraction.specs.Ring.{CRing, Ordered}
+use lib.ListN.{length}
+use Rattle.fraction.specs.Ring.{CRing, Ordered, arithmetic}
+use Rattle.words.specs.RowSet.{RowSet}
 use Rattle.words.specs.Word.{Factors, Word, word, converseWord, exchanged}
-use Rattle.words.specs.Walk.{carry}
+use Rattle.words.specs.Walk.{minor, carry}
 use Rattle.words.specs.Operation.{Step, stepWord, joinedWord}
 use Rattle.words.proofs.Walks.{Rows, All}
 use Rattle.minors.specs.Matrix.{Equal, times, letterMatrix, wordMatrix, multiplied}
-use Rattle.minors.proofs.Determinant.{matrixOf}
+use Rattle.minors.proofs.Determinant.{determinant, matrixOf, minor-determinant, determinant-equal}
 use Rattle.minors.proofs.Transpose.{transposedLetter, transposedWord, transposed-word}
 use Rattle.minors.proofs.Sums.{sum-equal}
 use Rattle.minors.proofs.Products.{identity-symmetric, times-equal, times-identity, times-transposed, times-reversed, wordMatrix-append}
@@ -25,6 +28,12 @@ module _ (K : CRing) (O : Ordered K) where
   wordMatrix-carried n (l ∷ W) h i j x y =
       sum-equal K n _ _ (λ k z. ap (λ m. letterMatrix K O l i k * m) (wordMatrix-carried n W (h .1) k j z y))
       ∙ letter-carry K O n l (h .0) (λ k. matrixOf K O W k j) i x
+
+  pub word-determinant : (n : ℕ) (W : Word R) → All (Rows n) W → (I J : RowSet) → length I ≡ n → length J ≡ n
+      → minor (arithmetic K O) W I J ≡ determinant K (wordMatrix K O n W) I J
+  word-determinant n W h I J i j =
+      minor-determinant K O n W h I J i j
+      ∙ determinant-equal K n (matrixOf K O W) (wordMatrix K O n W) (λ r c x y. sym (wordMatrix-carried n W h r c x y)) I J i j
 
   -- of two steps or more: the first step's matrix times the others'
   pub joined-multiplied : (n : ℕ) (s t : Step R) (L : List (Step R))

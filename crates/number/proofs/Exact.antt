@@ -22,7 +22,7 @@ module _ (n z j : ℕ) (c : z + suc j ≡ 64) (lo : 2 ^ j ≤ n) (hi : n < 2 ^ s
       let p : 2 ^ j ≡ 2 ^ 31 * 2 ^ (32 - z) = ap (λ (i : ℕ). 2 ^ i) e ∙ pow-add 2 31 (32 - z) in
       omega arith
 
-  short : 32 ≤ z → (2 ^ 31 ≤ n * 2 ^ (z - 32)) × (n * 2 ^ (z - 32) < 2 ^ 32)
+  pub short : 32 ≤ z → (2 ^ 31 ≤ n * 2 ^ (z - 32)) × (n * 2 ^ (z - 32) < 2 ^ 32)
   short h =
       let e : j + (z - 32) ≡ 31 = omega arith in
       let p : 2 ^ j * 2 ^ (z - 32) ≡ 2 ^ 31 = sym (pow-add 2 j (z - 32)) ∙ ap (λ (i : ℕ). 2 ^ i) e in

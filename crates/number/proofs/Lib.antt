@@ -11,6 +11,7 @@ pub mod Reach
 pub mod SignedReach
 pub mod Value
 pub mod Error
+pub mod Naturals
 pub mod Candidates
 pub mod Nearest
 pub mod Toward

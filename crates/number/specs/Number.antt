@@ -74,6 +74,10 @@ quotientOf = quotientBy Nearest
 abbrev pub rounded : Arithmetic
 rounded = roundedBy Nearest
 
+-- a natural number, exactly where it has at most 32 digits
+abbrev pub naturalNumber : ℕ → Number
+naturalNumber n = round n 1 bias
+
 -- the exponent e, which is kept as x = e + bias
 abbrev pub unbiased : ℕ → ℤ
 unbiased x = subℕ x bias

@@ -5,7 +5,7 @@ ghost use mathlib.Core.Path.{_≡_};
 ghost use mathlib.Core.Bool.{false, cond};
 ghost use Prim.Native.Nat.{_+_, _-_, _*_, _^_, _≤_, _<_, min};
 ghost use Rattle.fraction.specs.Fraction.{fractionSum, fractionProduct, fractionQuotient};
-ghost use Rattle.number.specs.Number.{zeroNumber, oneNumber, unbiased, round, roundBy, sumOf, productOf, sumBy, productBy, quotientBy};
+ghost use Rattle.number.specs.Number.{zeroNumber, oneNumber, naturalNumber, unbiased, round, roundBy, sumOf, productOf, sumBy, productBy, quotientBy};
 ghost use Rattle.number.specs.Number.{value, Ranged, reach, exponentOf, inRange, FullDigits};
 ghost use Rattle.number.specs.Toward.{Directed};
 ghost use Rattle.number.specs.Division.{shiftOf, roundedQuotient, Divided};
@@ -137,6 +137,14 @@ impl Number {
             m: 0x8000_0000,
             x: BIAS - 31,
         }
+    }
+
+    // A natural number, exactly where it has at most 32 digits.
+    pub fn natural(n: u64) -> Number
+        requires { ⌜ 0 < n ⌝ }
+        ensures { λ r. ⌜ r ≡ naturalNumber n ⌝ }
+    {
+        roundings::round_integer(n, BIAS)
     }
 
     // The exponent, as it is answered.

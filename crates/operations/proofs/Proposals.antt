@@ -1,5 +1,6 @@
--- Results before and after they are kept: what can be kept (`proposal-keepable`), and a kept result is what the call's definition says (`kept-outcome`).
--- The transpose (`transpose-turned`, `transpose-done`, `transpose-good`, `transpose-kept`).
+-- RESULTS before and after they are kept, by their verdict: what was accepted can be kept (`result-answered`), leaves a good shelf (`result-good`) and stands
+-- at its place (`result-held`); a kept result is what the call's definition says, and what is promised of an accepted one holds (`result-kept`,
+-- `result-done`). Then the transpose (`transpose-..`).
 use Prim.Native.Nat.{ℕ, _<_}
 use native.Mathlib.Omega.{arith}
 use mathlib.Core.Path.{_≡_, refl, sym, ap, ap₂, _∙_}
@@ -20,13 +21,14 @@ use Rattle.verdict.specs.Verdict.{firstOf}
 use Rattle.places.specs.Tests.{oneSource}
 use Rattle.operations.specs.Operations.{resulting, transposeCall}
 use Rattle.operations.specs.Reports.{operatedOutcome}
-use Rattle.operations.specs.Proposed.{turnedDown, proposal, keptBy, kept, Keepable}
+use Rattle.operations.specs.Proposed.{turnedDown, proposal, transposeProposal, keptBy, kept, Keepable}
+use Rattle.operations.specs.Promise.{Holds, PromisedBy}
 use Rattle.table.proofs.Table.{table-exchanged}
-use Rattle.places.proofs.Holding.{fits-table, good-put}
+use Rattle.places.proofs.Holding.{fits-table, rows-held, factors-held, good-put}
 use Rattle.places.proofs.Verdicts.{after-good, one-accepted}
 
 -- what was accepted can be kept where it fits
-pub proposal-keepable : (t k e : ℕ) (b : Factors Number) (v : Verdict) → (v ≡ Accepted → (t < 8) × Fits k (tableOf k b)) → Keepable t (proposal v k e b)
+proposal-keepable : (t k e : ℕ) (b : Factors Number) (v : Verdict) → (v ≡ Accepted → (t < 8) × Fits k (tableOf k b)) → Keepable t (proposal v k e b)
 proposal-keepable t k e b Accepted h = λ i f. h refl
 proposal-keepable t k e b (Refused w) h = λ i f. absurd (let z : _≡_ {A = ℕ} 0 1 = cc in omega arith)
 
@@ -37,50 +39,82 @@ module _ (s : Shelf) (t : ℕ) (x : Proposed) where
   kept-by a e y f = f ∙ ap (keptBy s t x) (sym e)
 
 -- a result by its verdict, kept: the outcome of the definition
-pub kept-outcome : (s : Shelf) (t k e : ℕ) (b : Factors Number) (v : Verdict) → operatedOutcome (kept s t (proposal v k e b)) ≡ resulting s t v k e b
+kept-outcome : (s : Shelf) (t k e : ℕ) (b : Factors Number) (v : Verdict) → operatedOutcome (kept s t (proposal v k e b)) ≡ resulting s t v k e b
 unfolding kept
 kept-outcome s t k e b Accepted = refl
 kept-outcome s t k e b (Refused w) = refl
 
+pub result-kept : (s : Shelf) (t k e : ℕ) (b : Factors Number) (v : Verdict) (x : Proposed) (y : Operated) → x ≡ proposal v k e b
+    → (y ≡ kept s t x) × Good (y .shelf) → (operatedOutcome y ≡ resulting s t v k e b) × Good (y .shelf)
+result-kept s t k e b v x y f g = (ap operatedOutcome (g .0 ∙ ap (kept s t) f) ∙ kept-outcome s t k e b v, g .1)
+
+-- k rows with the factors b and the bound e, which fit place t where the call was accepted
+module _ (t k e : ℕ) (b : Factors Number) (v : Verdict) (fits : v ≡ Accepted → (t < 8) × Fits k (tableOf k b)) where
+  pub result-answered : (x : Proposed) → x ≡ proposal v k e b → (x ≡ proposal v k e b) × Keepable t x
+  result-answered x f = (f, rw f (proposal-keepable t k e b v fits))
+
+  module _ (s : Shelf) (good : Good s) where
+    pub result-good : Good (resulting s t v k e b .shelf)
+    result-good = after-good s (holding s t k b) good v (λ f. let h = fits f in good-put s good t k (tableOf k b) (h .0) (h .1))
+
+    -- what was accepted stands at its place
+    pub result-held : v ≡ Accepted → Holds (holding s t k b) t k b
+    result-held f =
+        let h = fits f in
+        record { rows = rows-held s good t k (tableOf k b) (h .0) (h .1); factors = factors-held s good t k b (h .0) (h .1) }
+
+-- kept, with a promise P of the shelf and the bound that holds where the call was accepted
+module _ (P : Shelf → ℕ → Type 0) (s : Shelf) (t k e : ℕ) (b : Factors Number) where
+  promised-by : (v : Verdict) → (v ≡ Accepted → P (holding s t k b) e) → (let x = kept s t (proposal v k e b) in PromisedBy P (x .shelf) (x .answer))
+  unfolding kept
+  promised-by Accepted h = h refl
+  promised-by (Refused w) h = tt
+
+  pub result-done : (v : Verdict) → (v ≡ Accepted → P (holding s t k b) e) → (x : Proposed) (y : Operated) → x ≡ proposal v k e b
+      → (y ≡ kept s t x) × Good (y .shelf) → (operatedOutcome y ≡ resulting s t v k e b) × (Good (y .shelf) × PromisedBy P (y .shelf) (y .answer))
+  result-done v h x y f g =
+      let r = result-kept s t k e b v x y f g in
+      (r .0, (r .1, rw (g .0 ∙ ap (kept s t) f) (promised-by v h)))
+
 -- THE TRANSPOSE
 module _ (s : Shelf) (p t : ℕ) where
-  abbrev proposed : Proposed
-  proposed = proposal (firstOf (oneSource s p t)) (rowsAt s p) 0 (exchanged (factorsAt s p))
+  abbrev n : ℕ
+  n = rowsAt s p
 
-  pub transpose-turned : (w : Refusal) → firstOf (oneSource s p t) ≡ Refused w → turnedDown w ≡ proposed
-  transpose-turned w e = ap (λ (v : Verdict). proposal v (rowsAt s p) 0 (exchanged (factorsAt s p))) (sym e)
+  abbrev turned : Factors Number
+  turned = exchanged (factorsAt s p)
+
+  abbrev verdict : Verdict
+  verdict = firstOf (oneSource s p t)
+
+  pub transpose-turned : (w : Refusal) → firstOf (oneSource s p t) ≡ Refused w → turnedDown w ≡ transposeProposal s p t
+  transpose-turned w e = ap (λ (v : Verdict). proposal v n 0 turned) (sym e)
 
   module _ (good : Good s) where
-    transpose-fits : firstOf (oneSource s p t) ≡ Accepted → (t < 8) × Fits (rowsAt s p) (tableOf (rowsAt s p) (exchanged (factorsAt s p)))
+    transpose-fits : verdict ≡ Accepted → (t < 8) × Fits n (tableOf n turned)
     transpose-fits e =
         let a = one-accepted s p t e in
         let f = good .held p (a .0 .small) in
-        (a .1 .small, fits-table (rowsAt s p) (exchanged (factorsAt s p)) (f .few) (λ i j x y. f .stored j i y x))
+        (a .1 .small, fits-table n turned (f .few) (λ i j x y. f .stored j i y x))
 
-    pub transpose-done : (n : ℕ) (u v : List Number) → firstOf (oneSource s p t) ≡ Accepted → n ≡ rowsAt s p → u ≡ tableAt s p
-        → v ≡ tableOf 8 (exchanged (factorsOf u)) →
-        _≡_ {A = Proposed} (record { answer = bound.Bound 0; rows = n; factors = v }) proposed
-    transpose-done n u v e f g h =
+    pub transpose-done : (m : ℕ) (u v : List Number) → firstOf (oneSource s p t) ≡ Accepted → m ≡ rowsAt s p → u ≡ tableAt s p
+        → v ≡ tableOf 8 (exchanged (factorsOf u))
+        → _≡_ {A = Proposed} (record { answer = bound.Bound 0; rows = m; factors = v }) (transposeProposal s p t)
+    transpose-done m u v e f g h =
         let a = one-accepted s p t e in
-        let x : v ≡ tableOf (rowsAt s p) (exchanged (factorsAt s p)) =
-        h ∙ ap (λ (l : List Number). tableOf 8 (exchanged (factorsOf l))) (g ∙ good .held p (a .0 .small) .rest)
-        ∙ table-exchanged (rowsAt s p) (factorsAt s p) in
+        let x : v ≡ tableOf n turned =
+        h ∙ ap (λ (l : List Number). tableOf 8 (exchanged (factorsOf l))) (g ∙ good .held p (a .0 .small) .rest) ∙ table-exchanged n (factorsAt s p) in
         ap₂ (λ (m : ℕ) (l : List Number). let r : Proposed = record { answer = bound.Bound 0; rows = m; factors = l } in r) f x
-        ∙ ap (λ (w : Verdict). proposal w (rowsAt s p) 0 (exchanged (factorsAt s p))) (sym e)
+        ∙ ap (λ (w : Verdict). proposal w n 0 turned) (sym e)
 
-    pub transpose-answered : (x : Proposed) → x ≡ proposed → (x ≡ proposed) × Keepable t x
-    transpose-answered x e = (e, rw e (proposal-keepable t (rowsAt s p) 0 (exchanged (factorsAt s p)) (firstOf (oneSource s p t)) transpose-fits))
+    pub transpose-answered : (x : Proposed) → x ≡ transposeProposal s p t → (x ≡ transposeProposal s p t) × Keepable t x
+    transpose-answered = result-answered t n 0 turned verdict transpose-fits
 
     pub transpose-good : Good (transposeCall s p t .shelf)
     unfolding transposeCall
-    transpose-good =
-        after-good s (holding s t (rowsAt s p) (exchanged (factorsAt s p))) good (firstOf (oneSource s p t))
-        (λ e. let k = transpose-fits e in good-put s good t (rowsAt s p) (tableOf (rowsAt s p) (exchanged (factorsAt s p))) (k .0) (k .1))
+    transpose-good = result-good t n 0 turned verdict transpose-fits s good
 
-  pub transpose-kept : (x : Proposed) (y : Operated) → x ≡ proposed → (y ≡ kept s t x) × Good (y .shelf)
+  pub transpose-kept : (x : Proposed) (y : Operated) → x ≡ transposeProposal s p t → (y ≡ kept s t x) × Good (y .shelf)
       → (operatedOutcome y ≡ transposeCall s p t) × Good (y .shelf)
   unfolding transposeCall
-  transpose-kept x y e f = (
-    ap operatedOutcome (f .0 ∙ ap (kept s t) e) ∙ kept-outcome s t (rowsAt s p) 0 (exchanged (factorsAt s p)) (firstOf (oneSource s p t)),
-    f .1,
-  )
+  transpose-kept = result-kept s t n 0 turned verdict

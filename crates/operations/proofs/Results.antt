@@ -1,11 +1,11 @@
 -- The rule's operations on places. Where the tests of the places passed, the rule can be run (`Ready`, `product-ready`, `whole-ready`, `submatrix-ready`) and
 -- demand 3 holds (`ready-demand`); what is accepted can be kept, the shelf stays good, and what was promised holds (`operation-fits`, `operation-good`,
--- `operation-promised`). The result by what was found: `operation-turned`, `operation-ranged`.
+-- `operation-met`). The result by what was found: `operation-turned`, `operation-ranged`.
 use Prim.Native.Nat.{ℕ, _<_, _≤_}
 use native.Mathlib.Omega.{arith}
 use mathlib.Core.Path.{_≡_, refl, sym, ap, _∙_, subst}
 use mathlib.Core.Bool.{Bool, true, false, cond}
-use mathlib.Core.List.{List, []}
+use mathlib.Core.List.{List}
 use lib.ListN.{length}
 use Rattle.number.specs.declared.Number.{Number}
 use Rattle.number.specs.Number.{rounded, Stored}
@@ -26,17 +26,17 @@ use Rattle.places.specs.Shelf.{rowsAt, factorsAt, holding, Fits, Good}
 use Rattle.verdict.specs.Verdict.{firstOf, orElse, when}
 use Rattle.places.specs.Tests.{unfit, oneSource, twoSources}
 use Rattle.table.proofs.Ranges.{rows-ranged, outside-table}
-use Rattle.places.proofs.Holding.{fits-table, rows-held, factors-held, good-put}
+use Rattle.places.proofs.Holding.{fits-table}
 use Rattle.verdict.proofs.Verdicts.{first-last, first-passed, when-passed}
-use Rattle.places.proofs.Verdicts.{Fit, after-good, one-accepted, two-accepted, sets-accepted}
+use Rattle.places.proofs.Verdicts.{Fit, one-accepted, two-accepted, sets-accepted}
 use Rattle.operations.specs.declared.Proposed.{Proposed}
 use Rattle.operations.specs.declared.Operated.{Operated}
 use Rattle.operations.specs.declared.Bounded.the-variants as answer
 use Rattle.operations.specs.Operations.{factorTest, operationVerdict, operationCall, productAt, takenAt, submatrixAt, submatrixTests}
 use Rattle.operations.specs.Reports.{operatedOutcome}
 use Rattle.operations.specs.Proposed.{turnedDown, proposal, proposed, kept, rangedOf, Keepable}
-use Rattle.operations.specs.Promise.{Promised}
-use Rattle.operations.proofs.Proposals.{proposal-keepable, kept-outcome}
+use Rattle.operations.specs.Promise.{Met, Promised}
+use Rattle.operations.proofs.Proposals.{result-answered, result-good, result-held, result-done}
 
 -- sources of n rows that hold stored factors, sets that fit, and a place of the shelf
 pub record Ready (t n : ℕ) (o : Operation Number) : Type 0 where
@@ -145,47 +145,34 @@ module _ (L : List Verdict) (t n : ℕ) (o : Operation Number) (ready : firstOf 
       ∙ ap (λ (t : Bool). proposal (when t 14) (size n o) (bound n o) b) (outside-table (size n o) b (ready e .fits))
       ∙ ap (λ (u : Verdict). proposal u (size n o) (bound n o) b) (sym v)
 
-  pub operation-keepable : Keepable t (proposed L n o)
+  answered : (y : Proposed) → y ≡ proposed L n o → (y ≡ proposed L n o) × Keepable t y
   unfolding proposed
-  operation-keepable = proposal-keepable t (size n o) (bound n o) (result rounded n o) (operationVerdict L n o) operation-fits
+  answered = result-answered t (size n o) (bound n o) (result rounded n o) (operationVerdict L n o) operation-fits
 
   -- the two ways in which a result is answered
   pub answered-turned : (w : Refusal) (y : Proposed) → firstOf L ≡ Refused w → y ≡ turnedDown w → (y ≡ proposed L n o) × Keepable t y
-  answered-turned w y e f = let g = f ∙ operation-turned w e in (g, rw g operation-keepable)
+  answered-turned w y e f = answered y (f ∙ operation-turned w e)
 
   pub answered-ranged : (x : Refactored) (y : Proposed) → firstOf L ≡ Accepted → x ≡ resultOf n o → y ≡ rangedOf x → (y ≡ proposed L n o) × Keepable t y
-  answered-ranged x y e f g = let h = g ∙ operation-ranged e x f in (h, rw h operation-keepable)
+  answered-ranged x y e f g = answered y (g ∙ operation-ranged e x f)
 
   module _ (s : Shelf) (good : Good s) where
     pub operation-good : Good (operationCall s L t n o .shelf)
     unfolding operationCall
-    operation-good =
-        after-good s (holding s t (size n o) (result rounded n o)) good (operationVerdict L n o)
-        (λ e. let k = operation-fits e in good-put s good t (size n o) (tableOf (size n o) (result rounded n o)) (k .0) (k .1))
+    operation-good = result-good t (size n o) (bound n o) (result rounded n o) (operationVerdict L n o) operation-fits s good
 
-    promised-by : (v : Verdict) → operationVerdict L n o ≡ v
-        → (let x = kept s t (proposal v (size n o) (bound n o) (result rounded n o)) in Promised (x .shelf) t n o (x .answer))
-    unfolding kept
-    promised-by Accepted e =
-        let k = operation-fits e in
-        record {
-          bound-is = refl;
-          rows = rows-held s good t (size n o) (tableOf (size n o) (result rounded n o)) (k .0) (k .1);
-          factors = factors-held s good t (size n o) (result rounded n o) (k .0) (k .1);
-          demand = operation-demand (verdict e .0);
-        }
-    promised-by (Refused w) e = tt
-
-    pub operation-promised : Promised (kept s t (proposed L n o) .shelf) t n o (kept s t (proposed L n o) .answer)
-    unfolding proposed
-    operation-promised = promised-by (operationVerdict L n o) refl
+    pub operation-met : operationVerdict L n o ≡ Accepted → Met (holding s t (size n o) (result rounded n o)) t n o (bound n o)
+    operation-met e = record {
+      bound-is = refl;
+      held = result-held t (size n o) (bound n o) (result rounded n o) (operationVerdict L n o) operation-fits s good e;
+      demand = operation-demand (verdict e .0);
+    }
 
     pub operation-done : (x : Proposed) (y : Operated) → x ≡ proposed L n o → (y ≡ kept s t x) × Good (y .shelf)
         → (operatedOutcome y ≡ operationCall s L t n o) × (Good (y .shelf) × Promised (y .shelf) t n o (y .answer))
     unfolding operationCall proposed
-    operation-done x y e f =
-        let g : y ≡ kept s t (proposed L n o) = f .0 ∙ ap (kept s t) e in
-        (ap operatedOutcome g ∙ kept-outcome s t (size n o) (bound n o) (result rounded n o) (operationVerdict L n o), (f .1, rw g operation-promised))
+    operation-done =
+        result-done (λ s k. Met s t n o k) s t (size n o) (bound n o) (result rounded n o) (operationVerdict L n o) operation-met
 
 -- A SUBMATRIX that was accepted: its place, and sets that fit
 module _ (s : Shelf) (p I J t : ℕ) where

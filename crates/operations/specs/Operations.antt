@@ -1,9 +1,10 @@
 -- The operations (document 01, "Shelf calls"): what each of product, re-signed inverse, converse, submatrix and transpose leaves and returns (`productCall`,
--- ..), and minors (`minorCall`).
+-- ..), minors (`minorCall`), and a place filled from time stamps (`buildCall`).
 use Prim.Native.Nat.{ℕ}
 use mathlib.Core.Bool.{not}
 use mathlib.Core.List.{List, [], _∷_, _++_}
 use lib.IntN.{pos}
+use lib.ListN.{length}
 use Rattle.number.specs.declared.Number.{Number}
 use Rattle.number.specs.Number.{rounded, inRange, exponentOf}
 use Rattle.words.specs.RowSet.{ofMask}
@@ -17,7 +18,8 @@ use Rattle.places.specs.declared.Shelf.{Shelf}
 use Rattle.table.specs.Table.{outside}
 use Rattle.places.specs.Shelf.{rowsAt, factorsAt, holding}
 use Rattle.places.specs.Outcome.{Outcome, outcome}
-use Rattle.places.specs.Tests.{unfit, sourceTests, oneSource, twoSources}
+use Rattle.places.specs.Tests.{unfit, sourceTests, targetTests, oneSource, twoSources}
+use Rattle.stamps.specs.Stamps.{mistimed, builtFactors, stampBound}
 
 -- A RESULT of k rows with the factors b and the bound e: it is put at place t and the bound returned, unless the call is turned down
 abbrev pub resulting : Shelf → ℕ → Verdict → ℕ → ℕ → Factors Number → Outcome
@@ -26,6 +28,13 @@ resulting s t v k e b = outcome (after v s (holding s t k b)) (reportOf v (pos e
 -- TRANSPOSE: factors exchanged, no rounding, bound 0
 unfoldable pub transposeCall : Shelf → ℕ → ℕ → Outcome
 transposeCall s p t = resulting s t (firstOf (oneSource s p t)) (rowsAt s p) 0 (exchanged (factorsAt s p))
+
+-- BUILD: the matrix of powers of time stamps (document 02, request (a)). 15 is tested behind the place; 14 cannot occur (`build-ranged`)
+abbrev pub buildTests : Shelf → ℕ → List ℕ → List Verdict
+buildTests s t stamps = targetTests s t ++ (when (mistimed stamps) 15 ∷ [])
+
+unfoldable pub buildCall : Shelf → ℕ → List ℕ → Outcome
+buildCall s t stamps = resulting s t (firstOf (buildTests s t stamps)) (length stamps) stampBound (builtFactors stamps)
 
 -- THE RULE'S OPERATIONS on sources of n rows, behind the tests L. 14: a new factor has an exponent outside -1000 to 1000
 abbrev pub factorTest : ℕ → Operation Number → Verdict

@@ -4,20 +4,23 @@ use Prim.Native.Nat.{ℕ, _<_}
 use mathlib.Core.Path.{_≡_}
 use mathlib.Core.Bool.{cond}
 use mathlib.Core.List.{List}
-use lib.ListN.{replicate}
+use lib.ListN.{length, replicate}
 use Rattle.number.specs.declared.Number.{Number}
 use Rattle.number.specs.Number.{zeroNumber, rounded}
-use Rattle.words.specs.Word.{Factors}
+use Rattle.words.specs.Word.{Factors, exchanged}
 use Rattle.words.specs.Operation.{Operation, size, bound, result}
 use Rattle.rule.specs.declared.Refactored.{Refactored}
 use Rattle.table.specs.Table.{tableOf}
 use Rattle.verdict.specs.declared.Refusal.{Refusal}
 use Rattle.verdict.specs.declared.Verdict.{Verdict}
 use Rattle.verdict.specs.declared.Verdict.the-variants.{Accepted, Refused}
+use Rattle.verdict.specs.Verdict.{firstOf}
 use Rattle.places.specs.declared.Shelf.{Shelf}
 use Rattle.table.specs.Table.{outside}
-use Rattle.places.specs.Shelf.{withTable, Fits}
-use Rattle.operations.specs.Operations.{operationVerdict}
+use Rattle.places.specs.Shelf.{rowsAt, factorsAt, withTable, Fits}
+use Rattle.places.specs.Tests.{oneSource}
+use Rattle.stamps.specs.Stamps.{builtFactors, stampBound}
+use Rattle.operations.specs.Operations.{buildTests, operationVerdict}
 use Rattle.operations.specs.declared.Bounded.{Bounded}
 use Rattle.operations.specs.declared.Bounded.the-variants as answer
 use Rattle.operations.specs.declared.Proposed.{Proposed}
@@ -30,6 +33,13 @@ turnedDown w = record { answer = answer.Refused w; rows = 0; factors = replicate
 abbrev pub proposal : Verdict → ℕ → ℕ → Factors Number → Proposed
 proposal Accepted k e b = record { answer = answer.Bound e; rows = k; factors = tableOf k b }
 proposal (Refused w) k e b = turnedDown w
+
+-- the transpose of place p, and the matrix of powers of time stamps, to place t
+abbrev pub transposeProposal : Shelf → ℕ → ℕ → Proposed
+transposeProposal s p t = proposal (firstOf (oneSource s p t)) (rowsAt s p) 0 (exchanged (factorsAt s p))
+
+abbrev pub buildProposal : Shelf → ℕ → List ℕ → Proposed
+buildProposal s t stamps = proposal (firstOf (buildTests s t stamps)) (length stamps) stampBound (builtFactors stamps)
 
 -- a result of the rule
 unfoldable pub proposed : List Verdict → ℕ → Operation Number → Proposed

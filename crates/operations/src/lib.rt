@@ -1,10 +1,11 @@
-// The operations on places: transpose, product, re-signed inverse, converse, submatrix; and minors. A result is worked first and kept by a step of its own.
+// The operations on places: transpose, product, re-signed inverse, converse, submatrix; minors; and a place filled from time stamps. A result is worked first
+// and kept by a step of its own.
 ghost use mathlib.Core.Path.{_≡_};
 ghost use Rattle.places.specs.Shelf.{rowsAt, Good};
 ghost use Rattle.operations.specs.Operations.{productAt, inverseAt, converseAt, submatrixAt};
-ghost use Rattle.operations.specs.Operations.{transposeCall, productCall, inverseCall, converseCall, submatrixCall, minorCall};
+ghost use Rattle.operations.specs.Operations.{transposeCall, buildCall, productCall, inverseCall, converseCall, submatrixCall, minorCall};
 ghost use Rattle.operations.specs.Reports.{operatedOutcome, valuedReport};
-ghost use Rattle.operations.specs.Promise.{Promised};
+ghost use Rattle.operations.specs.Promise.{Promised, BuildPromised};
 use number::Number;
 use places::Shelf;
 use places::judge;
@@ -48,6 +49,16 @@ pub fn transpose(shelf: Shelf, source: usize, target: usize) -> Operated
     ensures { λ r. ⌜ Good (r .shelf) ⌝ }
 {
     work::keep(shelf, target, work::transposed(shelf, source, target))
+}
+
+// The matrix whose row i holds the powers 0 to n - 1 of stamp i, from n time stamps, 1 to 8, to an empty place.
+pub fn build(shelf: Shelf, target: usize, stamps: &[u64]) -> Operated
+    requires { ⌜ Good shelf ⌝ }
+    ensures { λ r. ⌜ operatedOutcome r ≡ buildCall shelf target (now (stamps .entry)) ⌝ }
+    ensures { λ r. ⌜ Good (r .shelf) ⌝ }
+    ensures { λ r. ⌜ BuildPromised (r .shelf) target (now (stamps .entry)) (r .answer) ⌝ }
+{
+    work::keep(shelf, target, work::built(shelf, target, stamps))
 }
 
 // The product of two places, left times right, to an empty place.

@@ -2,12 +2,11 @@
 ghost use mathlib.Core.Path.{_≡_};
 ghost use Prim.Native.Nat.{_<_};
 ghost use Rattle.walk.specs.Steps.{wayOf};
-ghost use Rattle.words.specs.Word.{exchanged};
-ghost use Rattle.places.specs.Shelf.{rowsAt, factorsAt, Good};
+ghost use Rattle.places.specs.Shelf.{rowsAt, Good};
 ghost use Rattle.places.specs.Tests.{oneSource, twoSources};
 ghost use Rattle.verdict.specs.Verdict.{firstOf};
 ghost use Rattle.operations.specs.Operations.{productAt, takenAt, submatrixAt, submatrixTests};
-ghost use Rattle.operations.specs.Proposed.{turnedDown, proposal, proposed, kept, rangedOf, Keepable};
+ghost use Rattle.operations.specs.Proposed.{turnedDown, transposeProposal, buildProposal, proposed, kept, rangedOf, Keepable};
 use crate::Bounded;
 use crate::Operated;
 use crate::Proposed;
@@ -58,7 +57,7 @@ pub fn keep(shelf: Shelf, target: usize, result: Proposed) -> Operated
 // The transpose: factors exchanged, no rounding.
 pub fn transposed(shelf: Shelf, source: usize, target: usize) -> Proposed
     requires { ⌜ Good shelf ⌝ }
-    ensures { λ r. ⌜ r ≡ proposal (firstOf (oneSource shelf source target)) (rowsAt shelf source) 0 (exchanged (factorsAt shelf source)) ⌝ }
+    ensures { λ r. ⌜ r ≡ transposeProposal shelf source target ⌝ }
     ensures { λ r. ⌜ Keepable target r ⌝ }
 {
     let first = judge::one_source(shelf, source, target);
@@ -70,6 +69,25 @@ pub fn transposed(shelf: Shelf, source: usize, target: usize) -> Proposed
     Proposed {
         answer: Bounded::Bound(0),
         rows,
+        factors,
+    }
+}
+
+// The matrix of powers of time stamps. No exponent is outside -1000 to 1000, so that is not tested.
+pub fn built(shelf: Shelf, target: usize, stamps: &[u64]) -> Proposed
+    requires { ⌜ Good shelf ⌝ }
+    ensures { λ r. ⌜ r ≡ buildProposal shelf target (now (stamps .entry)) ⌝ }
+    ensures { λ r. ⌜ Keepable target r ⌝ }
+{
+    let mut v = judge::target(shelf, target);
+    v = test(v, stamps::mistimed(stamps), 15);
+    if let Verdict::Refused(why) = v {
+        return turned_down(why);
+    }
+    let factors = stamps::table(stamps);
+    Proposed {
+        answer: Bounded::Bound(11),
+        rows: stamps.len(),
         factors,
     }
 }

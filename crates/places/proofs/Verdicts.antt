@@ -5,11 +5,12 @@ use Prim.Native.Nat.{ℕ, _^_, _<_, _≤_}
 use native.Mathlib.Decide.{decLt}
 use native.Mathlib.Omega.{arith}
 use mathlib.Core.Path.{_≡_, refl}
-use mathlib.Core.Bool.{Bool, true, false, not, _||_}
-use mathlib.Core.List.{List, [], _∷_}
+use mathlib.Core.Bool.{not, _||_}
+use mathlib.Core.List.{List, _∷_}
 use lib.Dec.{eqb}
 use lib.ListN.{getD, List·getD-eq-default}
 use borrow.Author.Tests.{ltb-false, eqb-true, eqb-false, not-false}
+use Rattle.number.proofs.Tests.{neither}
 use Rattle.rowset.specs.Mask.{maskCount, maskBeyond}
 use Rattle.rowset.proofs.Masks.{mask-within}
 use Rattle.places.specs.declared.Shelf.{Shelf}
@@ -103,16 +104,12 @@ pub record Fit (n I J : ℕ) : Type 0 where
   pub rows : I < 2 ^ n
   pub columns : J < 2 ^ n
 
-or-false : (t u : Bool) → t || u ≡ false → (t ≡ false) × (u ≡ false)
-or-false false u e = (refl, e)
-or-false true u e = absurd (let z : _≡_ {A = ℕ} 0 1 = cc in omega arith)
-
 pub sets-accepted : (n I J : ℕ) → when (unfit n I J) 8 ≡ Accepted → Fit n I J
 sets-accepted n I J e =
-    let a = or-false (not (eqb (maskCount I) (maskCount J))) _ (when-passed (unfit n I J) 8 e) in
-    let b = or-false (eqb I 0 || eqb J 0) _ (a .1) in
-    let c = or-false (eqb I 0) (eqb J 0) (b .0) in
-    let d = or-false (maskBeyond n I) (maskBeyond n J) (b .1) in
+    let a = neither (not (eqb (maskCount I) (maskCount J))) _ (when-passed (unfit n I J) 8 e) in
+    let b = neither (eqb I 0 || eqb J 0) _ (a .1) in
+    let c = neither (eqb I 0) (eqb J 0) (b .0) in
+    let d = neither (maskBeyond n I) (maskBeyond n J) (b .1) in
     let z : I ≡ 0 → ⊥ = eqb-false I 0 (c .0) in
     record {
       counts = eqb-true (maskCount I) (maskCount J) (not-false (eqb (maskCount I) (maskCount J)) (a .0));

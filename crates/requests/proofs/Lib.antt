@@ -2,6 +2,7 @@
 pub mod Words
 pub mod Forms
 pub mod Listed
+pub mod Triples
 pub mod Numbers
 pub mod Tails
 pub mod Examples

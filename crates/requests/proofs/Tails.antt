@@ -1,5 +1,6 @@
 -- What stands behind a request's numbers: nothing (`nothing-left`), bytes (`bytes-read`), two items (`two-read`); the request by its parts (`request-is`).
-use Prim.Native.Nat.{ℕ, _+_, _*_, _/_, _≤_, _<_}
+use Prim.Native.Nat.{ℕ, _*_, _/_, _≤_, _<_}
+use native.Mathlib.Nat.{zero-add}
 use native.Mathlib.Omega.{arith}
 use mathlib.Core.Path.{_≡_, refl, sym, ap, _∙_}
 use mathlib.Core.Bool.{Bool, true, false, cond, not, _&&_}
@@ -7,8 +8,8 @@ use mathlib.Core.List.{List, [], _∷_}
 use mathlib.Core.Option.{Option, none, some}
 use lib.Dec.{ltb}
 use lib.IntN.{ℤ}
-use lib.ListN.{length, take, drop, length-take}
-use lib.Seq.{sets, sets-eq, take-at}
+use lib.ListN.{length, take, length-take}
+use lib.Seq.{sets}
 use borrow.Author.Tests.{ltb-true, ltb-false, not-true}
 use Rattle.number.proofs.Tests.{both}
 use Rattle.lines.specs.declared.reading.ReadBytes.the-variants as bytes
@@ -20,15 +21,17 @@ use Rattle.requests.specs.declared.request.Request.{Request}
 use Rattle.requests.specs.Words.{wordsOf, wordsAt, firstWord, wordsBehind}
 use Rattle.requests.specs.Commands.{formOf}
 use Rattle.requests.specs.Items.{spelledItems}
-use Rattle.requests.specs.Requests.{Asked, Values, asked, bad, withNothing, withBytes, withList, withItems, withTwo, withTail, letterNumbers, requestOf}
-use Rattle.requests.proofs.Listed.{Counted, counted}
+use Rattle.requests.specs.Requests.{Asked, Values, askedAlone, askedBytes, askedItems, asked, bad, letterNumbers, requestOf}
+use Rattle.requests.specs.Requests.{withNothing, withBytes, withList, withItems, withTwo, withTail}
+use Rattle.requests.proofs.Listed.{Counted, take-sets}
+use Rattle.requests.proofs.Triples.{items-counted}
 use Rattle.requests.proofs.Words.{words-at, words-past, word-past, words-all, first-word, words-behind}
 
 module _ (command : Command) (values line : List ℕ) (at : ℕ) where
   pub nothing-more : at ≤ length line → bad ≡ withNothing command values (wordsAt line at)
   nothing-more h = rw (words-at line at h)
 
-  pub nothing-left : length line < at → record { command = command; values = values; bytes = []; items = [] } ≡ withNothing command values (wordsAt line at)
+  pub nothing-left : length line < at → askedAlone command values ≡ withNothing command values (wordsAt line at)
   nothing-left h = rw (words-past line at h)
 
   more-by : (t : Bool) → ltb (length line) at ≡ t → nextWord line at ≤ length line → bad ≡ withBytes command values (wordsAt line at)
@@ -43,8 +46,7 @@ module _ (command : Command) (values line : List ℕ) (at : ℕ) where
 
 -- a word as bytes
 abbrev ofWord : Command → List ℕ → List ℕ → Asked
-ofWord command values w =
-    cond (hexadecimal w && not (ltb 2048 (length w / 2))) (record { command = command; values = values; bytes = spelledBytes w; items = [] }) bad
+ofWord command values w = cond (hexadecimal w && not (ltb 2048 (length w / 2))) (askedBytes command values (spelledBytes w)) bad
 
 module _ (command : Command) (values line : List ℕ) (at : ℕ) (h : length line < nextWord line at) where
   one-by : (t : Bool) → ltb (length line) at ≡ t → ofWord command values (wordAt line at) ≡ withBytes command values (wordsAt line at)
@@ -63,7 +65,7 @@ length-bytes (a ∷ b ∷ s) =
     omega arith
 
 take-set : (v b : List ℕ) → length v ≤ length b → take (length v) (sets b 0 v) ≡ v
-take-set v b h = rw (sets-eq v b 0 (omega arith)) (take-at v (drop (0 + length v) b) (length v) refl)
+take-set v b h = rw zero-add at (take-sets b v 0 (omega arith))
 
 never : {A : Type 0} {n : ℕ} → bytes.Malformed ≡ bytes.Count n → A
 never e =
@@ -75,8 +77,7 @@ never-count e = never (sym e)
 
 module _ (command : Command) (values v b : List ℕ) (m n : ℕ) where
   read-by : (t : Bool) → cond t (bytes.Count m) bytes.Malformed ≡ bytes.Count n → (t ≡ true → take m (sets b 0 v) ≡ v) →
-      record { command = command; values = values; bytes = take n (cond t (sets b 0 v) b); items = [] }
-      ≡ cond t (record { command = command; values = values; bytes = v; items = [] }) bad
+      askedBytes command values (take n (cond t (sets b 0 v) b)) ≡ cond t (askedBytes command values v) bad
   read-by true e f =
       let same : m ≡ n = cc in
       rw (← same, f refl)
@@ -91,7 +92,7 @@ small n x e = ltb-false _ _ (not-true (ltb 2048 n) (both x (not (ltb 2048 n)) e 
 
 module _ (command : Command) (values line : List ℕ) (at : ℕ) (h : length line < nextWord line at) (b : List ℕ) (long : length b ≡ 2048) where
   pub bytes-read : (n : ℕ) → bytesRead (wordAt line at) b ≡ bytes.Count n →
-      record { command = command; values = values; bytes = take n (bytesInto (wordAt line at) b); items = [] } ≡ withBytes command values (wordsAt line at)
+      askedBytes command values (take n (bytesInto (wordAt line at) b)) ≡ withBytes command values (wordsAt line at)
   bytes-read n e =
       let w : List ℕ = wordAt line at in
       let f : hexadecimal w && not (ltb 2048 (length w / 2)) ≡ true → take (length w / 2) (sets b 0 (spelledBytes w)) ≡ spelledBytes w =
@@ -105,12 +106,12 @@ module _ (command : Command) (values line : List ℕ) (at : ℕ) (h : length lin
   pub bytes-other : bytesRead (wordAt line at) b ≡ bytes.Malformed → bad ≡ withBytes command values (wordsAt line at)
   bytes-other e =
       let w : List ℕ = wordAt line at in
-      other-by (record { command = command; values = values; bytes = spelledBytes w; items = [] }) (length w / 2)
-      (hexadecimal w && not (ltb 2048 (length w / 2))) (rw long at e) ∙ one-word command values line at h
+      other-by (askedBytes command values (spelledBytes w)) (length w / 2) (hexadecimal w && not (ltb 2048 (length w / 2))) (rw long at e)
+      ∙ one-word command values line at h
 
 -- two items are six numbers
 module _ (command : Command) (values : List ℕ) where
-  two-words : (o : Option (List ℤ)) (n : ℕ) → Counted o n → length (withList command values o .items) ≡ 6 → n ≡ 2
+  two-words : (o : Option (List ℤ)) (n : ℕ) → Counted 3 n o → length (withList (askedItems command values) o .items) ≡ 6 → n ≡ 2
   two-words none n h six = absurd (omega arith)
   two-words (some l) n h six = omega arith
 
@@ -120,25 +121,26 @@ module _ (command : Command) (values : List ℕ) where
   two-kept (w ∷ v ∷ []) e = refl
   two-kept (w ∷ v ∷ u ∷ ws) e = absurd (omega arith)
 
-  two-none : (o : Option (List ℤ)) → Counted o 2 → (length (withList command values o .items) ≡ 6 → ⊥) → bad ≡ withList command values o
+  two-none : (o : Option (List ℤ)) → Counted 3 2 o → (length (withList (askedItems command values) o .items) ≡ 6 → ⊥)
+      → bad ≡ withList (askedItems command values) o
   two-none none h other = refl
   two-none (some l) h other = absurd (other h)
 
   two-bad : (ws : List (List ℕ)) → (length (withItems command values ws .items) ≡ 6 → ⊥) → bad ≡ withTwo command values ws
   two-bad [] other = refl
   two-bad (w ∷ []) other = refl
-  two-bad (w ∷ v ∷ []) other = two-none (spelledItems 16 (w ∷ v ∷ [])) (counted 16 (w ∷ v ∷ [])) other
+  two-bad (w ∷ v ∷ []) other = two-none (spelledItems 16 (w ∷ v ∷ [])) (items-counted 16 (w ∷ v ∷ [])) other
   two-bad (w ∷ v ∷ u ∷ ws) other = refl
 
-  module _ (ws : List (List ℕ)) (r : Request) (bytes : List ℕ) (list : List ℤ) (room : 48 ≤ length list)
-      (read : asked r bytes list ≡ withItems command values ws) where
+  module _ (ws : List (List ℕ)) (r : Request) (bytes : List ℕ) (list : List ℤ) (wholes : List ℕ) (room : 48 ≤ length list)
+      (read : asked r bytes list wholes ≡ withItems command values ws) where
     read-length : length (withItems command values ws .items) ≡ length (take (r .items * 3) list)
     read-length = ap (λ a. length (a .items)) (sym read)
 
-    pub two-read : r .items ≡ 2 → asked r bytes list ≡ withTwo command values ws
+    pub two-read : r .items ≡ 2 → asked r bytes list wholes ≡ withTwo command values ws
     two-read e =
         let six : length (withItems command values ws .items) ≡ 6 = omega (arith, read-length, length-take (r .items * 3) list) in
-        read ∙ two-kept ws (two-words (spelledItems 16 ws) (length ws) (counted 16 ws) six)
+        read ∙ two-kept ws (two-words (spelledItems 16 ws) (length ws) (items-counted 16 ws) six)
 
     pub two-other : (r .items ≡ 2 → ⊥) → bad ≡ withTwo command values ws
     two-other e = two-bad ws (λ six. e (omega (arith, read-length, length-take (r .items * 3) list)))

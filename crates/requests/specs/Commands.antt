@@ -5,11 +5,11 @@ use mathlib.Core.Bool.{cond}
 use mathlib.Core.List.{List, [], _∷_}
 use Rattle.lines.specs.Ascii.{ascii}
 use Rattle.requests.specs.declared.commands.Command.{Command}
-use Rattle.requests.specs.declared.commands.Command.the-variants.{Load, Write, Drop, Product, Inverse, Converse, Transpose, Submatrix}
+use Rattle.requests.specs.declared.commands.Command.the-variants.{Load, Write, Drop, Product, Inverse, Converse, Transpose, Submatrix, Build}
 use Rattle.requests.specs.declared.commands.Command.the-variants.{Minor, Carry, Reversals, Add, Multiply, Divide, Rest, Show, Bad}
 use Rattle.requests.specs.declared.commands.Form.{Form}
 use Rattle.requests.specs.declared.commands.Tail.{Tail}
-use Rattle.requests.specs.declared.commands.Tail.the-variants.{None, Bytes, Items, Two}
+use Rattle.requests.specs.declared.commands.Tail.the-variants.{None, Bytes, Items, Two, Wholes}
 use Rattle.requests.specs.Words.{same}
 
 -- a word, and its form: a command, the letters of its numbers (P a place, M a mask, C a length to lend, - no number), and what stands behind them
@@ -30,6 +30,7 @@ firstForms =
     ∷ entry "converse" Converse "PP--" None
     ∷ entry "transpose" Transpose "PP--" None
     ∷ entry "submatrix" Submatrix "PMMP" None
+    ∷ entry "build" Build "P---" Wholes
     ∷ []
 
 abbrev pub secondForms : List Entry

@@ -1,9 +1,9 @@
 -- List items, `sign,mantissa,exponent` each (`spelledItem`), and the numbers of a list of them (`spelledItems`).
-use Prim.Native.Nat.{ℕ, zero, suc, _+_, _*_}
+use Prim.Native.Nat.{ℕ, _+_}
 use mathlib.Core.List.{List, [], _∷_}
 use mathlib.Core.Option.{Option, none, some}
 use lib.IntN.{ℤ, pos, negℤ}
-use lib.ListN.{length, take, drop}
+use lib.ListN.{length, drop}
 use Rattle.lines.specs.declared.reading.ReadSigned.{ReadSigned}
 use Rattle.lines.specs.declared.reading.ReadSigned.the-variants as signed
 use Rattle.lines.specs.Decimal.{spelledSigned}
@@ -12,8 +12,7 @@ use Rattle.requests.specs.declared.items.ReadNumber.{ReadNumber}
 use Rattle.requests.specs.declared.items.ReadNumber.the-variants as number
 use Rattle.requests.specs.declared.items.ReadItem.{ReadItem}
 use Rattle.requests.specs.declared.items.ReadItem.the-variants as item
-use Rattle.requests.specs.declared.items.ReadItems.{ReadItems}
-use Rattle.requests.specs.declared.items.ReadItems.the-variants as items
+use Rattle.requests.specs.Lists.{spelledList}
 
 -- a number of 64 bits with a sign
 abbrev pub signedNumber : ReadSigned → ReadNumber
@@ -38,18 +37,14 @@ spelledBy number.Malformed y z = item.Malformed
 unfoldable pub spelledItem : List ℕ → ReadItem
 spelledItem w = spelledBy (spelledNumber (before 44 w)) (spelledNumber (before 44 (behindComma w))) (spelledNumber (behindComma (behindComma w)))
 
-abbrev pub itemThen : ReadItem → Option (List ℤ) → Option (List ℤ)
-itemThen (item.Value a b c) (some l) = some (a ∷ b ∷ c ∷ l)
-itemThen (item.Value a b c) none = none
-itemThen item.Malformed l = none
+abbrev pub threeNumbers : ReadItem → Option (List ℤ)
+threeNumbers (item.Value a b c) = some (a ∷ b ∷ c ∷ [])
+threeNumbers item.Malformed = none
+
+-- the three numbers of an item
+abbrev pub itemNumbers : List ℕ → Option (List ℤ)
+itemNumbers w = threeNumbers (spelledItem w)
 
 -- each word is an item, and there are at most n
-unfoldable pub spelledItems : ℕ → List (List ℕ) → Option (List ℤ)
-spelledItems n [] = some []
-spelledItems zero (w ∷ ws) = none
-spelledItems (suc n) (w ∷ ws) = itemThen (spelledItem w) (spelledItems n ws)
-
--- what was read: so many items at the start of a list
-abbrev pub itemsRead : List ℤ → ReadItems → Option (List ℤ)
-itemsRead list (items.Count n) = some (take (n * 3) list)
-itemsRead list items.Malformed = none
+abbrev pub spelledItems : ℕ → List (List ℕ) → Option (List ℤ)
+spelledItems n ws = spelledList itemNumbers n ws

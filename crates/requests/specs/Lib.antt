@@ -1,4 +1,6 @@
 pub mod Words
 pub mod Commands
+pub mod Lists
 pub mod Items
+pub mod Wholes
 pub mod Requests

@@ -1,5 +1,5 @@
--- What a line asks (`requestOf`): a command with its numbers, bytes and items.
-use Prim.Native.Nat.{ℕ, _*_, _/_}
+-- What a line asks (`requestOf`): a command with its numbers, and behind them bytes, items, whole numbers or nothing.
+use Prim.Native.Nat.{ℕ, _-_, _*_, _/_, _^_}
 use mathlib.Core.Path.{_≡_}
 use mathlib.Core.Bool.{cond, not, _&&_}
 use mathlib.Core.List.{List, [], _∷_}
@@ -16,12 +16,13 @@ use Rattle.requests.specs.declared.commands.Command.{Command}
 use Rattle.requests.specs.declared.commands.Command.the-variants.{Bad}
 use Rattle.requests.specs.declared.commands.Form.{Form}
 use Rattle.requests.specs.declared.commands.Tail.{Tail}
-use Rattle.requests.specs.declared.commands.Tail.the-variants.{None, Bytes, Items, Two}
+use Rattle.requests.specs.declared.commands.Tail.the-variants.{None, Bytes, Items, Two, Wholes}
 use Rattle.requests.specs.declared.request.Numbers.{Numbers}
 use Rattle.requests.specs.declared.request.Request.{Request}
 use Rattle.requests.specs.Words.{wordsOf, wordsAt, firstWord, wordsBehind}
 use Rattle.requests.specs.Commands.{formOf}
 use Rattle.requests.specs.Items.{spelledItems}
+use Rattle.requests.specs.Wholes.{spelledWholes}
 
 -- the largest number that a letter stands for: a place, a mask, a length to lend
 abbrev pub most : ℕ → ℕ
@@ -59,49 +60,73 @@ letterNumbers (letter ∷ letters) ws = oneMore (letterNumber letter (firstWord 
 abbrev pub numbersRead : List ℕ → Numbers → Option Values
 numbersRead line r = cond (r .well) (some (record { values = r .values; left = wordsAt line (r .next) })) none
 
--- a request with its bytes and items
+-- a request with its bytes, items and whole numbers
 pub record Asked : Type 0 where
   pub command : Command
   pub values : List ℕ
   pub bytes : List ℕ
   pub items : List ℤ
+  pub wholes : List ℕ
 
--- the bytes or items of a request stand at the start of the buffers
-abbrev pub asked : Request → List ℕ → List ℤ → Asked
-asked r bytes list = record { command = r .command; values = r .values; bytes = take (r .bytes) bytes; items = take (r .items * 3) list }
+-- a command with its numbers alone, and with what stands behind them
+abbrev pub askedAlone : Command → List ℕ → Asked
+askedAlone command values = record { command = command; values = values; bytes = []; items = []; wholes = [] }
 
--- the same whatever the buffers hold, or the one that the request does not use
+abbrev pub askedBytes : Command → List ℕ → List ℕ → Asked
+askedBytes command values l = record { command = command; values = values; bytes = l; items = []; wholes = [] }
+
+abbrev pub askedItems : Command → List ℕ → List ℤ → Asked
+askedItems command values l = record { command = command; values = values; bytes = []; items = l; wholes = [] }
+
+abbrev pub askedWholes : Command → List ℕ → List ℕ → Asked
+askedWholes command values l = record { command = command; values = values; bytes = []; items = []; wholes = l }
+
+-- the bytes, items or whole numbers of a request stand at the start of the buffers
+abbrev pub asked : Request → (bytes : List ℕ) (list : List ℤ) (wholes : List ℕ) → Asked
+asked r bytes list wholes =
+    record {
+      command = r .command;
+      values = r .values;
+      bytes = take (r .bytes) bytes;
+      items = take (r .items * 3) list;
+      wholes = take (r .wholes) wholes;
+    }
+
+-- the same whatever the buffers hold, or those that the request does not use
 abbrev pub Asks : Request → Asked → Type 0
-Asks r a = (bytes : List ℕ) (list : List ℤ) → asked r bytes list ≡ a
+Asks r a = (bytes : List ℕ) (list : List ℤ) (wholes : List ℕ) → asked r bytes list wholes ≡ a
 
 abbrev pub AsksBytes : Request → List ℕ → Asked → Type 0
-AsksBytes r bytes a = (list : List ℤ) → asked r bytes list ≡ a
+AsksBytes r bytes a = (list : List ℤ) (wholes : List ℕ) → asked r bytes list wholes ≡ a
 
 abbrev pub AsksItems : Request → List ℤ → Asked → Type 0
-AsksItems r list a = (bytes : List ℕ) → asked r bytes list ≡ a
+AsksItems r list a = (bytes wholes : List ℕ) → asked r bytes list wholes ≡ a
+
+abbrev pub AsksWholes : Request → List ℕ → Asked → Type 0
+AsksWholes r wholes a = (bytes : List ℕ) (list : List ℤ) → asked r bytes list wholes ≡ a
 
 -- a line that is no request
 abbrev pub bad : Asked
-bad = record { command = Bad; values = 0 ∷ 0 ∷ 0 ∷ 0 ∷ []; bytes = []; items = [] }
+bad = askedAlone Bad (0 ∷ 0 ∷ 0 ∷ 0 ∷ [])
 
 abbrev pub withNothing : Command → List ℕ → List (List ℕ) → Asked
-withNothing command values [] = record { command = command; values = values; bytes = []; items = [] }
+withNothing command values [] = askedAlone command values
 withNothing command values (w ∷ ws) = bad
 
 -- one word, of at most 2048 bytes in hexadecimal
 abbrev pub withBytes : Command → List ℕ → List (List ℕ) → Asked
 withBytes command values [] = bad
-withBytes command values (w ∷ []) =
-    cond (hexadecimal w && not (ltb 2048 (length w / 2))) (record { command = command; values = values; bytes = spelledBytes w; items = [] }) bad
+withBytes command values (w ∷ []) = cond (hexadecimal w && not (ltb 2048 (length w / 2))) (askedBytes command values (spelledBytes w)) bad
 withBytes command values (w ∷ v ∷ ws) = bad
 
-abbrev pub withList : Command → List ℕ → Option (List ℤ) → Asked
-withList command values (some l) = record { command = command; values = values; bytes = []; items = l }
-withList command values none = bad
+-- what is asked with a list, where there is one
+abbrev pub withList : {A : Type 0} → (List A → Asked) → Option (List A) → Asked
+withList ask (some l) = ask l
+withList ask none = bad
 
 -- at most 16 items
 abbrev pub withItems : Command → List ℕ → List (List ℕ) → Asked
-withItems command values ws = withList command values (spelledItems 16 ws)
+withItems command values ws = withList (askedItems command values) (spelledItems 16 ws)
 
 -- exactly two items
 abbrev pub withTwo : Command → List ℕ → List (List ℕ) → Asked
@@ -110,12 +135,17 @@ withTwo command values (w ∷ []) = bad
 withTwo command values (w ∷ v ∷ []) = withItems command values (w ∷ v ∷ [])
 withTwo command values (w ∷ v ∷ u ∷ ws) = bad
 
+-- at most 16 whole numbers, each at most `most`
+abbrev pub withWholes : ℕ → Command → List ℕ → List (List ℕ) → Asked
+withWholes most command values ws = withList (askedWholes command values) (spelledWholes most 16 ws)
+
 abbrev pub withTail : Command → Tail → Option Values → Asked
 withTail command t none = bad
 withTail command None (some v) = withNothing command (v .values) (v .left)
 withTail command Bytes (some v) = withBytes command (v .values) (v .left)
 withTail command Items (some v) = withItems command (v .values) (v .left)
 withTail command Two (some v) = withTwo command (v .values) (v .left)
+withTail command Wholes (some v) = withWholes (2 ^ 64 - 1) command (v .values) (v .left)
 
 -- the request of a form with the words behind the first
 abbrev pub formRequest : Form → List (List ℕ) → Asked

@@ -11,6 +11,7 @@ pub enum Command {
     Converse,
     Transpose,
     Submatrix,
+    Build,
     Minor,
     Carry,
     Reversals,
@@ -30,6 +31,8 @@ pub enum Tail {
     Items,
     // Exactly two items.
     Two,
+    // At most 16 whole numbers of 64 bits.
+    Wholes,
 }
 
 // A command, the letters of its numbers (P a place, M a mask, C a length to lend, - no number), and what stands behind them.
@@ -72,7 +75,8 @@ fn first_forms(w: &[u8], before: Form) -> Form
     let f = named(w, f, b"inverse", Command::Inverse, b"PP--", Tail::None);
     let f = named(w, f, b"converse", Command::Converse, b"PP--", Tail::None);
     let f = named(w, f, b"transpose", Command::Transpose, b"PP--", Tail::None);
-    named(w, f, b"submatrix", Command::Submatrix, b"PMMP", Tail::None)
+    let f = named(w, f, b"submatrix", Command::Submatrix, b"PMMP", Tail::None);
+    named(w, f, b"build", Command::Build, b"P---", Tail::Wholes)
 }
 
 fn second_forms(w: &[u8], before: Form) -> Form

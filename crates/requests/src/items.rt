@@ -4,11 +4,12 @@ ghost use Prim.Native.Nat.{_+_, _-_, _≤_, _^_};
 ghost use lib.IntN.{pos, negℤ};
 ghost use lib.ListN.{length, drop};
 ghost use Rattle.requests.specs.Words.{wordsAt};
-ghost use Rattle.requests.specs.Items.{spelledNumber, spelledBy, spelledItem, spelledItems, itemsRead};
+ghost use Rattle.requests.specs.Lists.{listRead};
+ghost use Rattle.requests.specs.Items.{spelledNumber, spelledBy, spelledItem, spelledItems};
+use crate::lists::LONGEST;
+use crate::lists::ReadList;
 use lines::ReadSigned;
 use number::integer;
-
-const MOST: usize = 16;
 
 pub enum ReadNumber {
     Value(i64),
@@ -21,11 +22,6 @@ pub enum ReadItem {
         mantissa: i64,
         exponent: i64,
     },
-    Malformed,
-}
-
-pub enum ReadItems {
-    Count(usize),
     Malformed,
 }
 
@@ -102,15 +98,15 @@ fn spelled_item(word: &[u8]) -> ReadItem
 }
 
 // Reads each word from an index on as an item, and puts its numbers behind those before it.
-pub fn read(line: &[u8], at: usize, list: &mut [i64]) -> ReadItems
+pub fn read(line: &[u8], at: usize, list: &mut [i64]) -> ReadList
     requires { ⌜ 48 ≤ length (now list) ⌝ }
-    ensures { λ r. ⌜ itemsRead (now (list .exit)) r ≡ spelledItems 16 (wordsAt (now (line .entry)) at) ⌝ }
+    ensures { λ r. ⌜ listRead 3 (now (list .exit)) r ≡ spelledItems 16 (wordsAt (now (line .entry)) at) ⌝ }
 {
     let mut next = at;
     let mut count: usize = 0;
     while next <= line.len() {
-        if MOST <= count {
-            return ReadItems::Malformed;
+        if LONGEST <= count {
+            return ReadList::Malformed;
         }
         let item = spelled_item(lines::word(line, next));
         match item {
@@ -124,11 +120,11 @@ pub fn read(line: &[u8], at: usize, list: &mut [i64]) -> ReadItems
                 list[count * 3 + 2] = exponent;
             }
             ReadItem::Malformed => {
-                return ReadItems::Malformed;
+                return ReadList::Malformed;
             }
         }
         next = lines::next_word(line, next);
         count += 1;
     }
-    ReadItems::Count(count)
+    ReadList::Count(count)
 }

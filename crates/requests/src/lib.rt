@@ -1,7 +1,9 @@
 // Requests: what a line asks of the console.
 mod commands; // commands.rt: the words of the console, and what follows each
 mod items; // items.rt: list items
-mod request; // request.rt: a line's command, numbers, bytes and items
+mod lists; // lists.rt: what is read of a list
+mod request; // request.rt: a line's command and numbers, and what stands behind them
+mod wholes; // wholes.rt: lists of whole numbers
 
 pub use commands::Command;
 pub use request::Request;

@@ -1,15 +1,18 @@
-// What a line asks: a word of the console, numbers, and then bytes, items or nothing. Words have one space between them.
+// What a line asks: a word of the console, numbers, and then bytes, items, whole numbers or nothing. Words have one space between them.
 ghost use mathlib.Core.Path.{_≡_};
 ghost use lib.ListN.{length};
 ghost use Prim.Native.Nat.{_≤_};
 ghost use Rattle.requests.specs.Words.{wordsAt};
-ghost use Rattle.requests.specs.Requests.{most, numberBy, indexBehind, letterNumbers, numbersRead, asked, Asks, AsksBytes, AsksItems};
-ghost use Rattle.requests.specs.Requests.{bad, withNothing, withBytes, withItems, withTwo, withTail, requestOf};
+ghost use Rattle.requests.specs.Requests.{most, numberBy, indexBehind, letterNumbers, numbersRead};
+ghost use Rattle.requests.specs.Requests.{asked, Asks, AsksBytes, AsksItems, AsksWholes};
+ghost use Rattle.requests.specs.Requests.{bad, withNothing, withBytes, withItems, withTwo, withWholes, withTail, requestOf};
 use crate::commands;
 use crate::commands::Command;
 use crate::commands::Form;
 use crate::commands::Tail;
 use crate::items;
+use crate::lists::ReadList;
+use crate::wholes;
 use lines::ReadBytes;
 use lines::ReadWhole;
 
@@ -20,12 +23,13 @@ pub struct Numbers {
     pub next: usize,
 }
 
-// A command, its numbers, and how many bytes and items follow.
+// A command, its numbers, and how many bytes, items and whole numbers follow.
 pub struct Request {
     pub command: Command,
     pub values: [usize; 4],
     pub bytes: usize,
     pub items: usize,
+    pub wholes: usize,
 }
 
 // The largest number that a letter stands for: a place, a mask, a length to lend.
@@ -98,6 +102,7 @@ fn bad() -> Request
         values: [0usize; 4],
         bytes: 0,
         items: 0,
+        wholes: 0,
     }
 }
 
@@ -113,6 +118,7 @@ fn with_nothing(line: &[u8], command: Command, values: [usize; 4], at: usize) ->
         values,
         bytes: 0,
         items: 0,
+        wholes: 0,
     }
 }
 
@@ -137,6 +143,7 @@ fn with_bytes(
             values,
             bytes: n,
             items: 0,
+            wholes: 0,
         },
         ReadBytes::Malformed => bad(),
     }
@@ -155,13 +162,14 @@ fn with_items(
 {
     let read = items::read(line, at, list);
     match read {
-        items::ReadItems::Count(n) => Request {
+        ReadList::Count(n) => Request {
             command,
             values,
             bytes: 0,
             items: n,
+            wholes: 0,
         },
-        items::ReadItems::Malformed => bad(),
+        ReadList::Malformed => bad(),
     }
 }
 
@@ -183,6 +191,31 @@ fn with_two(
     request
 }
 
+// The words that are left as whole numbers of at most `most`.
+fn with_wholes(
+    line: &[u8],
+    command: Command,
+    values: [usize; 4],
+    at: usize,
+    most: u64,
+    wholes: &mut [u64],
+) -> Request
+    requires { ⌜ 16 ≤ length (now wholes) ⌝ }
+    ensures { λ r. ⌜ AsksWholes r (now (wholes .exit)) (withWholes most command values (wordsAt (now (line .entry)) at)) ⌝ }
+{
+    let read = wholes::read(line, at, most, wholes);
+    match read {
+        ReadList::Count(n) => Request {
+            command,
+            values,
+            bytes: 0,
+            items: 0,
+            wholes: n,
+        },
+        ReadList::Malformed => bad(),
+    }
+}
+
 // The request of a form whose numbers were read, with what stands behind them.
 fn with_tail(
     line: &[u8],
@@ -190,8 +223,10 @@ fn with_tail(
     read: Numbers,
     bytes: &mut [u8; 2048],
     list: &mut [i64; 48],
+    wholes: &mut [u64; 16],
 ) -> Request
-    ensures { λ r. ⌜ asked r (now (bytes .exit)) (now (list .exit)) ≡ withTail (form .command) (form .tail) (numbersRead (now (line .entry)) read) ⌝ }
+    ensures { λ r. ⌜ asked r (now (bytes .exit)) (now (list .exit)) (now (wholes .exit))
+        ≡ withTail (form .command) (form .tail) (numbersRead (now (line .entry)) read) ⌝ }
 {
     if !read.well {
         return bad();
@@ -204,16 +239,22 @@ fn with_tail(
         Tail::Bytes => with_bytes(line, command, values, next, bytes),
         Tail::Items => with_items(line, command, values, next, list),
         Tail::Two => with_two(line, command, values, next, list),
+        Tail::Wholes => with_wholes(line, command, values, next, u64::MAX, wholes),
         Tail::None => with_nothing(line, command, values, next),
     }
 }
 
-// What a line asks. Its bytes or items go to the start of the buffers.
-pub fn of_line(line: &[u8], bytes: &mut [u8; 2048], list: &mut [i64; 48]) -> Request
-    ensures { λ r. ⌜ asked r (now (bytes .exit)) (now (list .exit)) ≡ requestOf (now (line .entry)) ⌝ }
+// What a line asks. Its bytes, items or whole numbers go to the start of the buffers.
+pub fn of_line(
+    line: &[u8],
+    bytes: &mut [u8; 2048],
+    list: &mut [i64; 48],
+    wholes: &mut [u64; 16],
+) -> Request
+    ensures { λ r. ⌜ asked r (now (bytes .exit)) (now (list .exit)) (now (wholes .exit)) ≡ requestOf (now (line .entry)) ⌝ }
 {
     let form = commands::form_of(lines::word(line, 0));
     let letters = form.letters;
     let read = read_numbers(line, letters, lines::next_word(line, 0));
-    with_tail(line, form, read, bytes, list)
+    with_tail(line, form, read, bytes, list, wholes)
 }

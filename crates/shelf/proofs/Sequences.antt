@@ -8,9 +8,10 @@ use Rattle.places.specs.Outcome.{Outcome}
 use Rattle.places.proofs.Holding.{good-empty}
 use Rattle.operations.specs.Operations.{productAt, inverseAt, converseAt, submatrixAt, submatrixTests}
 use Rattle.operations.proofs.Proposals.{transpose-good}
+use Rattle.operations.proofs.Building.{build-good}
 use Rattle.operations.proofs.Results.{product-ready, whole-ready, submatrix-ready, operation-good}
 use Rattle.shelf.specs.Calls.{writeCall, carryCall}
-use Rattle.shelf.specs.Run.{Call, load, write, drop, product, inverse, converse, submatrix, transpose, minor}
+use Rattle.shelf.specs.Run.{Call, load, write, drop, product, inverse, converse, submatrix, transpose, build, minor}
 use Rattle.shelf.specs.Run.{carry, reversals, arithmetic, rest, rows, factor}
 use Rattle.shelf.specs.Run.{Given, AllGiven, run, afterEach, afterCalls}
 use Rattle.shelf.proofs.Loading.{load-good}
@@ -26,6 +27,7 @@ run-good s g (inverse p t) h = operation-good (oneSource s p t) t (rowsAt s p) (
 run-good s g (converse p t) h = operation-good (oneSource s p t) t (rowsAt s p) (converseAt s p) (whole-ready s g conversed p t) s g
 run-good s g (submatrix p I J t) h = operation-good (submatrixTests s p I J t) t (rowsAt s p) (submatrixAt s p I J) (submatrix-ready s g p I J t) s g
 run-good s g (transpose p t) h = transpose-good s p t g
+run-good s g (build t stamps) h = build-good s t stamps g
 run-good s g (minor p I J) h = g
 run-good s g (carry p items out) h = g
 run-good s g (reversals items) h = g

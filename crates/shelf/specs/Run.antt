@@ -12,10 +12,10 @@ use Rattle.arithmetic.specs.Arithmetic.{arithmeticCall}
 use Rattle.verdict.specs.Report.{accepted}
 use Rattle.places.specs.declared.Shelf.{Shelf}
 use Rattle.places.specs.Outcome.{Outcome, outcome}
-use Rattle.operations.specs.Operations.{transposeCall, productCall, inverseCall, converseCall, submatrixCall, minorCall}
+use Rattle.operations.specs.Operations.{transposeCall, buildCall, productCall, inverseCall, converseCall, submatrixCall, minorCall}
 use Rattle.shelf.specs.Calls.{loadCall, dropCall, writeCall, carryCall, rowsCall, factorCall}
 
--- a call with what it is given: places, masks, bytes, an operator, items, and last the bytes or items that it is lent to write to
+-- a call with what it is given: places, masks, bytes, time stamps, an operator, items, and last the bytes or items that it is lent to write to
 pub data Call : Type 0 where
   load : ℕ → List ℕ → Call
   write : ℕ → List ℕ → Call
@@ -25,6 +25,7 @@ pub data Call : Type 0 where
   converse : ℕ → ℕ → Call
   submatrix : ℕ → ℕ → ℕ → ℕ → Call
   transpose : ℕ → ℕ → Call
+  build : ℕ → List ℕ → Call
   minor : ℕ → ℕ → ℕ → Call
   carry : ℕ → List ℤ → List ℤ → Call
   reversals : List ℤ → Call
@@ -43,6 +44,7 @@ run s (inverse p t) = inverseCall s p t
 run s (converse p t) = converseCall s p t
 run s (submatrix p I J t) = submatrixCall s p I J t
 run s (transpose p t) = transposeCall s p t
+run s (build t stamps) = buildCall s t stamps
 run s (minor p I J) = outcome s (minorCall s p I J)
 run s (carry p items out) = carryCall s p items out
 run s (reversals items) = outcome s (reversalsCall items)
@@ -61,6 +63,7 @@ Given (inverse p t) = Unit {0}
 Given (converse p t) = Unit {0}
 Given (submatrix p I J t) = Unit {0}
 Given (transpose p t) = Unit {0}
+Given (build t stamps) = Unit {0}
 Given (minor p I J) = Unit {0}
 Given (carry p items out) = Unit {0}
 Given (reversals items) = Unit {0}

@@ -14,6 +14,7 @@ pub use lists::count_reversals;
 pub use operations::Bounded;
 pub use operations::Operated;
 pub use operations::Valued;
+pub use operations::build;
 pub use operations::converse;
 pub use operations::inverse;
 pub use operations::minor;

@@ -1,12 +1,14 @@
 -- Exponents outside the stored range: what a search of a list comes to (`outside-none`, `outside-all`, `outside-some`), and since zeros are in range a table
--- has one outside where its factors have (`rows-ranged`, `outside-table`).
+-- has one outside where its factors have (`rows-ranged`, `ranged-rows`, `outside-table`).
 use Prim.Native.Nat.{ℕ, zero, suc, _+_, _-_, _*_, _/_, _%_, _<_, _≤_}
 use native.Mathlib.Nat.{mod-lt}
 use native.Mathlib.Omega.{arith}
 use mathlib.Core.Path.{_≡_, refl, sym, ap, _∙_}
-use mathlib.Core.Bool.{Bool, true, false, not, cond, _||_, or-true}
+use mathlib.Core.Bool.{true, false, not, cond, or-true}
 use mathlib.Core.List.{List, [], _∷_}
 use lib.ListN.{length, getD}
+use borrow.Author.Tests.{not-false}
+use Rattle.number.proofs.Tests.{neither, alike}
 use Rattle.number.specs.declared.Number.{Number}
 use Rattle.number.specs.Number.{zeroNumber, inRange}
 use Rattle.words.specs.Word.{Factors}
@@ -23,17 +25,12 @@ unfolding inRange
 zero-in-range = refl
 
 module _ (z : Number) where
-  some-outside : (t u : Bool) → not t || u ≡ false → (t ≡ true) × (u ≡ false)
-  some-outside true false e = (refl, refl)
-  some-outside true true e = absurd (let h : _≡_ {A = ℕ} 0 1 = cc in omega arith)
-  some-outside false u e = absurd (let h : _≡_ {A = ℕ} 0 1 = cc in omega arith)
-
   -- none outside: each is in range
   pub outside-none : (L : List Number) → outside L ≡ false → (k : ℕ) → k < length L → inRange (getD L k z) ≡ true
   unfolding outside
   outside-none [] e k h = absurd (omega arith)
-  outside-none (a ∷ L) e zero h = some-outside (inRange a) (outside L) e .0
-  outside-none (a ∷ L) e (suc k) h = outside-none L (some-outside (inRange a) (outside L) e .1) k (omega arith)
+  outside-none (a ∷ L) e zero h = not-false (inRange a) (neither (not (inRange a)) (outside L) e .0)
+  outside-none (a ∷ L) e (suc k) h = outside-none L (neither (not (inRange a)) (outside L) e .1) k (omega arith)
 
   pub outside-all : (L : List Number) → ((k : ℕ) → k < length L → inRange (getD L k z) ≡ true) → outside L ≡ false
   unfolding outside
@@ -46,10 +43,14 @@ module _ (z : Number) where
   outside-some (a ∷ L) zero h e = rw e
   outside-some (a ∷ L) (suc k) h e = rw (outside-some L k (omega arith) e) (or-true (not (inRange a)))
 
-both-false : (t u : Bool) → (t ≡ false → u ≡ false) → (u ≡ false → t ≡ false) → t ≡ u
-both-false false u f g = sym (f refl)
-both-false true true f g = refl
-both-false true false f g = g refl
+-- FACTORS ROW BY ROW, all in range
+pub ranged-rows : (n : ℕ) (b : Factors Number) → ((i j : ℕ) → In n i → In n j → inRange (b i j) ≡ true) → outside (rowByRow n b) ≡ false
+ranged-rows n b r =
+    outside-all zeroNumber (rowByRow n b)
+    (λ x h.
+    let l : x < n * n = omega (arith, rowByRow-length n b) in
+    ap inRange (row-by-row-get zeroNumber n x l b)
+    ∙ r (suc (x / n)) (suc (x % n)) (omega arith, row-below n x l) (omega arith, mod-lt x (some-rows n x l)))
 
 -- TABLES
 module _ (n : ℕ) (b : Factors Number) (few : n ≤ 8) where
@@ -68,13 +69,8 @@ module _ (n : ℕ) (b : Factors Number) (few : n ≤ 8) where
 
   pub outside-table : outside (tableOf n b) ≡ outside (rowByRow n b)
   outside-table =
-      both-false (outside (tableOf n b)) (outside (rowByRow n b))
-      (λ e.
-      outside-all zeroNumber (rowByRow n b)
-      (λ x h.
-      let l : x < n * n = omega (arith, rowByRow-length n b) in
-      ap inRange (row-by-row-get zeroNumber n x l b)
-      ∙ factors-ranged e (suc (x / n)) (suc (x % n)) (omega arith, row-below n x l) (omega arith, mod-lt x (some-rows n x l))))
+      alike (outside (tableOf n b)) (outside (rowByRow n b))
+      (λ e. ranged-rows n b (factors-ranged e))
       (λ e.
       outside-all zeroNumber (tableOf n b)
       (λ x h.

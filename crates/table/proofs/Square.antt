@@ -8,7 +8,7 @@ use mathlib.Core.Path.{_≡_, sym, ap, ap₂, _∙_}
 use mathlib.Core.List.{List}
 use lib.ListN.{length, getD, take, set, replicate}
 use lib.Seq.{sets, take-all}
-use borrow.Author.Tests.{le-leb, lt-leb}
+use borrow.Author.Tests.{le-leb}
 use Rattle.arrays.proofs.Runs.{sets-next, take-sets-front}
 use Rattle.number.specs.declared.Number.{Number}
 use Rattle.number.specs.Number.{zeroNumber}
@@ -57,12 +57,6 @@ module _ (n : ℕ) (t : List Number) (few : n ≤ 8) where
 
 -- INTO A TABLE
 module _ (n : ℕ) (L : List Number) (k : ℕ) where
-  pub square-rows-end : n ≤ k / 8 → zeroNumber ≡ cellAt n (squareOf n L) k
-  square-rows-end h = rw (lt-leb (k / 8 + 1) n (omega arith))
-
-  pub square-columns-end : k / 8 < n → n ≤ k % 8 → zeroNumber ≡ cellAt n (squareOf n L) k
-  square-columns-end h g = rw (le-leb (k / 8 + 1) n (omega arith), lt-leb (k % 8 + 1) n (omega arith))
-
   module _ (few : n ≤ 8) (h : k / 8 < n) (g : k % 8 < n) where
     pub square-cell-below : k / 8 * n + k % 8 < 64
     square-cell-below = omega (arith, square-below n (k / 8) (k % 8) h g, mul-le-mul few few)

@@ -45,6 +45,13 @@ module _ (n : ℕ) where
   pub padded-in : (b : Factors Number) (i j : ℕ) → i ≤ n → j ≤ n → padded n b i j ≡ b i j
   padded-in b i j h g = rw (le-leb i n h, le-leb j n g)
 
+  -- a cell past the rows, and past the columns
+  pub past-rows : (b : Factors Number) (k : ℕ) → n ≤ k / 8 → zeroNumber ≡ cellAt n b k
+  past-rows b k h = rw (lt-leb (k / 8 + 1) n (omega arith))
+
+  pub past-columns : (b : Factors Number) (k : ℕ) → k / 8 < n → n ≤ k % 8 → zeroNumber ≡ cellAt n b k
+  past-columns b k h g = rw (le-leb (k / 8 + 1) n (omega arith), lt-leb (k % 8 + 1) n (omega arith))
+
   -- within the n rows and columns, or past them
   pub within-cases : (P : Bool → Type 0) (i j : ℕ) → 1 ≤ i → 1 ≤ j → (In n i → In n j → P true) → P false → P (leb i n && leb j n)
   within-cases P i j h g inside past = by (leb i n) (leb j n) refl refl

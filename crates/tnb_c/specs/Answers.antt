@@ -1,7 +1,7 @@
 -- What the calls for C and Rust answer. Nothing vouches for the shelf that such a caller hands over, so it is tested first (`checked`): on a good shelf the
 -- call is run (`run`, the one list of calls), any other is turned away with 255 (`foreign`). What a call does as a struct that C can hold: `answerOf`,
--- `lengthOf`, `valueOf`, `workedOf`, `statusOf`. Demand 3 of an answer: `Answered`; the promise of a carry: `SteadyStatus`; of a worked number: `LoggedAnswer`.
--- Any sequence of calls: `afterAnswers`.
+-- `lengthOf`, `valueOf`, `workedOf`, `statusOf`. Demand 3 of an answer: `Answered`; the promise of a build: `BuiltAnswer`; of a carry: `SteadyStatus`; of a
+-- worked number: `LoggedAnswer`. Any sequence of calls: `afterAnswers`.
 use Prim.Native.Nat.{ℕ}
 use mathlib.Core.Path.{_≡_}
 use mathlib.Core.Bool.{cond}
@@ -18,8 +18,8 @@ use Rattle.places.specs.declared.Shelf.{Shelf}
 use Rattle.places.specs.Check.{isGood}
 use Rattle.places.specs.Outcome.{Outcome}
 use Rattle.lists.specs.Promise.{NoMoreReversals}
-use Rattle.operations.specs.Promise.{Met}
-use Rattle.shelf.specs.Run.{Call, load, write, drop, product, inverse, converse, submatrix, transpose, minor, run, afterEach}
+use Rattle.operations.specs.Promise.{Met, Built}
+use Rattle.shelf.specs.Run.{Call, load, write, drop, product, inverse, converse, submatrix, transpose, build, minor, run, afterEach}
 use Rattle.shelf.specs.Run.{carry, reversals, arithmetic, rest, rows, factor}
 use Rattle.tnb_c.specs.declared.Answer.{Answer}
 use Rattle.tnb_c.specs.declared.Length.{Length}
@@ -40,6 +40,7 @@ foreign s (inverse p t) = turnedAway s [] []
 foreign s (converse p t) = turnedAway s [] []
 foreign s (submatrix p I J t) = turnedAway s [] []
 foreign s (transpose p t) = turnedAway s [] []
+foreign s (build t stamps) = turnedAway s [] []
 foreign s (minor p I J) = turnedAway s [] []
 foreign s (carry p items out) = turnedAway s [] out
 foreign s (reversals items) = turnedAway s [] []
@@ -92,10 +93,17 @@ workedOf r = record {
 abbrev pub statusOf : Report → Status
 statusOf r = record { number = numberOf r; offset = offsetOf r }
 
--- DEMAND 3 of the answer to an operation o on sources of n rows: where its number is 0, place t of the shelf that is handed back holds the result, within the
--- bound that is answered
+-- WHAT AN ANSWER PROMISES: where its number is 0, P of the shelf that is handed back and of the bound that is answered
+abbrev pub Promising : (Shelf → ℕ → Type 0) → Answer → Type 0
+Promising P a = a .number ≡ 0 → P (a .shelf) (a .bound)
+
+-- demand 3 of an operation o on sources of n rows: place t holds the result, within the bound
 abbrev pub Answered : Answer → (t n : ℕ) → Operation Number → Type 0
-Answered a t n o = a .number ≡ 0 → Met (a .shelf) t n o (a .bound)
+Answered a t n o = Promising (λ s k. Met s t n o k) a
+
+-- a build (document 02, request (a)): place t holds the factors of the stamps, within the bound
+abbrev pub BuiltAnswer : Answer → (t : ℕ) → (stamps : List ℕ) → Type 0
+BuiltAnswer a t stamps = Promising (λ s k. Built s t stamps k) a
 
 -- THE PROMISE OF A CARRY (document 02, request (b)): where its number is 0, the list that was written has no more reversals than the list that was given
 abbrev pub SteadyStatus : Status → (given out : List ℤ) → Type 0

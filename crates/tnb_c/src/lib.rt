@@ -7,8 +7,8 @@ ghost use Rattle.places.specs.Shelf.{emptyShelf, rowsAt};
 ghost use Rattle.lists.specs.Lists.{reversalsCall};
 ghost use Rattle.arithmetic.specs.Arithmetic.{arithmeticCall};
 ghost use Rattle.operations.specs.Operations.{productAt, inverseAt, converseAt, submatrixAt};
-ghost use Rattle.shelf.specs.Run.{load, drop, write, product, inverse, converse, submatrix, transpose, minor, carry, rows, factor};
-ghost use Rattle.tnb_c.specs.Answers.{checked, answerOf, lengthOf, valueOf, workedOf, statusOf, Answered, SteadyStatus, LoggedAnswer};
+ghost use Rattle.shelf.specs.Run.{load, drop, write, product, inverse, converse, submatrix, transpose, build, minor, carry, rows, factor};
+ghost use Rattle.tnb_c.specs.Answers.{checked, answerOf, lengthOf, valueOf, workedOf, statusOf, Answered, BuiltAnswer, SteadyStatus, LoggedAnswer};
 use arithmetic::Operator;
 use places::Shelf;
 use places::check;
@@ -162,6 +162,18 @@ pub extern "C" fn tnb_transpose(shelf: Shelf, source: usize, target: usize) -> A
 {
     if check::is_good(shelf) {
         return answers::operated(operations::transpose(shelf, source, target));
+    }
+    answers::foreign(shelf)
+}
+
+// The matrix whose row i holds the powers 0 to n - 1 of stamp i, from n time stamps, 1 to 8, to an empty place.
+#[no_mangle]
+pub extern "C" fn tnb_build(shelf: Shelf, target: usize, stamps: &[u64]) -> Answer
+    ensures { λ r. ⌜ r ≡ answerOf (checked shelf (build target (now (stamps .entry)))) ⌝ }
+    ensures { λ r. ⌜ BuiltAnswer r target (now (stamps .entry)) ⌝ }
+{
+    if check::is_good(shelf) {
+        return answers::operated(operations::build(shelf, target, stamps));
     }
     answers::foreign(shelf)
 }

@@ -10,12 +10,12 @@ use Rattle.lines.specs.Text.{Puts}
 use Rattle.rests.specs.declared.Operator.the-variants as Operator
 use Rattle.places.specs.declared.Shelf.{Shelf}
 use Rattle.places.specs.Outcome.{Outcome}
-use Rattle.shelf.specs.Run.{run, load, write, drop, product, inverse, converse, transpose, submatrix, minor, carry, reversals, arithmetic, rest}
+use Rattle.shelf.specs.Run.{run, load, write, drop, product, inverse, converse, transpose, submatrix, build, minor, carry, reversals, arithmetic, rest}
 use Rattle.answers.specs.Answers.{reportText, workedText, withBytes, badText}
 use Rattle.answers.specs.Items.{withItems}
 use Rattle.tnb_console.specs.declared.calls.Answered.{Answered}
 use Rattle.requests.specs.declared.commands.Command.{Command}
-use Rattle.requests.specs.declared.commands.Command.the-variants.{Load, Write, Drop, Product, Inverse, Converse, Transpose, Submatrix}
+use Rattle.requests.specs.declared.commands.Command.the-variants.{Load, Write, Drop, Product, Inverse, Converse, Transpose, Submatrix, Build}
 use Rattle.requests.specs.declared.commands.Command.the-variants.{Minor, Carry, Reversals, Add, Multiply, Divide, Rest, Show, Bad}
 use Rattle.requests.specs.Requests.{Asked}
 use Rattle.tnb_console.specs.Calls.{lentCount, lentBytes, lentItems, showText}
@@ -52,26 +52,27 @@ reply s text = record { shelf = s; text = text }
 abbrev pub mask : ℕ → ℕ
 mask n = n % 256
 
--- THE CONSOLE'S WORDS, each with its numbers v, bytes and items
-unfoldable pub replyBy : Shelf → Command → (v bytes : List ℕ) → List ℤ → Reply
-replyBy s Load v bytes items = told (ascii "loaded") (run s (load (getD v 0 0) bytes))
-replyBy s Write v bytes items = toldBytes (ascii "wrote") (run s (write (getD v 0 0) (lentBytes (lentCount (getD v 1 0)))))
-replyBy s Drop v bytes items = told (ascii "dropped") (run s (drop (getD v 0 0)))
-replyBy s Product v bytes items = told (ascii "bound") (run s (product (getD v 0 0) (getD v 1 0) (getD v 2 0)))
-replyBy s Inverse v bytes items = told (ascii "bound") (run s (inverse (getD v 0 0) (getD v 1 0)))
-replyBy s Converse v bytes items = told (ascii "bound") (run s (converse (getD v 0 0) (getD v 1 0)))
-replyBy s Transpose v bytes items = told (ascii "bound") (run s (transpose (getD v 0 0) (getD v 1 0)))
-replyBy s Submatrix v bytes items = told (ascii "bound") (run s (submatrix (getD v 0 0) (mask (getD v 1 0)) (mask (getD v 2 0)) (getD v 3 0)))
-replyBy s Minor v bytes items = told (ascii "number") (run s (minor (getD v 0 0) (mask (getD v 1 0)) (mask (getD v 2 0))))
-replyBy s Carry v bytes items = toldItems (ascii "carried") (run s (carry (getD v 0 0) items (lentItems (lentCount (getD v 1 0)))))
-replyBy s Reversals v bytes items = told (ascii "reversals") (run s (reversals items))
-replyBy s Add v bytes items = toldWorked (run s (arithmetic Operator.Add items))
-replyBy s Multiply v bytes items = toldWorked (run s (arithmetic Operator.Multiply items))
-replyBy s Divide v bytes items = toldWorked (run s (arithmetic Operator.Divide items))
-replyBy s Rest v bytes items = toldBytes (ascii "rest") (run s (rest bytes))
-replyBy s Show v bytes items = reply s (showText s (getD v 0 0))
-replyBy s Bad v bytes items = reply s badText
+-- THE CONSOLE'S WORDS, each with its numbers v, bytes, items and whole numbers
+unfoldable pub replyBy : Shelf → Command → (v bytes : List ℕ) → List ℤ → (wholes : List ℕ) → Reply
+replyBy s Load v bytes items wholes = told (ascii "loaded") (run s (load (getD v 0 0) bytes))
+replyBy s Write v bytes items wholes = toldBytes (ascii "wrote") (run s (write (getD v 0 0) (lentBytes (lentCount (getD v 1 0)))))
+replyBy s Drop v bytes items wholes = told (ascii "dropped") (run s (drop (getD v 0 0)))
+replyBy s Product v bytes items wholes = told (ascii "bound") (run s (product (getD v 0 0) (getD v 1 0) (getD v 2 0)))
+replyBy s Inverse v bytes items wholes = told (ascii "bound") (run s (inverse (getD v 0 0) (getD v 1 0)))
+replyBy s Converse v bytes items wholes = told (ascii "bound") (run s (converse (getD v 0 0) (getD v 1 0)))
+replyBy s Transpose v bytes items wholes = told (ascii "bound") (run s (transpose (getD v 0 0) (getD v 1 0)))
+replyBy s Submatrix v bytes items wholes = told (ascii "bound") (run s (submatrix (getD v 0 0) (mask (getD v 1 0)) (mask (getD v 2 0)) (getD v 3 0)))
+replyBy s Build v bytes items wholes = told (ascii "bound") (run s (build (getD v 0 0) wholes))
+replyBy s Minor v bytes items wholes = told (ascii "number") (run s (minor (getD v 0 0) (mask (getD v 1 0)) (mask (getD v 2 0))))
+replyBy s Carry v bytes items wholes = toldItems (ascii "carried") (run s (carry (getD v 0 0) items (lentItems (lentCount (getD v 1 0)))))
+replyBy s Reversals v bytes items wholes = told (ascii "reversals") (run s (reversals items))
+replyBy s Add v bytes items wholes = toldWorked (run s (arithmetic Operator.Add items))
+replyBy s Multiply v bytes items wholes = toldWorked (run s (arithmetic Operator.Multiply items))
+replyBy s Divide v bytes items wholes = toldWorked (run s (arithmetic Operator.Divide items))
+replyBy s Rest v bytes items wholes = toldBytes (ascii "rest") (run s (rest bytes))
+replyBy s Show v bytes items wholes = reply s (showText s (getD v 0 0))
+replyBy s Bad v bytes items wholes = reply s badText
 
 -- a request
 unfoldable pub replyTo : Shelf → Asked → Reply
-replyTo s a = replyBy s (a .command) (a .values) (a .bytes) (a .items)
+replyTo s a = replyBy s (a .command) (a .values) (a .bytes) (a .items) (a .wholes)

@@ -27,7 +27,7 @@ pub fn bad(out: &mut [u8], at: usize) -> usize
     answers::put_bad(out, at)
 }
 
-// The first bytes of a buffer, and the first items of a list.
+// The first bytes of a buffer, the first items of a list, and its first whole numbers.
 fn some_bytes(bytes: &[u8], count: usize) -> &[u8]
     ensures { λ r. ⌜ now r ≡ take count (now (bytes .entry)) ⌝ }
 {
@@ -46,19 +46,30 @@ fn some_items(list: &[i64], count: usize) -> &[i64]
     &list[0..count * 3]
 }
 
-// The answer to a call with its numbers, bytes and items. A number is a place, a length to lend, or a mask of rows or columns.
+fn some_wholes(list: &[u64], count: usize) -> &[u64]
+    ensures { λ r. ⌜ now r ≡ take count (now (list .entry)) ⌝ }
+{
+    if list.len() < count {
+        return list;
+    }
+    &list[0..count]
+}
+
+// The answer to a call with its numbers, bytes, items and whole numbers. A number is a place, a length to lend, or a mask of rows or columns.
 fn to_command(
     shelf: Shelf,
     command: Command,
     v: [usize; 4],
     bytes: &[u8],
     list: &[i64],
+    wholes: &[u64],
     out: &mut [u8],
     at: usize,
 ) -> Answered
     requires { ⌜ Good shelf ⌝ }
     ensures { λ r. ⌜ Good (r .shelf) ⌝ }
-    ensures { λ r. ⌜ Replied (replyBy shelf command v (now (bytes .entry)) (now (list .entry))) (now (out .entry)) at (now (out .exit)) r ⌝ }
+    ensures { λ r. ⌜ Replied (replyBy shelf command v (now (bytes .entry)) (now (list .entry)) (now (wholes .entry)))
+        (now (out .entry)) at (now (out .exit)) r ⌝ }
 {
     let a = v[0];
     let b = v[1];
@@ -75,6 +86,7 @@ fn to_command(
         Command::Converse => calls::operated(shelf::converse(shelf, a, b), out, at),
         Command::Transpose => calls::operated(shelf::transpose(shelf, a, b), out, at),
         Command::Submatrix => calls::operated(shelf::submatrix(shelf, a, rows, cols, d), out, at),
+        Command::Build => calls::operated(shelf::build(shelf, a, wholes), out, at),
         Command::Minor => calls::minor(shelf, a, rows, cols, out, at),
         Command::Carry => calls::carry(shelf, a, b, list, out, at),
         Command::Reversals => calls::reversals(shelf, list, out, at),
@@ -93,23 +105,27 @@ fn to_request(
     request: Request,
     bytes: &[u8; 2048],
     list: &[i64; 48],
+    wholes: &[u64; 16],
     out: &mut [u8],
     at: usize,
 ) -> Answered
     requires { ⌜ Good shelf ⌝ }
     ensures { λ r. ⌜ Good (r .shelf) ⌝ }
-    ensures { λ r. ⌜ Replied (replyTo shelf (asked request (now (bytes .entry)) (now (list .entry)))) (now (out .entry)) at (now (out .exit)) r ⌝ }
+    ensures { λ r. ⌜ Replied (replyTo shelf (asked request (now (bytes .entry)) (now (list .entry)) (now (wholes .entry))))
+        (now (out .entry)) at (now (out .exit)) r ⌝ }
 {
     let command = request.command;
     let v = request.values;
     let count = request.bytes;
     let items = request.items;
+    let numbers = request.wholes;
     to_command(
         shelf,
         command,
         v,
         some_bytes(bytes, count),
         some_items(list, items),
+        some_wholes(wholes, numbers),
         out,
         at,
     )
@@ -123,6 +139,7 @@ pub fn to_line(shelf: Shelf, line: &[u8], out: &mut [u8], at: usize) -> Answered
 {
     let mut bytes = [0u8; 2048];
     let mut list = [0i64; 48];
-    let request = requests::of_line(line, &mut bytes, &mut list);
-    to_request(shelf, request, &bytes, &list, out, at)
+    let mut wholes = [0u64; 16];
+    let request = requests::of_line(line, &mut bytes, &mut list, &mut wholes);
+    to_request(shelf, request, &bytes, &list, &wholes, out, at)
 }

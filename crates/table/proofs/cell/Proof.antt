@@ -1,7 +1,9 @@
 -- `cell` meets its contract: a row or a column past the n rows, or a factor, which stands below 64 (below).
 use Prim.Native.Nat.{_+_, _*_, _/_, _%_, _<_}
 use native.Mathlib.Omega.{arith}
-use Rattle.table.proofs.Square.{square-rows-end, square-columns-end, square-cell-below, square-cell}
+use Rattle.table.specs.Table.{squareOf}
+use Rattle.table.proofs.Square.{square-cell-below, square-cell}
+use Rattle.table.proofs.Table.{past-rows, past-columns}
 use mathlib.Core.Path.{_∙_}
 use borrow.Author.Needs.{needs}
 use Rattle.table.proofs.cell.Statement.{statement}
@@ -14,14 +16,17 @@ zero-requires : tie.Need-zero-requires
 zero-requires c κs = search needs
 
 returns : tie.Need-returns
-returns c = c .zero .ensures ∙ square-rows-end _ (c .before .before .args .t1) _ (c .before .if1 .taken)
+returns c =
+    let a = c .before .before .args in
+    c .zero .ensures ∙ past-rows (a .n) (squareOf (a .n) (a .t1)) (a .k) (c .before .if1 .taken)
 
 zero-requires-2 : tie.Need-zero-requires-2
 zero-requires-2 c κs = search needs
 
 returns-2 : tie.Need-returns-2
 returns-2 c =
-    c .zero2 .ensures ∙ square-columns-end _ (c .before .before .before .args .t1) _ (c .before .before .if1 .left) (c .before .if2 .taken)
+    let a = c .before .before .before .args in
+    c .zero2 .ensures ∙ past-columns (a .n) (squareOf (a .n) (a .t1)) (a .k) (c .before .before .if1 .left) (c .before .if2 .taken)
 
 mul-result : tie.Need-mul-result
 mul-result c = record { fits = omega (arith, below c) }

@@ -1,21 +1,23 @@
 -- `requests::items::read` meets its contract. The loop's invariant: the words passed are items, and their numbers stand in the list.
 use Prim.Native.Nat.{_-_}
 use native.Mathlib.Omega.{arith}
-use mathlib.Core.Path.{sym, _∙_}
+use mathlib.Core.Path.{sym, ap, _∙_}
 use lib.ListN.{length-set}
-use Rattle.requests.proofs.Listed.{held, Passed, passed-none, passed-end, passed-many, passed-other, passed-more}
+use Rattle.requests.specs.Items.{threeNumbers, itemNumbers}
+use Rattle.requests.proofs.Triples.{held, passed-item}
+use Rattle.requests.proofs.Listed.{Passed, passed-none, passed-end, passed-many, passed-other}
 use borrow.Author.Needs.{needs}
 use Rattle.requests.proofs.items.read.Statement.{statement}
 use Rattle.requests.proofs.items.read.Tie as tie
 
 abbrev Inv-loop : tie.InvT-loop
-Inv-loop line at list₀ next₀ count₀ list next count = Passed line at list₀ list next count
+Inv-loop line at list₀ next₀ count₀ list next count = Passed itemNumbers 3 line at list₀ list next count
 
 abbrev μ-loop : tie.MeasureT-loop
 μ-loop line at list₀ next₀ count₀ list next count = 16 - count
 
 loop-holds : tie.Need-loop-holds Inv-loop μ-loop
-loop-holds c = passed-none _ _ _ (c .before .pre)
+loop-holds c = passed-none (c .before .pre)
 
 same-length : tie.Need-same-length Inv-loop μ-loop
 same-length c = search needs
@@ -74,7 +76,7 @@ same-length-2 c = search needs
 returns-2 : tie.Need-returns-2 Inv-loop μ-loop
 returns-2 c =
     passed-other (c .before .before .before .before .before .before .loop .inv) (omega arith) (omega arith)
-    (sym (rw (c .before .before .before .word .ensures) at (c .before .before .spelled-item .ensures)) ∙ c .enum-told .given .1)
+    (ap threeNumbers (sym (rw (c .before .before .before .word .ensures) at (c .before .before .spelled-item .ensures)) ∙ c .enum-told .given .1))
 
 next-word-requires : tie.Need-next-word-requires Inv-loop μ-loop
 next-word-requires c κs = search needs
@@ -91,7 +93,7 @@ loop-again c =
     let is = sym (rw (c .before .before .before .before .before .word .ensures) at (c .before .before .before .before .spelled-item .ensures))
     ∙ c .before .before .item .given .1 in
     rw (c .next-word .ensures)
-    (passed-more (c .before .before .before .before .before .before .before .before .loop .inv) (omega arith) (omega arith) _ _ _
+    (passed-item (c .before .before .before .before .before .before .before .before .loop .inv) (omega arith) (omega arith) _ _ _
     (rw (held (told .0 .1), held (told .1 .0 .1), held (told .1 .1 .0 .1)) is))
 
 same-length-3 : tie.Need-same-length-3 Inv-loop μ-loop

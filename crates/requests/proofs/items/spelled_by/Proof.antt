@@ -1,5 +1,5 @@
 -- `requests::items::spelled_by` meets its contract.
-use Rattle.requests.proofs.Listed.{held}
+use Rattle.requests.proofs.Triples.{held}
 use borrow.Author.Needs.{needs}
 use Rattle.requests.proofs.items.spelled_by.Statement.{statement}
 use Rattle.requests.proofs.items.spelled_by.Tie as tie

@@ -1,7 +1,7 @@
 -- `requests::items::spelled_item` meets its contract.
 use denote.Ref.{now}
 use mathlib.Core.Path.{_∙_}
-use Rattle.requests.proofs.Listed.{item-is}
+use Rattle.requests.proofs.Triples.{item-is}
 use borrow.Author.Needs.{needs}
 use Rattle.requests.proofs.items.spelled_item.Statement.{statement}
 use Rattle.requests.proofs.items.spelled_item.Tie as tie

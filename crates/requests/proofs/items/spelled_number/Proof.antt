@@ -1,7 +1,7 @@
 -- `requests::items::spelled_number` meets its contract.
 use mathlib.Core.Path.{ap, _∙_}
 use Rattle.requests.specs.declared.items.ReadNumber.the-variants as number
-use Rattle.requests.proofs.Listed.{held-plus, held-minus}
+use Rattle.requests.proofs.Triples.{held-plus, held-minus}
 use borrow.Author.Needs.{needs}
 use Rattle.requests.proofs.items.spelled_number.Statement.{statement}
 use Rattle.requests.proofs.items.spelled_number.Tie as tie

@@ -23,7 +23,7 @@ with-tail-requires c κs = search needs
 
 returns : tie.Need-returns
 returns c =
-    let read = c .before .before .before in
+    let read = c .before .before .before .before in
     let form = read .before .before .before in
     c .with-tail .ensures
     ∙ request-is _ (form .form-of .result) (read .before .next-word .result) _

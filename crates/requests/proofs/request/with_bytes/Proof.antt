@@ -16,7 +16,7 @@ returns : tie.Need-returns
 returns c =
     let a = c .before .before .before .before .before .args in
     let more = rw (c .before .before .next-word .ensures) at (c .before .if1 .taken) in
-    λ list. c .bad .ensures _ list ∙ bytes-more (a .command) (a .values) (now (a .line)) (a .at) more
+    λ list wholes. c .bad .ensures _ list wholes ∙ bytes-more (a .command) (a .values) (now (a .line)) (a .at) more
 
 word-requires : tie.Need-word-requires
 word-requires c κs = search needs
@@ -43,7 +43,7 @@ returns-2 c =
     let test = c .before .before .before .before .before .before .before .before in
     let past = rw (test .before .next-word .ensures) at (test .if1 .left) in
     let is = sym (rw w at (c .before .before .before .before .before .read-bytes .ensures .0)) ∙ c .before .read .given .1 in
-    λ list. rw (rw w at (c .before .before .before .before .before .read-bytes .ensures .1))
+    λ list wholes. rw (rw w at (c .before .before .before .before .before .read-bytes .ensures .1))
     (bytes-read (a .command) (a .values) (now (a .line)) (a .at) past (now (a .bytes))
     (c .before .before .before .before .before .before .before .before .before .before .before .before .pre) _ is)
 
@@ -57,7 +57,7 @@ returns-3 c =
     let test = c .before .before .before .before .before .before .before .before in
     let past = rw (test .before .next-word .ensures) at (test .if1 .left) in
     let is = sym (rw w at (c .before .before .before .before .before .read-bytes .ensures .0)) ∙ c .before .enum-told .given .1 in
-    λ list. c .bad2 .ensures _ list ∙ bytes-other (a .command) (a .values) (now (a .line)) (a .at) past (now (a .bytes))
+    λ list wholes. c .bad2 .ensures _ list wholes ∙ bytes-other (a .command) (a .values) (now (a .line)) (a .at) past (now (a .bytes))
     (c .before .before .before .before .before .before .before .before .before .before .before .before .pre) is
 
 pub with-bytes-spec : {M : Type 1} → statement M

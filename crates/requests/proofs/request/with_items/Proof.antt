@@ -21,13 +21,15 @@ same-length : tie.Need-same-length
 same-length c = search needs
 
 returns : tie.Need-returns
-returns c = λ bytes. ap (withList _ _) (rw (c .before .read2 .given .1) at (c .before .before .before .before .read .ensures))
+returns c = λ bytes wholes. ap (withList _) (rw (c .before .read2 .given .1) at (c .before .before .before .before .read .ensures))
 
 same-length-2 : tie.Need-same-length-2
 same-length-2 c = search needs
 
 returns-2 : tie.Need-returns-2
-returns-2 c = λ bytes. c .bad .ensures bytes _ ∙ ap (withList _ _) (rw (c .before .enum-told .given .1) at (c .before .before .before .before .read .ensures))
+returns-2 c =
+    λ bytes wholes. c .bad .ensures bytes _ wholes
+    ∙ ap (withList _) (rw (c .before .enum-told .given .1) at (c .before .before .before .before .read .ensures))
 
 pub with-items-spec : {M : Type 1} → statement M
 with-items-spec =

@@ -18,7 +18,8 @@ same-length c = search needs
 returns : tie.Need-returns
 returns c =
     let call = c .before .before .before .before in
-    λ bytes. c .bad .ensures bytes _ ∙ two-other _ _ _ (call .with-items .result) bytes _ (search needs) (call .with-items .ensures bytes) (λ e. omega arith)
+    λ bytes wholes. c .bad .ensures bytes _ wholes
+    ∙ two-other _ _ _ (call .with-items .result) bytes _ wholes (search needs) (call .with-items .ensures bytes wholes) (λ e. omega arith)
 
 same-length-2 : tie.Need-same-length-2
 same-length-2 c = search needs
@@ -26,7 +27,7 @@ same-length-2 c = search needs
 returns-2 : tie.Need-returns-2
 returns-2 c =
     let call = c .before .before .before in
-    λ bytes. two-read _ _ _ (call .with-items .result) bytes _ (search needs) (call .with-items .ensures bytes) (omega arith)
+    λ bytes wholes. two-read _ _ _ (call .with-items .result) bytes _ wholes (search needs) (call .with-items .ensures bytes wholes) (omega arith)
 
 pub with-two-spec : {M : Type 1} → statement M
 with-two-spec =

@@ -92,53 +92,62 @@ operated-requires-5 c κs = search needs
 enum-told-9 : tie.Need-enum-told-9
 enum-told-9 c = search needs
 
-minor-requires : tie.Need-minor-requires
-minor-requires c κs = search needs
+build-requires : tie.Need-build-requires
+build-requires c κs = search needs
+
+operated-requires-6 : tie.Need-operated-requires-6
+operated-requires-6 c κs = search needs
 
 enum-told-10 : tie.Need-enum-told-10
 enum-told-10 c = search needs
 
-carry-requires : tie.Need-carry-requires
-carry-requires c κs = search needs
+minor-requires : tie.Need-minor-requires
+minor-requires c κs = search needs
 
 enum-told-11 : tie.Need-enum-told-11
 enum-told-11 c = search needs
 
-reversals-requires : tie.Need-reversals-requires
-reversals-requires c κs = search needs
+carry-requires : tie.Need-carry-requires
+carry-requires c κs = search needs
 
 enum-told-12 : tie.Need-enum-told-12
 enum-told-12 c = search needs
 
-arithmetic-requires : tie.Need-arithmetic-requires
-arithmetic-requires c κs = search needs
+reversals-requires : tie.Need-reversals-requires
+reversals-requires c κs = search needs
 
 enum-told-13 : tie.Need-enum-told-13
 enum-told-13 c = search needs
 
-arithmetic-requires-2 : tie.Need-arithmetic-requires-2
-arithmetic-requires-2 c κs = search needs
+arithmetic-requires : tie.Need-arithmetic-requires
+arithmetic-requires c κs = search needs
 
 enum-told-14 : tie.Need-enum-told-14
 enum-told-14 c = search needs
 
-arithmetic-requires-3 : tie.Need-arithmetic-requires-3
-arithmetic-requires-3 c κs = search needs
+arithmetic-requires-2 : tie.Need-arithmetic-requires-2
+arithmetic-requires-2 c κs = search needs
 
 enum-told-15 : tie.Need-enum-told-15
 enum-told-15 c = search needs
 
-rest-requires : tie.Need-rest-requires
-rest-requires c κs = search needs
+arithmetic-requires-3 : tie.Need-arithmetic-requires-3
+arithmetic-requires-3 c κs = search needs
 
 enum-told-16 : tie.Need-enum-told-16
 enum-told-16 c = search needs
 
-show-requires : tie.Need-show-requires
-show-requires c κs = search needs
+rest-requires : tie.Need-rest-requires
+rest-requires c κs = search needs
 
 enum-told-17 : tie.Need-enum-told-17
 enum-told-17 c = search needs
+
+show-requires : tie.Need-show-requires
+show-requires c κs = search needs
+
+enum-told-18 : tie.Need-enum-told-18
+enum-told-18 c = search needs
 
 bad-requires : tie.Need-bad-requires
 bad-requires c κs = search needs
@@ -228,11 +237,11 @@ same-length-9 : tie.Need-same-length-9
 same-length-9 c = search needs
 
 returns-9 : tie.Need-returns-9
-unfolding replyBy
+unfolding replyBy run
 returns-9 c =
-    let masks = c .before .before .before .before .before .before in
-    let call = rw (masks .before .mask .ensures, masks .mask2 .ensures) at (c .before .before .minor .ensures .1) in
-    (c .before .before .minor .ensures .0, rw (c .before .before .before .before .enum-told9 .given .1) call)
+    let call = c .before .before .before .before .build .ensures .0 in
+    let reply = c .before .before .operated6 .ensures in
+    (reply .0, rw (c .before .before .before .before .before .enum-told9 .given .1) (told-as (ascii "bound") _ call (reply .1)))
 
 same-length-10 : tie.Need-same-length-10
 same-length-10 c = search needs
@@ -240,8 +249,9 @@ same-length-10 c = search needs
 returns-10 : tie.Need-returns-10
 unfolding replyBy
 returns-10 c =
-    let call = c .before .before .carry .ensures in
-    (call .0, rw (c .before .before .before .before .enum-told10 .given .1) (call .1))
+    let masks = c .before .before .before .before .before .before in
+    let call = rw (masks .before .mask .ensures, masks .mask2 .ensures) at (c .before .before .minor .ensures .1) in
+    (c .before .before .minor .ensures .0, rw (c .before .before .before .before .enum-told10 .given .1) call)
 
 same-length-11 : tie.Need-same-length-11
 same-length-11 c = search needs
@@ -249,7 +259,7 @@ same-length-11 c = search needs
 returns-11 : tie.Need-returns-11
 unfolding replyBy
 returns-11 c =
-    let call = c .before .before .reversals .ensures in
+    let call = c .before .before .carry .ensures in
     (call .0, rw (c .before .before .before .before .enum-told11 .given .1) (call .1))
 
 same-length-12 : tie.Need-same-length-12
@@ -258,7 +268,7 @@ same-length-12 c = search needs
 returns-12 : tie.Need-returns-12
 unfolding replyBy
 returns-12 c =
-    let call = c .before .before .arithmetic .ensures in
+    let call = c .before .before .reversals .ensures in
     (call .0, rw (c .before .before .before .before .enum-told12 .given .1) (call .1))
 
 same-length-13 : tie.Need-same-length-13
@@ -267,7 +277,7 @@ same-length-13 c = search needs
 returns-13 : tie.Need-returns-13
 unfolding replyBy
 returns-13 c =
-    let call = c .before .before .arithmetic2 .ensures in
+    let call = c .before .before .arithmetic .ensures in
     (call .0, rw (c .before .before .before .before .enum-told13 .given .1) (call .1))
 
 same-length-14 : tie.Need-same-length-14
@@ -276,7 +286,7 @@ same-length-14 c = search needs
 returns-14 : tie.Need-returns-14
 unfolding replyBy
 returns-14 c =
-    let call = c .before .before .arithmetic3 .ensures in
+    let call = c .before .before .arithmetic2 .ensures in
     (call .0, rw (c .before .before .before .before .enum-told14 .given .1) (call .1))
 
 same-length-15 : tie.Need-same-length-15
@@ -285,7 +295,7 @@ same-length-15 c = search needs
 returns-15 : tie.Need-returns-15
 unfolding replyBy
 returns-15 c =
-    let call = c .before .before .rest .ensures in
+    let call = c .before .before .arithmetic3 .ensures in
     (call .0, rw (c .before .before .before .before .enum-told15 .given .1) (call .1))
 
 same-length-16 : tie.Need-same-length-16
@@ -294,7 +304,7 @@ same-length-16 c = search needs
 returns-16 : tie.Need-returns-16
 unfolding replyBy
 returns-16 c =
-    let call = c .before .before .show .ensures in
+    let call = c .before .before .rest .ensures in
     (call .0, rw (c .before .before .before .before .enum-told16 .given .1) (call .1))
 
 same-length-17 : tie.Need-same-length-17
@@ -303,8 +313,17 @@ same-length-17 c = search needs
 returns-17 : tie.Need-returns-17
 unfolding replyBy
 returns-17 c =
+    let call = c .before .before .show .ensures in
+    (call .0, rw (c .before .before .before .before .enum-told17 .given .1) (call .1))
+
+same-length-18 : tie.Need-same-length-18
+same-length-18 c = search needs
+
+returns-18 : tie.Need-returns-18
+unfolding replyBy
+returns-18 c =
     let told = c .before .before .before .before .before in
-    (c .after .ensures .0, rw (told .enum-told17 .given .1) (replied refl (c .after .ensures .1) (c .before .before .before .bad .ensures)))
+    (c .after .ensures .0, rw (told .enum-told18 .given .1) (replied refl (c .after .ensures .1) (c .before .before .before .bad .ensures)))
 
 pub to-command-spec : {M : Type 1} → statement M
 to-command-spec =
@@ -338,22 +357,25 @@ to-command-spec =
     submatrix-requires
     operated-requires-5
     enum-told-9
-    minor-requires
+    build-requires
+    operated-requires-6
     enum-told-10
-    carry-requires
+    minor-requires
     enum-told-11
-    reversals-requires
+    carry-requires
     enum-told-12
-    arithmetic-requires
+    reversals-requires
     enum-told-13
-    arithmetic-requires-2
+    arithmetic-requires
     enum-told-14
-    arithmetic-requires-3
+    arithmetic-requires-2
     enum-told-15
-    rest-requires
+    arithmetic-requires-3
     enum-told-16
-    show-requires
+    rest-requires
     enum-told-17
+    show-requires
+    enum-told-18
     bad-requires
     after-requires
     same-length
@@ -389,4 +411,6 @@ to-command-spec =
     same-length-16
     returns-16
     same-length-17
-    returns-17)
+    returns-17
+    same-length-18
+    returns-18)

@@ -15,7 +15,7 @@ same-length c = search needs
 returns : tie.Need-returns
 returns c =
     let answered = c .before .before .to-request .ensures in
-    (answered .0, rw (c .before .before .before .before .before .before .of-line .ensures) at (answered .1))
+    (answered .0, rw (c .before .before .before .before .before .before .before .of-line .ensures) at (answered .1))
 
 pub to-line-spec : {M : Type 1} → statement M
 to-line-spec = tie.close (tie.spec of-line-requires to-request-requires same-length returns)

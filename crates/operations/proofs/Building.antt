@@ -1,0 +1,93 @@
+-- A PLACE FILLED FROM TIME STAMPS. Where the tests passed, the factors fit the place (`build-fits`), and so the shelf stays good (`build-good`) and what is
+-- promised of the stamps holds (`build-done`). No exponent is out of range: with 14 tested behind 15 the verdict would be the same (`build-ranged`).
+use Prim.Native.Nat.{ℕ, _<_}
+use mathlib.Core.Path.{_≡_, refl, sym, ap, ap₂, _∙_}
+use mathlib.Core.Bool.{Bool, false}
+use mathlib.Core.List.{List, [], _∷_, _++_}
+use lib.ListN.{length}
+use Rattle.number.specs.declared.Number.{Number}
+use Rattle.words.specs.Word.{Factors}
+use Rattle.words.specs.Operation.{rowByRow}
+use Rattle.table.specs.Table.{tableOf, outside}
+use Rattle.stamps.specs.Stamps.{mistimed, builtFactors, stampBound}
+use Rattle.stamps.proofs.Timed.{timed}
+use Rattle.stamps.proofs.Rounded.{stamped, stamps-ranged}
+use Rattle.verdict.specs.declared.Refusal.{Refusal}
+use Rattle.verdict.specs.declared.Verdict.{Verdict}
+use Rattle.verdict.specs.declared.Verdict.the-variants.{Accepted, Refused}
+use Rattle.verdict.specs.Verdict.{firstOf, orElse, when}
+use Rattle.verdict.proofs.Verdicts.{first-last, first-passed, when-passed}
+use Rattle.places.specs.declared.Shelf.{Shelf}
+use Rattle.places.specs.Shelf.{holding, Fits, Good}
+use Rattle.places.specs.Tests.{targetTests}
+use Rattle.places.proofs.Holding.{fits-table}
+use Rattle.places.proofs.Verdicts.{target-accepted}
+use Rattle.operations.specs.declared.Proposed.{Proposed}
+use Rattle.operations.specs.declared.Operated.{Operated}
+use Rattle.operations.specs.declared.Bounded.the-variants as bound
+use Rattle.operations.specs.Operations.{buildTests, buildCall}
+use Rattle.operations.specs.Reports.{operatedOutcome}
+use Rattle.operations.specs.Proposed.{turnedDown, proposal, buildProposal, kept, Keepable}
+use Rattle.operations.specs.Promise.{Built, BuildPromised}
+use Rattle.operations.proofs.Proposals.{result-answered, result-good, result-held, result-done}
+
+module _ (s : Shelf) (t : ℕ) (stamps : List ℕ) where
+  abbrev n : ℕ
+  n = length stamps
+
+  abbrev b : Factors Number
+  b = builtFactors stamps
+
+  abbrev verdict : Verdict
+  verdict = firstOf (buildTests s t stamps)
+
+  pub build-accepted : firstOf (buildTests s t stamps) ≡ Accepted → (t < 8) × (mistimed stamps ≡ false)
+  build-accepted e =
+      let a = first-passed (targetTests s t) (when (mistimed stamps) 15) e in
+      (target-accepted s t (a .0) .small, when-passed (mistimed stamps) 15 (a .1))
+
+  build-fits : verdict ≡ Accepted → (t < 8) × Fits n (tableOf n b)
+  build-fits e =
+      let a = build-accepted e in
+      (a .0, fits-table n b (timed stamps (a .1) .few) (stamped stamps (a .1) .stored))
+
+  -- 14 CANNOT OCCUR
+  pub build-ranged : firstOf (buildTests s t stamps ++ (when (outside (rowByRow (length stamps) (builtFactors stamps))) 14 ∷ []))
+      ≡ firstOf (buildTests s t stamps)
+  build-ranged = first-last (buildTests s t stamps) _ ∙ by verdict refl
+    where
+      by : (v : Verdict) → verdict ≡ v → orElse v (when (outside (rowByRow n b)) 14) ≡ v
+      by Accepted e = ap (λ (c : Bool). when c 14) (stamps-ranged stamps (build-accepted e .1))
+      by (Refused w) e = refl
+
+  answered : (x : Proposed) → x ≡ buildProposal s t stamps → (x ≡ buildProposal s t stamps) × Keepable t x
+  answered = result-answered t n stampBound b verdict build-fits
+
+  -- the two ways in which a build is answered
+  pub build-turned : (w : Refusal) (x : Proposed) → firstOf (buildTests s t stamps) ≡ Refused w → x ≡ turnedDown w
+      → (x ≡ buildProposal s t stamps) × Keepable t x
+  build-turned w x e f = answered x (f ∙ ap (λ (v : Verdict). proposal v n stampBound b) (sym e))
+
+  pub build-worked : (m : ℕ) (l : List Number) → firstOf (buildTests s t stamps) ≡ Accepted → m ≡ length stamps
+      → l ≡ tableOf (length stamps) (builtFactors stamps)
+      → (let x : Proposed = record { answer = bound.Bound stampBound; rows = m; factors = l } in
+      (x ≡ buildProposal s t stamps) × Keepable t x)
+  build-worked m l e f g =
+      answered _
+      (ap₂ (λ (m : ℕ) (l : List Number). let r : Proposed = record { answer = bound.Bound stampBound; rows = m; factors = l } in r) f g
+      ∙ ap (λ (v : Verdict). proposal v n stampBound b) (sym e))
+
+  module _ (good : Good s) where
+    pub build-good : Good (buildCall s t stamps .shelf)
+    unfolding buildCall
+    build-good = result-good t n stampBound b verdict build-fits s good
+
+    pub build-met : firstOf (buildTests s t stamps) ≡ Accepted
+        → Built (holding s t (length stamps) (builtFactors stamps)) t stamps stampBound
+    build-met e =
+        record { bound-is = refl; held = result-held t n stampBound b verdict build-fits s good e; stamped = stamped stamps (build-accepted e .1) }
+
+    pub build-done : (x : Proposed) (y : Operated) → x ≡ buildProposal s t stamps → (y ≡ kept s t x) × Good (y .shelf)
+        → (operatedOutcome y ≡ buildCall s t stamps) × (Good (y .shelf) × BuildPromised (y .shelf) t stamps (y .answer))
+    unfolding buildCall
+    build-done = result-done (λ s k. Built s t stamps k) s t n stampBound b verdict build-met
