@@ -118,12 +118,13 @@ module _ (K : CRing) (O : Ordered K) where
           ∙ ratio-equal n _ (blockProduct K (exchanged b)) (λ r j l. recovery-above K O n b r j l) (suc r) t h
           ∙ block-ratios K O n (exchanged b) (λ r t l. block-positive n (exchanged b) (λ i j x y. p j i y x) r (suc t) l) (suc r) t h
 
-  -- so positive factors are given by the matrix that they multiply out to
+  -- the minors of factors are the determinants of what they multiply out to
   multiplied-minors : (n : ℕ) (c : Factors R) (M : Matrix K) → Equal K n (multiplied K O n c) M → (I J : RowSet) → length I ≡ n → length J ≡ n
       → minor F (word n c) I J ≡ determinant K M I J
   multiplied-minors n c M e I J u v =
       word-determinant K O n (word n c) (word-rows n c) I J u v ∙ determinant-equal K n (multiplied K O n c) M e I J u v
 
+  -- so positive factors are given by the matrix that they multiply out to
   pub factors-same : (n : ℕ) (b c : Factors R) → Positive K O n b → Positive K O n c → Equal K n (multiplied K O n b) (multiplied K O n c)
       → (i j : ℕ) → In n i → In n j → b i j ≡ c i j
   factors-same n b c p q e i j x y =

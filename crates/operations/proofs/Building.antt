@@ -1,7 +1,7 @@
 -- A PLACE FILLED FROM TIME STAMPS. Where the tests passed, the factors fit the place (`build-fits`), and so the shelf stays good (`build-good`) and what is
 -- promised of the stamps holds (`build-done`). No exponent is out of range: with 14 tested behind 15 the verdict would be the same (`build-ranged`).
 use Prim.Native.Nat.{ℕ, _<_}
-use mathlib.Core.Path.{_≡_, refl, sym, ap, ap₂, _∙_}
+use mathlib.Core.Path.{_≡_, refl, sym, ap, _∙_}
 use mathlib.Core.Bool.{Bool, false}
 use mathlib.Core.List.{List, [], _∷_, _++_}
 use lib.ListN.{length}
@@ -68,13 +68,12 @@ module _ (s : Shelf) (t : ℕ) (stamps : List ℕ) where
       → (x ≡ buildProposal s t stamps) × Keepable t x
   build-turned w x e f = answered x (f ∙ ap (λ (v : Verdict). proposal v n stampBound b) (sym e))
 
-  pub build-worked : (m : ℕ) (l : List Number) → firstOf (buildTests s t stamps) ≡ Accepted → m ≡ length stamps
-      → l ≡ tableOf (length stamps) (builtFactors stamps)
-      → (let x : Proposed = record { answer = bound.Bound stampBound; rows = m; factors = l } in
+  pub build-worked : (l : List Number) → firstOf (buildTests s t stamps) ≡ Accepted → l ≡ tableOf (length stamps) (builtFactors stamps)
+      → (let x : Proposed = record { answer = bound.Bound stampBound; rows = length stamps; factors = l } in
       (x ≡ buildProposal s t stamps) × Keepable t x)
-  build-worked m l e f g =
+  build-worked l e f =
       answered _
-      (ap₂ (λ (m : ℕ) (l : List Number). let r : Proposed = record { answer = bound.Bound stampBound; rows = m; factors = l } in r) f g
+      (ap (λ (l : List Number). let r : Proposed = record { answer = bound.Bound stampBound; rows = n; factors = l } in r) f
       ∙ ap (λ (v : Verdict). proposal v n stampBound b) (sym e))
 
   module _ (good : Good s) where

@@ -113,11 +113,10 @@ module _ (L : List ℕ) where
 
   -- THE LOOP: the first k stamps are passed, the last of them being b
   pub record Passed (b k : ℕ) : Type 0 where
-    pub within : k ≤ length L
     pub same : mistimed L ≡ faulty b (drop k L)
 
   pub passed-none : 1 ≤ length L → length L ≤ 8 → Passed 0 0
-  passed-none some few = record { within = omega arith; same = mistimed-passes some few }
+  passed-none some few = record { same = mistimed-passes some few }
 
   module _ {b k : ℕ} (p : Passed b k) where
     pub passed-end : length L ≤ k → mistimed L ≡ false
@@ -137,10 +136,7 @@ module _ (L : List ℕ) where
         passed-large l = next ∙ rw (lt-leb (getD L k 0) b g, le-leb (2 ^ 32) (getD L k 0) l)
 
         pub passed-more : getD L k 0 < 2 ^ 32 → Passed (getD L k 0) (k + 1)
-        passed-more l = record {
-          within = omega arith;
-          same = next ∙ rw (lt-leb (getD L k 0) b g, lt-leb (2 ^ 32) (getD L k 0) l, add-one k);
-        }
+        passed-more l = record { same = next ∙ rw (lt-leb (getD L k 0) b g, lt-leb (2 ^ 32) (getD L k 0) l, add-one k) }
 
 -- STAMPS THAT ARE NOT TURNED DOWN
 above-at : (b : ℕ) (L : List ℕ) → Above b L → (k : ℕ) → k < length L → (b < getD L k 0) × (getD L k 0 < 2 ^ 32)

@@ -1,6 +1,6 @@
 -- The matrix of powers before it is kept: turned down, or the factors of the stamps (laws in Building).
 use denote.Ref.{now}
-use mathlib.Core.Path.{_≡_, refl, sym, _∙_}
+use mathlib.Core.Path.{_≡_, sym, _∙_}
 use Rattle.verdict.specs.Verdict.{firstBehind, firstOf}
 use Rattle.operations.specs.Operations.{buildTests}
 use Rattle.operations.proofs.Building.{build-accepted, build-turned, build-worked}
@@ -50,7 +50,7 @@ returns-2 c =
     let told = c .before in
     let tested = told .before .before in
     let a = tested .before .before .before .before .args in
-    build-worked (a .shelf) (a .target) (now (a .stamps)) _ _ (sym (judged tested) ∙ told .enum-told .given .1) refl (c .table .ensures)
+    build-worked (a .shelf) (a .target) (now (a .stamps)) _ (sym (judged tested) ∙ told .enum-told .given .1) (c .table .ensures)
 
 pub built-spec : {M : Type 1} → statement M
 built-spec =
