@@ -141,6 +141,15 @@ static void call_divide(void)
     number = a.number;
 }
 
+/* the longest sentence: 220 bytes */
+static void call_sentence(void)
+{
+    static const uint64_t places[7] = {UINT64_MAX, UINT64_MAX, UINT64_MAX, UINT64_MAX, UINT64_MAX, UINT64_MAX, UINT64_MAX};
+    static uint8_t text[TNB_SENTENCE_ROOM];
+    tnb_length a = tnb_sentence(19, UINT64_MAX, places, 7, text, sizeof text);
+    number = a.number;
+}
+
 /* by value: what stands in the caller's frame for the shelf handed over and for the answer */
 static const struct {
     const char *name;
@@ -166,6 +175,7 @@ static const struct {
     {"tnb_add", call_add, sizeof(tnb_worked)},
     {"tnb_multiply", call_multiply, sizeof(tnb_worked)},
     {"tnb_divide", call_divide, sizeof(tnb_worked)},
+    {"tnb_sentence", call_sentence, sizeof(tnb_length)},
 };
 
 /* eight rows at places 0 and 1, mantissas that differ, and a list of eight items with both signs */

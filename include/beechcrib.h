@@ -6,9 +6,10 @@
  *
  * Places count from 0 to 7. Row and column sets are masks, bit 0 for row 1.
  *
- * Every answer has a number: 0 for accepted, 1 to 15 for a refusal, 255 where the shelf handed over is not one that these calls can have made;
- * they have names below. A refused call changes neither the shelf nor lent memory. Where several conditions hold, the order is 1 (sources, then
- * target), 11, 12, 15, 13, 8, 9, 14, 10; a load tests 1, 12, then bytes from the left.
+ * Every answer has a number: 0 for accepted, 1 to 15 for a refusal, 255 where the shelf handed over is not one that these calls can have made; they
+ * have names below. docs/REFUSALS.md says when each refusal is given, and has the reason that tnb_sentence writes for it. A refused call changes
+ * neither the shelf nor lent memory. Where several conditions hold, the order is 1 (sources, then target), 11, 12, 15, 13, 8, 9, 14, 10; a load tests
+ * 1, 12, then bytes from the left.
  *
  * The offset: for 3 to 6 the first byte of the group number at fault, for 2 the length of the input, for 7 the first byte behind the matrix, else 0.
  *
@@ -24,9 +25,10 @@ extern "C" {
 
 /* The version of this header and of the archive built beside it. It rises whenever a struct changes its size, a call or a number is added, or a call
  * answers otherwise than before (2: tnb_reversals passes over zeros; 3: tnb_add, tnb_multiply and tnb_divide are new; 4: tnb_build and its refusal 15
- * are new). A program that uses only what stands here, and not the inside of a shelf, compiles again with every later version; it is compiled again
- * for each, since structs go by value. Later versions may refuse with numbers that are not listed yet: test for TNB_ACCEPTED. */
-#define TNB_VERSION 4
+ * are new; 5: tnb_sentence is new). A program that uses only what stands here, and not the inside of a shelf, compiles again with every later
+ * version; it is compiled again for each, since structs go by value. Later versions may refuse with numbers that are not listed yet: test for
+ * TNB_ACCEPTED. */
+#define TNB_VERSION 5
 
 /* The numbers of answers. */
 enum {
@@ -39,7 +41,8 @@ enum {
     TNB_ZERO_FACTOR = 6,         /* zero factor */
     TNB_BYTES_BEHIND_MATRIX = 7, /* bytes behind the matrix */
     TNB_BAD_SETS = 8,            /* sets of unequal count, empty, or beyond n */
-    TNB_BAD_LIST = 9,            /* list length wrong, or an item not of the stated form, or, where numbers are worked, an item that is not positive */
+    TNB_BAD_LIST = 9,            /* list length wrong, or an item not of the stated form, or, where numbers are worked, an item that is not positive; of a
+                                    sentence, a number outside 1 to 22 or more than seven places */
     TNB_OUTPUT_TOO_SHORT = 10,   /* lent output shorter than needed */
     TNB_SOURCE_EMPTY = 11,       /* source place empty */
     TNB_TARGET_FULL = 12,        /* target place holds a matrix */
@@ -167,6 +170,16 @@ tnb_worked tnb_multiply(const int64_t *items, size_t count);
 
 /* The quotient, first over second; rest: first, minus the result times second. */
 tnb_worked tnb_divide(const int64_t *items, size_t count);
+
+/* What is always enough to lend to tnb_sentence. */
+#define TNB_SENTENCE_ROOM 220
+
+/* Writes the sentence of a refusal to lent bytes, for a panel to show, and answers its length; no byte past it is changed, and no zero is put behind
+ * it. From the number, the offset and up to seven places, in the order given: "refused 11 at 0 source place empty 6". The reason is that of the
+ * number in docs/REFUSALS.md, which has one for each from 1 to 22, also for those that no call answers yet. One sentence belongs to one number,
+ * offset and list of places: they can be recovered from it in only one way. No shelf is handed over, and offset and places may be any numbers.
+ * Refusals 9 (a number outside 1 to 22, 255 among them, or more than seven places), 10. */
+tnb_length tnb_sentence(uint64_t number, uint64_t offset, const uint64_t *places, size_t count, uint8_t *out, size_t room);
 
 #ifdef __cplusplus
 }

@@ -164,6 +164,36 @@ static void writing(tnb_shelf s)
     want(tnb_write(s, 0, bytes, 14).length == 13 && bytes[12] == 0 && bytes[1] == 0xca && bytes[13] == 0, "write");
 }
 
+/* whether the sentence of these is this one, in just as many bytes; with one fewer, none is written */
+static int sentence(uint64_t number, uint64_t offset, const uint64_t *places, size_t count, const char *text)
+{
+    uint8_t out[TNB_SENTENCE_ROOM + 1], lent[TNB_SENTENCE_ROOM + 1];
+    size_t n = strlen(text);
+    memset(out, 0xa5, sizeof out);
+    memset(lent, 0xa5, sizeof lent);
+    tnb_length few = tnb_sentence(number, offset, places, count, out, n - 1);
+    if (few.number != TNB_OUTPUT_TOO_SHORT || few.length != 0 || memcmp(out, lent, sizeof out) != 0)
+        return 0;
+    tnb_length s = tnb_sentence(number, offset, places, count, out, n);
+    return s.number == TNB_ACCEPTED && s.length == n && memcmp(out, text, n) == 0 && memcmp(out + n, lent, sizeof out - n) == 0;
+}
+
+static void sentences(void)
+{
+    static const uint64_t eight[] = {7, 6, 6, 10, 0, 4294967296u, UINT64_MAX, 1};
+    static const uint64_t most[] = {UINT64_MAX, UINT64_MAX, UINT64_MAX, UINT64_MAX, UINT64_MAX, UINT64_MAX, UINT64_MAX};
+    uint8_t out[TNB_SENTENCE_ROOM] = {0};
+    want(sentence(11, 0, eight + 1, 1, "refused 11 at 0 source place empty 6"), "sentence");
+    want(sentence(2, 1, NULL, 0, "refused 2 at 1 bytes end early"), "sentence, no place");
+    want(sentence(22, 99, eight, 7, "refused 22 at 99 tolerance too large 7 6 6 10 0 4294967296 18446744073709551615"), "sentence, seven places");
+    want(tnb_sentence(19, UINT64_MAX, most, 7, out, 219).number == TNB_OUTPUT_TOO_SHORT && out[0] == 0, "sentence, one byte less than the longest");
+    want(tnb_sentence(1, 0, eight, 8, out, sizeof out).number == TNB_BAD_LIST, "sentence, eight places");
+    want(tnb_sentence(0, 0, NULL, 0, out, sizeof out).number == TNB_BAD_LIST, "sentence, number 0");
+    want(tnb_sentence(23, 0, NULL, 0, NULL, 0).number == TNB_BAD_LIST, "sentence, number 23 before the room");
+    want(tnb_sentence(257, 0, NULL, 0, out, sizeof out).number == TNB_BAD_LIST && out[0] == 0, "sentence, number 257");
+    want(tnb_sentence(19, UINT64_MAX, most, 7, out, sizeof out).length == TNB_SENTENCE_ROOM, "sentence, the longest");
+}
+
 /* nothing is read or written where a length is 0 */
 static void null(tnb_shelf s)
 {
@@ -174,6 +204,7 @@ static void null(tnb_shelf s)
     want(tnb_carry(s, 0, NULL, 0, NULL, 0).number == TNB_BAD_LIST, "carry, NULL");
     want(tnb_carry(s, 0, list, 6, NULL, 0).number == TNB_OUTPUT_TOO_SHORT, "carry, NULL for room");
     want(tnb_reversals(NULL, 0).number == TNB_BAD_LIST, "reversals, NULL");
+    want(tnb_sentence(1, 0, NULL, 0, NULL, 0).number == TNB_OUTPUT_TOO_SHORT, "sentence, NULL");
 }
 
 /* memory that never was a shelf */
@@ -204,6 +235,7 @@ int main(void)
     working();
     not_worked();
     writing(s);
+    sentences();
     null(s);
     foreign();
     printf("calls: all as in documents 01 and 02\n");

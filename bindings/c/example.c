@@ -1,4 +1,4 @@
-/* Loads two matrices, multiplies them, prints the product's factors and its bytes; then shows a refusal. */
+/* Loads two matrices, multiplies them, prints the product's factors and its bytes; then shows refusals, in words. */
 #include "beechcrib.h"
 #include <stdio.h>
 #include <string.h>
@@ -6,10 +6,21 @@
 /* n = 2, all factors one */
 static const uint8_t ones[] = {0x02, 0xca, 0x07, 0x00, 0xca, 0x07, 0x00, 0xca, 0x07, 0x00, 0xca, 0x07, 0x00};
 
+/* a refusal in words, told with some places; a foreign shelf (255) has no sentence */
+static void say(uint8_t number, size_t offset, const uint64_t *places, size_t count)
+{
+    uint8_t text[TNB_SENTENCE_ROOM];
+    tnb_length s = tnb_sentence(number, offset, places, count, text, sizeof text);
+    if (s.number == TNB_ACCEPTED)
+        printf("%.*s\n", (int)s.length, (const char *)text);
+    else
+        printf("refused %d at %zu\n", number, offset);
+}
+
 static int refused(uint8_t number, size_t offset)
 {
     if (number != TNB_ACCEPTED)
-        printf("refused %d at %zu\n", number, offset);
+        say(number, offset, NULL, 0);
     return number != TNB_ACCEPTED;
 }
 
@@ -49,6 +60,11 @@ int main(void)
     a = tnb_load(shelf, 3, ones, sizeof ones - 1);
     refused(a.number, a.offset);
     printf("place 3 holds %zu rows\n", tnb_rows(a.shelf, 3).length);
+
+    /* another, told with the places that were named: places 3 and 2 are multiplied, and place 3 is empty */
+    const uint64_t named[] = {3, 2, 4};
+    a = tnb_product(shelf, named[0], named[1], named[2]);
+    say(a.number, a.offset, named, 3);
 
     /* a shelf that this library did not make */
     memset(&shelf, 0xff, sizeof shelf);

@@ -1,4 +1,4 @@
-// Loads two matrices, multiplies them, prints the product's factors and its bytes; then shows a refusal.
+// Loads two matrices, multiplies them, prints the product's factors and its bytes; then shows refusals, in words.
 use std::process::exit;
 
 // Private to the library; size and alignment are those of `tnb_shelf` in include/beechcrib.h.
@@ -39,7 +39,11 @@ extern "C" {
     fn tnb_write(shelf: Shelf, place: usize, out: *mut u8, room: usize) -> Length;
     fn tnb_rows(shelf: Shelf, place: usize) -> Length;
     fn tnb_factor(shelf: Shelf, place: usize, i: usize, j: usize) -> Value;
+    fn tnb_sentence(number: u64, offset: u64, places: *const u64, count: usize, out: *mut u8, room: usize) -> Length;
 }
+
+// What is always enough to lend for a sentence.
+const SENTENCE_ROOM: usize = 220;
 
 // What turned a call down.
 pub struct Refusal {
@@ -85,8 +89,18 @@ fn factor(shelf: Shelf, place: usize, i: usize, j: usize) -> (u64, i64) {
     (b.mantissa, b.exponent)
 }
 
+// A refusal in words, told with some places; a foreign shelf (255) has no sentence.
+fn say_with(why: &Refusal, places: &[u64]) {
+    let mut text = [0u8; SENTENCE_ROOM];
+    let s = unsafe { tnb_sentence(why.number.into(), why.offset as u64, places.as_ptr(), places.len(), text.as_mut_ptr(), text.len()) };
+    match s.number {
+        0 => println!("{}", String::from_utf8_lossy(&text[..s.length])),
+        _ => println!("refused {} at {}", why.number, why.offset),
+    }
+}
+
 fn say(why: &Refusal) {
-    println!("refused {} at {}", why.number, why.offset);
+    say_with(why, &[]);
 }
 
 fn multiplied(ones: &[u8]) -> Result<(Shelf, u32), Refusal> {
@@ -132,6 +146,11 @@ fn main() {
         say(&why);
     }
     println!("place 3 holds {} rows", rows(shelf, 3));
+
+    // another, told with the places that were named: places 3 and 2 are multiplied, and place 3 is empty
+    if let Err(why) = product(shelf, 3, 2, 4) {
+        say_with(&why, &[3, 2, 4]);
+    }
 
     // a shelf that this library did not make
     let foreign = Shelf { private: [u64::MAX; 1025] };

@@ -12,7 +12,11 @@ from model import ONE_SOURCE, PLACES, WORKED, Shelf
 
 LONGEST_LINE = 4096
 MOST_PLACE, MOST_MASK, MOST_LENT, MOST_STAMP, MOST_LISTED = 2 ** 32 - 1, 255, 512, 2 ** 64 - 1, 16
+# Number, offset and places of a sentence.
+MOST_SAID = 2 ** 32 - 1
 LENT_BYTE, LENT_ITEM = "a5", (1, 2 ** 31, 0)
+# Where the length to lend stands among the arguments of a call that writes bytes.
+LENT_BYTES_AT = {"write": 1, "sentence": 0}
 BAD_REQUEST = "bad request"
 # The calls take an item as three whole numbers of 64 bits with a sign, so these are passed on.
 LEAST, LARGEST = -2 ** 63, 2 ** 63 - 1
@@ -23,11 +27,12 @@ WHOLE = re.compile(r"[0-9]+\Z")
 SIGNED = re.compile(r"-?[0-9]+\Z")
 HEX = re.compile(r"(?:[0-9a-f]{2})+\Z")
 
-# What follows each word of the console: P a place, M a mask, C a length to lend, B bytes, N one item; at the end any number of items, I, or of stamps, S.
+# What follows each word of the console: P a place, M a mask, C a length to lend, B bytes, N one item, W a number of a sentence; at the end any number of
+# items, I, of stamps, S, or of a sentence's places, L.
 FORMS = {
     "load": "PB", "write": "PC", "drop": "P", "product": "PPP", "inverse": "PP", "converse": "PP", "transpose": "PP",
     "submatrix": "PMMP", "minor": "PMM", "carry": "PCI", "reversals": "I", "rest": "B", "show": "P",
-    "add": "NN", "multiply": "NN", "divide": "NN", "build": "PS",
+    "add": "NN", "multiply": "NN", "divide": "NN", "build": "PS", "sentence": "CWWL",
 }
 
 
@@ -55,10 +60,12 @@ def item(text):
 
 READERS = {
     "P": lambda text: whole(text, MOST_PLACE), "M": lambda text: whole(text, MOST_MASK),
-    "C": lambda text: whole(text, MOST_LENT), "B": data, "N": item,
+    "C": lambda text: whole(text, MOST_LENT), "B": data, "N": item, "W": lambda text: whole(text, MOST_SAID),
 }
 # What reads each member of a list.
-LISTS = {"I": item, "S": lambda text: whole(text, MOST_STAMP)}
+LISTS = {"I": item, "S": lambda text: whole(text, MOST_STAMP), "L": lambda text: whole(text, MOST_SAID)}
+# Kinds that have no sign, so that any sign is a bad request.
+UNSIGNED = "SWL"
 
 
 def members(kind, texts):
@@ -74,7 +81,7 @@ def parse(line):
     form = FORMS.get(call)
     if form is None:
         return None
-    kinds = form.rstrip("IS")
+    kinds = form.rstrip("ISL")
     if len(texts) < len(kinds) or (len(texts) > len(kinds) and form == kinds):
         return None
     arguments = [READERS[kind](text) for kind, text in zip(kinds, texts)]
@@ -84,7 +91,7 @@ def parse(line):
 
 
 def doubtful(line):
-    """Leading zeros, plus signs, minus zero, and places that only some types hold. A stamp has no sign."""
+    """Leading zeros, plus signs, minus zero, and places that only some types hold. A stamp has no sign, nor has a number of a sentence."""
     call, *texts = line.split(" ")
     form = FORMS.get(call, "")
     for kind, text in zip(form.ljust(len(texts), form[-1:] or "?"), texts):
@@ -92,7 +99,7 @@ def doubtful(line):
             continue
         if kind == "P" and WHOLE.match(text) and MOST_PLACE < int(text) < BEYOND:
             return True
-        if any(re.match(r"0[0-9]" if kind == "S" else r"[-+]?0[0-9]|\+|-0", part) for part in text.split(",")):
+        if any(re.match(r"0[0-9]" if kind in UNSIGNED else r"[-+]?0[0-9]|\+|-0", part) for part in text.split(",")):
             return True
     return False
 
@@ -133,8 +140,8 @@ class Console:
     @staticmethod
     def lent(call, arguments):
         """What follows a refusal where a buffer was lent: the buffer, left alone."""
-        if call == "write":
-            return " " + (LENT_BYTE * arguments[1] or "-")
+        if call in LENT_BYTES_AT:
+            return " " + (LENT_BYTE * arguments[LENT_BYTES_AT[call]] or "-")
         if call == "carry":
             return " " + text_of_items([LENT_ITEM] * arguments[1])
         return ""
@@ -179,6 +186,10 @@ class Console:
 
     def rest(self, content):
         return "rest " + text_of_bytes(self.shelf.rest(content))
+
+    def sentence(self, length, number, offset, places):
+        written, after = self.shelf.sentence(bytes.fromhex(LENT_BYTE) * length, number, offset, places)
+        return f"wrote {written} " + text_of_bytes(after)
 
     def show(self, place):
         if place >= PLACES:

@@ -3,8 +3,8 @@
 
 freeze.py [--seed S] [--count N] [--check]: about N requests, the same for the same seed. It covers every call, each refusal of
 each call, every pair of refusals that a call can meet at once, each operation in all sizes, every number of stamps and every fault
-of them that can stand alone, and every way that a sum, a product and a quotient can be rounded, or it fails. With --check nothing
-is written: the files are held to what would be.
+of them that can stand alone, every way that a sum, a product and a quotient can be rounded, and the sentence of every number in lent
+bytes that just suffice and in one less, or it fails. With --check nothing is written: the files are held to what would be.
 """
 import argparse
 import os
@@ -22,6 +22,7 @@ from model import ORDER, WORKED, conditions, pair_good
 from number import HIGH, LOW, ONE
 from pairs import cases, every_case, pair
 from requests import Stream, stream
+from sentence_lines import every_sentence_case, sentence_cases, sentences
 from sources import far_apart, good_masks, spread_number, unit_items
 from stamp_lists import build_line, lone_faults, rising
 from stamps import MOST_STAMPS, stamp_faults
@@ -30,7 +31,7 @@ from words import Matrix
 HERE = os.path.dirname(os.path.abspath(__file__))
 FOLDER = os.path.join(os.path.dirname(os.path.dirname(HERE)), "crates", "tnb_console")
 OPERATIONS = ("product", "inverse", "converse", "transpose", "submatrix")
-COUNT = 6300
+COUNT = 7000
 TWO, THREE = (LOW, -30), (LOW + (1 << 30), -30)
 
 
@@ -128,6 +129,14 @@ def builds(maker):
     yield from sweeps.every_wrong_stamp(maker)
 
 
+def worded(maker):
+    """Sentences of every number, in lent bytes of every length, with every fault, and some for the cases that are left."""
+    made = [*sweeps.every_sentence(maker), *sweeps.every_lent(maker), *sweeps.every_fault_of_sentences(maker)]
+    while left := unsaid(made):
+        made += [line for line in sentences(maker) if {*left} - {*unsaid([line])}]
+    yield from made
+
+
 def borders():
     """Places above 7, lists about the longest and about the most that a call takes, numbers of an item at the ends and one beyond."""
     yield from (f"show {place}" for place in (7, 8, MOST_PLACE))
@@ -153,6 +162,7 @@ def lines(seed, shelf):
     yield from (line for line in ODD_LINES if not doubtful(line))
     for sweep in (sweeps.every_minor, sweeps.every_length, sweeps.every_cut, sweeps.every_flip, sweeps.every_gap):
         yield from sweep(maker)
+    yield from worded(maker)
     yield from stream(f"frozen {seed}", shelf)
 
 
@@ -192,6 +202,12 @@ def unbuilt(asked, wanted):
     return [case for case in (*(f"{count} taken" for count in range(1, MOST_STAMPS + 1)), *lone_faults()) if case not in met]
 
 
+def unsaid(asked):
+    """The cases of sentences that no request shows."""
+    met = {case for call, words in filter(None, map(parse, asked)) if call == "sentence" for case in sentence_cases(*words)}
+    return [case for case in every_sentence_case() if case not in met]
+
+
 def wanted_pairs():
     """The pairs of conditions that a call can meet at once. Faults in bytes come one at a time; 13 and 8 leave nothing to work."""
     alone = [{2, 3, 4, 5, 6, 7}, {13, 14}, {8, 14}, {9, 14}]
@@ -215,6 +231,7 @@ def missing(asked, wanted, tally):
             yield f"{call} in all sizes"
     yield from (f"{call}, {case}" for call, case in uncovered(asked))
     yield from (f"build, {case}" for case in unbuilt(asked, wanted))
+    yield from (f"sentence, {case}" for case in unsaid(asked))
     pairs = together(asked)
     yield from (f"{call} {first} with {second}" for call, first, second in wanted_pairs() if not pairs[call, first, second])
 

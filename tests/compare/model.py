@@ -1,4 +1,4 @@
-"""Document 01, with what document 02 adds to it, as a program: the shelf and its calls, over number.py, words.py, stamps.py and encoding.py.
+"""Document 01, with what document 02 adds to it, as a program: the shelf and its calls, over number.py, words.py, stamps.py, encoding.py and sentences.py.
 
 Shelf: places 0 to 7. Each call returns its answer or raises Refusal with the number and the offset, in document 01's
 order of tests, and then the shelf is as before. conditions: every condition of the two tables that holds for a call.
@@ -6,6 +6,7 @@ shown: what the program of "Shown in full" prints.
 """
 from encoding import Refusal, encode, read_single, rest
 from number import HIGH, ITEM_ZERO, LOW, stored, worked
+from sentences import answered, sentence_faults
 from stamps import BUILT_BOUND, built, stamp_faults, stamps_good
 from words import bound, carry, count, interval, minor, operate, reversals, transpose
 
@@ -17,7 +18,7 @@ ORDER = {
     "load": (1, 12, 2, 3, 4, 5, 6, 7), "build": (1, 12, 15), "write": (1, 11, 10), "drop": (1, 11),
     "product": (1, 11, 12, 13, 14), "inverse": (1, 11, 12, 14), "converse": (1, 11, 12, 14), "transpose": (1, 11, 12),
     "submatrix": (1, 11, 12, 8, 14), "minor": (1, 11, 8, 14), "carry": (1, 11, 9, 14, 10), "reversals": (9,), "rest": (),
-    "add": (9,), "multiply": (9,), "divide": (9,),
+    "add": (9,), "multiply": (9,), "divide": (9,), "sentence": (9, 10),
 }
 
 
@@ -153,6 +154,11 @@ class Shelf:
     def rest(data):
         return rest(data)
 
+    @staticmethod
+    def sentence(lent, number, offset, places):
+        """The length written and the lent bytes afterwards. It reads nothing of the shelf."""
+        return answered(lent, number, offset, places)
+
 
 def places_named(call, words):
     """The sources and the target (or None) that a call names."""
@@ -160,7 +166,7 @@ def places_named(call, words):
         return [], words[0]
     if call in ("write", "drop", "minor", "carry"):
         return [words[0]], None
-    if call in ("reversals", "rest") + WORKED:
+    if call in ("reversals", "rest", "sentence") + WORKED:
         return [], None
     return list(words[:1] if call != "product" else words[:2]), words[-1]
 
@@ -185,6 +191,8 @@ def conditions(shelf, call, words):
     elif call == "build":
         if stamp_faults(words[1]):
             found.add(15)
+    elif call == "sentence":
+        found |= sentence_faults(*words)
     elif call == "reversals":
         if not 1 <= len(words[0]) <= 8 or not all(map(item_good, words[0])):
             found.add(9)

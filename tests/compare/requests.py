@@ -11,6 +11,7 @@ from encoding import Refusal, encode, rest
 from garbage import garbled
 from model import ONE_SOURCE, PLACES, WORKED
 from pairs import pair, spoiled
+from sentence_lines import sentences
 from sources import aimed, faulty, good_masks, listed, masks, matrix, odd_item, overflowing, random_item, still_or_moving
 from stamp_lists import build_line, rising, spoiled as spoiled_stamps, unread as unread_stamps
 from words import reversals
@@ -286,7 +287,7 @@ SCENARIOS = (
     (Stream.load_anywhere, 12), (Stream.random_bytes, 4), (Stream.bundle, 4), (Stream.garbage, 12), (Stream.build, 28),
     (Stream.wrong_stamps, 12), (Stream.build_anywhere, 8), (sweeps.every_wrong_stamp, 0.1), (sweeps.every_kind_of_stamps, 0.1),
     (sweeps.every_cut, 0.3), (sweeps.every_flip, 0.1), (sweeps.every_order, 0.1), (sweeps.every_gap, 0.1), (sweeps.every_distance, 0.1),
-    (sweeps.every_pair, 0.1),
+    (sweeps.every_pair, 0.1), (sentences, 36), (sweeps.every_sentence, 0.1), (sweeps.every_lent, 0.1), (sweeps.every_fault_of_sentences, 0.1),
 )
 
 

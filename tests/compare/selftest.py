@@ -10,6 +10,7 @@ import sys
 import check_directed  # noqa: F401
 import check_marked  # noqa: F401
 import check_random  # noqa: F401
+import check_sentences  # noqa: F401
 import check_stamps  # noqa: F401
 from checks import CHECKS
 

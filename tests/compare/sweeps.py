@@ -1,14 +1,16 @@
-"""Scenarios that go through every case of something: sets, lengths, cuts, flipped bits, distances, ends of ranges, stamps, orders of tests.
+"""Scenarios that go through every case of something: sets, lengths, cuts, flipped bits, distances, ends of ranges, stamps, sentences, orders of tests.
 
 Each takes a requests.Stream and gives lines as its scenarios do.
 """
 from itertools import product
 
-from console_model import text_of_bytes, text_of_items
+from console_model import MOST_LENT, MOST_LISTED, MOST_SAID, text_of_bytes, text_of_items
 from encoding import encode
 from model import ONE_SOURCE, PLACES, WORKED
 from number import HIGH, ITEM_ZERO, LOW, ONE
 from pairs import GAPS, pair
+from sentence_lines import NUMBERS, OUTSIDE, TELLING, places_of, said, sentence_line
+from sentences import LAST_NUMBER, MOST_NAMED, needed
 from sources import EDGE, mantissa, matrix
 from stamp_lists import DRAWS, build_line, each_fault
 from stamps import MOST_STAMPS
@@ -113,6 +115,36 @@ def every_kind_of_stamps(stream):
         for draw in dict.fromkeys(DRAWS if count == MOST_STAMPS else stream.rng.sample(DRAWS, 3)):
             yield build_line(place, draw(stream.rng, count))
             yield f"drop {place}"
+
+
+def every_sentence(stream):
+    """Each number alone, for few lent bytes and for all; each with places, for a byte too few, just enough and one over, the longest too; each offset and place
+    that tells; each count of places."""
+    rng = stream.rng
+    for number in sorted({*NUMBERS, *OUTSIDE}):
+        yield from (sentence_line(length, number, rng.choice(TELLING), []) for length in (rng.randrange(8), MOST_LENT))
+    longest = [(number, MOST_SAID, [MOST_SAID] * MOST_NAMED) for number in NUMBERS]
+    for asked in [*(said(rng, number) for number in NUMBERS), max(longest, key=lambda asked: needed(*asked))]:
+        yield from (sentence_line(needed(*asked) + more, *asked) for more in (-1, 0, 1))
+    yield from (sentence_line(rng.randint(80, 200), rng.choice(NUMBERS), offset, [place]) for offset, place in zip(TELLING, reversed(TELLING)))
+    for count in range(MOST_LISTED + 1):
+        yield from (sentence_line(rng.randint(140, MOST_LENT), *said(rng, count=count)) for _ in range(4))
+
+
+def every_lent(stream):
+    """Two sentences for every length from none to a few bytes more than they need, and for the longest."""
+    for count in (0, 3):
+        asked = said(stream.rng, count=count)
+        for length in [*range(needed(*asked) + 4), MOST_LENT - 1, MOST_LENT]:
+            yield sentence_line(length, *asked)
+
+
+def every_fault_of_sentences(stream):
+    """Numbers and counts of places good and bad in every combination, for lengths good and bad."""
+    counts = (0, MOST_NAMED, MOST_NAMED + 1, MOST_LISTED)
+    for number, count in product((0, 1, LAST_NUMBER, LAST_NUMBER + 1, 256 + LAST_NUMBER, MOST_SAID), counts):
+        asked = number, stream.rng.choice(TELLING), places_of(stream.rng, count)
+        yield from (sentence_line(length, *asked) for length in (0, needed(*asked) - 1, needed(*asked), MOST_LENT))
 
 
 def every_order(stream):

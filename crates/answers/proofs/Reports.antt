@@ -1,7 +1,7 @@
 -- The text of a report that has no value, one, or two, the first of which may be a mantissa, and the same text for equal reports (`puts-report`).
 use Prim.Native.Nat.{ℕ}
-use mathlib.Core.Path.{_≡_, refl, _∙_}
-use mathlib.Core.List.{List, [], _∷_, _++_, append-nil}
+use mathlib.Core.Path.{_≡_, refl, ap, _∙_}
+use mathlib.Core.List.{List, [], _∷_, _++_, append-nil, flatMap}
 use lib.IntN.{ℤ, pos}
 use Rattle.lines.specs.Ascii.{ascii}
 use Rattle.lines.specs.Text.{Puts, decimal}
@@ -13,12 +13,15 @@ unfolding integerText
 whole-text n = refl
 
 pub word-text : (word : List ℕ) → reportText word (accepted []) ≡ word
+unfolding flatMap
 word-text word = append-nil word
 
 pub count-text : (n : ℕ) → valuesText (pos n ∷ []) ≡ ascii " " ++ decimal n
-count-text n = rw (whole-text n, append-nil)
+unfolding flatMap
+count-text n = rw (whole-text n) (ap (λ t. ascii " " ++ t) (append-nil (decimal n)))
 
 pub pair-text : (x y : ℤ) → valuesText (x ∷ y ∷ []) ≡ (ascii " " ++ integerText x) ++ (ascii " " ++ integerText y)
+unfolding flatMap
 pair-text x y = rw append-nil
 
 pub number-text : (m : ℕ) (e : ℤ) → valuesText (pos m ∷ e ∷ []) ≡ (ascii " " ++ decimal m) ++ (ascii " " ++ integerText e)

@@ -1,24 +1,21 @@
 -- The lines that programs answer with. The text of what a call reports (`reportText`) is the word of its answer and the values that it returned, each behind a
 -- space; of a call that was turned down it is the refusal (`refusalText`). A result with its rest has two words (`workedText`).
 use Prim.Native.Nat.{ℕ}
-use mathlib.Core.List.{List, [], _∷_, _++_}
+use mathlib.Core.List.{List, _++_}
 use lib.IntN.{ℤ, natAbs}
 use lib.ListN.{take, drop}
 use Rattle.lines.specs.Ascii.{ascii}
-use Rattle.lines.specs.Text.{decimal, signedText, bytesText}
+use Rattle.lines.specs.Text.{signedText, bytesText, spaced}
 use Rattle.number.specs.Integer.{isNegative}
 use Rattle.verdict.specs.Report.{Report, accepted, refused}
+use Rattle.sentences.specs.Sentence.{refusalText}
 
 unfoldable pub integerText : ℤ → List ℕ
 integerText x = signedText (isNegative x) (natAbs x)
 
 -- numbers, each behind a space
 abbrev pub valuesText : List ℤ → List ℕ
-valuesText [] = []
-valuesText (x ∷ values) = ascii " " ++ (integerText x ++ valuesText values)
-
-unfoldable pub refusalText : (number offset : ℕ) → List ℕ
-refusalText number offset = ascii "refused " ++ (decimal number ++ (ascii " at " ++ decimal offset))
+valuesText values = spaced integerText values
 
 -- THE TEXT OF A REPORT: `word` stands before the values of a call that was accepted
 abbrev pub reportText : (word : List ℕ) → Report → List ℕ

@@ -8,7 +8,8 @@ ghost use Rattle.writer.specs.Encoding.{writtenReport};
 ghost use Rattle.lists.specs.Lists.{reversalsReport};
 ghost use Rattle.arithmetic.specs.Arithmetic.{workedReport};
 ghost use Rattle.operations.specs.Reports.{boundedReport, valuedReport};
-ghost use Rattle.answers.specs.Answers.{integerText, valuesText, refusalText, reportText, workedText, withBytes, badText};
+ghost use Rattle.sentences.specs.Sentence.{refusalText};
+ghost use Rattle.answers.specs.Answers.{integerText, valuesText, reportText, workedText, withBytes, badText};
 use number::integer;
 use shelf::Bounded;
 use shelf::Refusal;
@@ -56,14 +57,11 @@ pub fn put_number(out: &mut [u8], at: usize, mantissa: u64, exponent: i64) -> us
     put_signed_value(out, second, exponent)
 }
 
-// `refused N at O`.
+// `refused N at P`.
 pub fn put_refusal(out: &mut [u8], at: usize, why: Refusal) -> usize
     ensures { λ r. ⌜ Puts (now (out .entry)) at (refusalText (why .number) (why .offset)) (now (out .exit)) r ⌝ }
 {
-    let number = lines::put(out, at, b"refused ");
-    let middle = lines::put_whole(out, number, why.number as u64);
-    let offset = lines::put(out, middle, b" at ");
-    lines::put_whole(out, offset, why.offset as u64)
+    sentences::put_front(out, at, why.number as u64, why.offset as u64)
 }
 
 // A call that answers no more than a word where it was accepted.

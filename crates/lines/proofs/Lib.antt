@@ -4,3 +4,4 @@ pub mod Numerals
 pub mod Pairs
 pub mod Text
 pub mod ReadBack
+pub mod Decimals

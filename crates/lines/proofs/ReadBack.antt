@@ -5,7 +5,7 @@ use native.Mathlib.Decide.{decLt}
 use native.Mathlib.Omega.{arith}
 use mathlib.Core.Path.{_≡_, refl, ap, _∙_}
 use mathlib.Core.Bool.{Bool, true, false, cond, _||_}
-use mathlib.Core.List.{List, [], _∷_, _++_}
+use mathlib.Core.List.{List, [], _∷_, _++_, flatMap}
 use lib.Dec.{ltb}
 use lib.ListN.{length, getD, length-append}
 use borrow.Author.Tests.{lt-ltb, le-ltb, le-leb, ltb-true}
@@ -34,10 +34,10 @@ numeral d h =
     rw (le-ltb (48 + d) 48 l, lt-ltb (48 + d) 58 u)
 
 -- numerals that spell n
-record Spells (s : List ℕ) (n : ℕ) : Type 0 where
-  some : 0 < length s
-  numerals : allNumerals s ≡ true
-  value : valueFrom 0 s ≡ n
+pub record Spells (s : List ℕ) (n : ℕ) : Type 0 where
+  pub some : 0 < length s
+  pub numerals : allNumerals s ≡ true
+  pub value : valueFrom 0 s ≡ n
 
 spells-digit : (n : ℕ) → n < 10 → Spells ((48 + n) ∷ []) n
 unfolding allNumerals valueFrom
@@ -56,19 +56,22 @@ spells-step : (k n : ℕ) (t : Bool) → ltb n 10 ≡ t → Spells (decimalIn k 
 spells-step k n true e p = spells-digit n (ltb-true n 10 e)
 spells-step k n false e p = spells-more _ n p
 
-spells-decimal : (k n : ℕ) → n < 10 ^ suc k → Spells (decimalIn (suc k) n) n
+spells-in : (k n : ℕ) → n < 10 ^ suc k → Spells (decimalIn (suc k) n) n
 unfolding decimalIn
-spells-decimal zero n h = rw (lt-ltb n 10 h) (spells-digit n h)
-spells-decimal (suc k) n h =
+spells-in zero n h = rw (lt-ltb n 10 h) (spells-digit n h)
+spells-in (suc k) n h =
     let u : n < 10 * 10 ^ suc k = rw pow-succ' at h in
-    spells-step (suc k) n (ltb n 10) refl (spells-decimal k (n / 10) (omega arith))
+    spells-step (suc k) n (ltb n 10) refl (spells-in k (n / 10) (omega arith))
+
+pub spells-decimal : (n : ℕ) → n < 2 ^ 64 → Spells (decimal n) n
+spells-decimal n h = spells-in 19 n (omega arith)
 
 whole-spelt : (s : List ℕ) (n most : ℕ) → Spells s n → n ≤ most → spelledWhole s most ≡ Value n
 whole-spelt [] n most p h = absurd (omega (arith, p .some))
 whole-spelt (b ∷ s) n most p h = rw (p .numerals, p .value, le-leb n most h)
 
 pub whole-decimal : (n most : ℕ) → n < 2 ^ 64 → n ≤ most → spelledWhole (decimal n) most ≡ Value n
-whole-decimal n most u h = whole-spelt (decimal n) n most (spells-decimal 19 n (omega arith)) h
+whole-decimal n most u h = whole-spelt (decimal n) n most (spells-decimal n u) h
 
 -- ---- bytes
 -- what is read of a digit that was written
@@ -107,24 +110,24 @@ byte-pair b h =
     ∙ omega arith
 
 pub bytes-pairs : (s : List ℕ) → Bytes s → spelledBytes (pairsText s) ≡ s
-unfolding spelledBytes pairsText
+unfolding spelledBytes flatMap
 bytes-pairs [] h = refl
 bytes-pairs (b ∷ s) h = rw (byte-pair b (h 0), bytes-pairs s (λ i. h (suc i)))
 
 digits-pairs : (s : List ℕ) → Bytes s → allDigits (pairsText s) ≡ true
-unfolding allDigits pairsText
+unfolding allDigits flatMap
 digits-pairs [] h = refl
 digits-pairs (b ∷ s) h =
     let l : b < 256 = h 0 in
     rw (digit (b / 16) (omega arith) .is, digit (b % 16) (omega arith) .is) (digits-pairs s (λ i. h (suc i)))
 
 even-pairs : (s : List ℕ) → length (pairsText s) % 2 ≡ 0
-unfolding pairsText
+unfolding flatMap
 even-pairs [] = refl
 even-pairs (b ∷ s) = omega (arith, even-pairs s)
 
 length-pairs : (b : ℕ) (s : List ℕ) → length (pairsText (b ∷ s)) ≡ suc (suc (length (pairsText s)))
-unfolding pairsText
+unfolding flatMap
 length-pairs b s = refl
 
 pub hexadecimal-text : (s : List ℕ) → Bytes s → hexadecimal (bytesText s) ≡ true

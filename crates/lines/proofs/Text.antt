@@ -1,15 +1,15 @@
--- Text put one piece behind the other (`puts-behind`, and in a loop `Left`), and a byte at a time (`Put`).
+-- Text put one piece behind the other (`puts-behind`, and in a loop `Left`), a byte at a time (`Put`), and an element of a list at a time (`Spelt`).
 use Prim.Native.Nat.{ℕ, _+_, _-_, _≤_, _<_, min}
 use native.Mathlib.Numerals.{add-one}
 use native.Mathlib.Decide.{decLe}
 use native.Mathlib.Omega.{arith}
 use mathlib.Core.Path.{_≡_, refl, sym, _∙_}
-use mathlib.Core.List.{List, [], _∷_, _++_}
+use mathlib.Core.List.{List, [], _∷_, _++_, flatMap}
 use lib.ListN.{length, getD, drop, set, length-append, length-set, drop-of-length-le}
 use lib.Seq.{drop-cons, sets, length-sets}
 use Rattle.arrays.proofs.Runs.{sets-append, sets-out}
 use Rattle.lines.specs.Ascii.{ascii}
-use Rattle.lines.specs.Text.{indexAfter, Puts, pairText, pairsText, bytesText}
+use Rattle.lines.specs.Text.{indexAfter, Puts, pairsText, bytesText}
 
 module _ (a b out : List ℕ) (at : ℕ) where
   sets-behind : sets (sets out at a) (indexAfter out at a) b ≡ sets out at (a ++ b)
@@ -32,6 +32,11 @@ module _ (a b out : List ℕ) (at : ℕ) where
 pub puts-behind : {a b out out′ out″ : List ℕ} {at to to′ : ℕ} → Puts out at a out′ to → Puts out′ to b out″ to′ → Puts out at (a ++ b) out″ to′
 puts-behind {a} {b} {out} {at = at} p q =
     record { index = q .index ∙ rw (p .index, p .bytes) (index-behind a b out at); bytes = q .bytes ∙ rw (p .index, p .bytes) (sets-behind a b out at) }
+
+-- text that has room is put whole
+pub puts-whole : {out text after : List ℕ} {to : ℕ} → Puts out 0 text after to → length text ≤ length out → (to ≡ length text) × (after ≡ sets out 0 text)
+unfolding indexAfter
+puts-whole p h = (p .index ∙ omega arith, p .bytes)
 
 -- what is left to be put of a text: behind what was put, it completes the text
 pub record Left (out₀ : List ℕ) (at : ℕ) (text out : List ℕ) (to : ℕ) (rest : List ℕ) : Type 0 where
@@ -90,24 +95,26 @@ module _ {out₀ : List ℕ} {at : ℕ} {text out : List ℕ} {to i : ℕ} (p : 
           same = p .same ∙ rw (drop-cons text i 0 h, add-one to, add-one i);
         }
 
-pairs-at : (s : List ℕ) (i : ℕ) → i < length s → pairsText (drop i s) ≡ pairText (getD s i 0) ++ pairsText (drop (i + 1) s)
-unfolding pairsText
-pairs-at s i h = rw (drop-cons s i 0 h, add-one)
+-- A LOOP that puts the texts of a list's elements, one behind the other: the first i are put
+module _ {A : Type 0} (text : A → List ℕ) where
+  texts-at : (d : A) (L : List A) (i : ℕ) → i < length L → flatMap text (drop i L) ≡ text (getD L i d) ++ flatMap text (drop (i + 1) L)
+  unfolding flatMap
+  texts-at d L i h = rw (drop-cons L i d h, add-one)
 
-pairs-none : pairsText [] ≡ []
-unfolding pairsText
-pairs-none = refl
+  texts-none : flatMap text [] ≡ []
+  unfolding flatMap
+  texts-none = refl
 
-pub record Spelt (out₀ : List ℕ) (at : ℕ) (s out : List ℕ) (to i : ℕ) : Type 0 where
-  pub within : i ≤ length s
-  pub left : Left out₀ at (pairsText s) out to (pairsText (drop i s))
+  pub record Spelt (out₀ : List ℕ) (at : ℕ) (L : List A) (out : List ℕ) (to i : ℕ) : Type 0 where
+    pub within : i ≤ length L
+    pub left : Left out₀ at (flatMap text L) out to (flatMap text (drop i L))
 
-pub spelt-none : (out : List ℕ) (at : ℕ) (s : List ℕ) → Spelt out at s out at 0
-spelt-none out at s = record { within = omega arith; left = left-all out at (pairsText s) }
+  pub spelt-none : (out : List ℕ) (at : ℕ) (L : List A) → Spelt out at L out at 0
+  spelt-none out at L = record { within = omega arith; left = left-all out at (flatMap text L) }
 
-module _ {out₀ : List ℕ} {at : ℕ} {s out : List ℕ} {to i : ℕ} (p : Spelt out₀ at s out to i) where
-  pub spelt-end : length s ≤ i → Puts out₀ at (pairsText s) out to
-  spelt-end h = left-none (rw (drop-of-length-le s h, pairs-none) at (p .left))
+  module _ {out₀ : List ℕ} {at : ℕ} {L : List A} {out : List ℕ} {to i : ℕ} (p : Spelt out₀ at L out to i) where
+    pub spelt-end : length L ≤ i → Puts out₀ at (flatMap text L) out to
+    spelt-end h = left-none (rw (drop-of-length-le L h, texts-none) at (p .left))
 
-  pub spelt-more : (h : i < length s) (out′ : List ℕ) (to′ : ℕ) → Puts out to (pairText (getD s i 0)) out′ to′ → Spelt out₀ at s out′ to′ (i + 1)
-  spelt-more h out′ to′ q = record { within = omega arith; left = left-behind (rw (pairs-at s i h) at (p .left)) q }
+    pub spelt-more : (d : A) (h : i < length L) {out′ : List ℕ} {to′ : ℕ} → Puts out to (text (getD L i d)) out′ to′ → Spelt out₀ at L out′ to′ (i + 1)
+    spelt-more d h q = record { within = omega arith; left = left-behind (rw (texts-at d L i h) at (p .left)) q }

@@ -1,15 +1,15 @@
--- Looking for the end of a word: `Searched` is what holds when the first i bytes are passed.
+-- Looking for the end of a word: `Searched` is what holds when the first i bytes are passed. Sameness of words as equality (`same-is`).
 use Prim.Native.Nat.{ℕ, suc, _+_, _-_, _≤_, _<_}
 use native.Mathlib.Numerals.{add-one}
 use native.Mathlib.Omega.{arith}
-use mathlib.Core.Path.{_≡_, refl, ap}
-use mathlib.Core.Bool.{Bool, true, false, cond}
+use mathlib.Core.Path.{_≡_, refl, sym, ap}
+use mathlib.Core.Bool.{Bool, true, false, cond, and-eq-true-iff}
 use mathlib.Core.List.{List, [], _∷_}
 use lib.Dec.{eqb}
 use lib.ListN.{length, getD, take, drop, drop-of-length-le, length-drop}
 use lib.Seq.{drop-cons, take-all}
-use borrow.Author.Tests.{eq-eqb, ne-eqb}
-use Rattle.lines.specs.Words.{before, wordAt}
+use borrow.Author.Tests.{eq-eqb, ne-eqb, eqb-true}
+use Rattle.lines.specs.Words.{before, wordAt, same}
 
 before-at : (stop i : ℕ) (s : List ℕ) → i < length s →
     before stop (drop i s) ≡ cond (eqb (getD s i 0) stop) [] (getD s i 0 ∷ before stop (drop (i + 1) s))
@@ -67,3 +67,25 @@ module _ {s : List ℕ} {stop i : ℕ} (p : Searched s stop i) where
     searched-more n =
         let z : length (before stop (drop i s)) ≡ suc (length (before stop (drop (i + 1) s))) = rw (before-at stop i s h, ne-eqb _ _ n) in
         record { within = omega arith; same = omega (arith, p .same) }
+
+-- ---- whether two words are the same
+pub same-refl : (s : List ℕ) → same s s ≡ true
+unfolding same
+same-refl [] = refl
+same-refl (a ∷ s) = rw (eq-eqb a a refl) (same-refl s)
+
+same-eq : (s t : List ℕ) → same s t ≡ true → s ≡ t
+unfolding same
+same-eq [] [] h = refl
+same-eq [] (b ∷ t) h = ap (λ x. cond x (b ∷ t) []) h
+same-eq (a ∷ s) [] h = ap (λ x. cond x [] (a ∷ s)) h
+same-eq (a ∷ s) (b ∷ t) h = let e = and-eq-true-iff (eqb a b) (same s t) .0 h in rw (eqb-true a b (e .0), same-eq s t (e .1))
+
+true-together : (r t : Bool) → (r ≡ true → t ≡ true) → (t ≡ true → r ≡ true) → r ≡ t
+true-together true true f g = refl
+true-together true false f g = sym (f refl)
+true-together false true f g = g refl
+true-together false false f g = refl
+
+pub same-is : (s t : List ℕ) (r : Bool) → (r ≡ true → s ≡ t) × (s ≡ t → r ≡ true) → r ≡ same s t
+same-is s t r h = true-together r (same s t) (λ e. rw (h .0 e) (same-refl t)) (λ e. h .1 (same-eq s t e))

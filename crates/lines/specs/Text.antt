@@ -1,8 +1,8 @@
--- Text put into a buffer (`Puts`), and how numbers and bytes are spelled (`decimal`, `signedText`, `bytesText`).
+-- Text put into a buffer (`Puts`), and how numbers, bytes and lists are spelled (`decimal`, `signedText`, `bytesText`, `spaced`).
 use Prim.Native.Nat.{ℕ, zero, suc, _+_, _-_, _/_, _%_, min}
 use mathlib.Core.Path.{_≡_}
 use mathlib.Core.Bool.{Bool, true, false, cond}
-use mathlib.Core.List.{List, [], _∷_, _++_}
+use mathlib.Core.List.{List, [], _∷_, _++_, flatMap}
 use lib.Dec.{ltb}
 use lib.ListN.{length}
 use lib.Seq.{sets}
@@ -27,6 +27,10 @@ decimalIn (suc k) n = cond (ltb n 10) ((48 + n) ∷ []) (decimalIn k (n / 10) ++
 abbrev pub decimal : ℕ → List ℕ
 decimal n = decimalIn 20 n
 
+-- the texts of a list's elements, a space before each
+abbrev pub spaced : {A : Type 0} → (A → List ℕ) → List A → List ℕ
+spaced text L = flatMap (λ x. ascii " " ++ text x) L
+
 abbrev pub signedText : Bool → ℕ → List ℕ
 signedText true n = ascii "-" ++ decimal n
 signedText false n = decimal n
@@ -35,9 +39,8 @@ signedText false n = decimal n
 abbrev pub pairText : ℕ → List ℕ
 pairText b = glyph (b / 16) ∷ glyph (b % 16) ∷ []
 
-unfoldable pub pairsText : List ℕ → List ℕ
-pairsText [] = []
-pairsText (b ∷ s) = pairText b ++ pairsText s
+abbrev pub pairsText : List ℕ → List ℕ
+pairsText s = flatMap pairText s
 
 -- bytes in hexadecimal, `-` for none
 abbrev pub bytesText : List ℕ → List ℕ

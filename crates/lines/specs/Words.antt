@@ -1,6 +1,6 @@
--- Words of a line: `wordAt`, from an index to the next space; `nextWord`, where the word behind it starts.
+-- Words of a line: `wordAt`, from an index to the next space; `nextWord`, where the word behind it starts; `same`, whether two are the same.
 use Prim.Native.Nat.{ℕ, _+_}
-use mathlib.Core.Bool.{cond}
+use mathlib.Core.Bool.{Bool, true, false, cond, _&&_}
 use mathlib.Core.List.{List, [], _∷_}
 use lib.Dec.{ltb, eqb}
 use lib.ListN.{length, drop}
@@ -16,3 +16,10 @@ wordAt s at = before 32 (drop at s)
 -- where the word behind the one at an index starts, past a space; past the end no word starts
 abbrev pub nextWord : List ℕ → ℕ → ℕ
 nextWord s at = cond (ltb (length s) at) at (at + length (wordAt s at) + 1)
+
+-- the same bytes
+unfoldable pub same : List ℕ → List ℕ → Bool
+same [] [] = true
+same [] (b ∷ t) = false
+same (a ∷ s) [] = false
+same (a ∷ s) (b ∷ t) = eqb a b && same s t

@@ -1,6 +1,6 @@
 -- The test of a shelf holds of no shelf but good ones (`tested-good`), and of every good one (`good-tested`). Its loops are tests of all numbers below one
--- (`all-below`, `all-fails`).
-use Prim.Native.Nat.{ℕ, zero, suc, _+_, _-_, _*_, _/_, _%_, _^_, _<_, _≤_}
+-- (`all-fails`, `Seen`).
+use Prim.Native.Nat.{ℕ, suc, _+_, _-_, _*_, _/_, _%_, _^_, _<_, _≤_}
 use native.Mathlib.Nat.{div-add-mod', div-lt-iff-lt-mul, mod-lt}
 use native.Mathlib.Decide.{ℕ-discrete}
 use native.Mathlib.Omega.{arith}
@@ -19,7 +19,9 @@ use Rattle.words.specs.Sources.{Each}
 use Rattle.table.specs.Table.{absent, factorsOf, padded, tableOf}
 use Rattle.places.specs.declared.Shelf.{Shelf}
 use Rattle.places.specs.Shelf.{rowsAt, tableAt, factorsAt, Good}
-use Rattle.places.specs.Check.{allBelow, isStored, isZero, sound, fewRows, soundAt, soundNumbers, isGood}
+use Rattle.places.specs.Check.{isStored, isZero, sound, fewRows, soundAt, soundNumbers, isGood}
+use Rattle.arrays.specs.Below.{allBelow}
+use Rattle.arrays.proofs.Below.{all-below, all-each}
 use Rattle.arrays.proofs.Filled.{read-any}
 use Rattle.places.proofs.Holding.{number-at}
 use Rattle.table.proofs.RowByRow.{row-below}
@@ -27,23 +29,8 @@ use Rattle.table.proofs.Table.{within-cases, table-at, table-list}
 
 -- A TEST OF ALL NUMBERS BELOW n
 module _ (f : ℕ → Bool) where
-  pub all-below : (n : ℕ) → ((i : ℕ) → i < n → f i ≡ true) → allBelow n f ≡ true
-  unfolding allBelow
-  all-below zero h = refl
-  all-below (suc n) h = and-eq-true-iff (allBelow n f) (f n) .1 (all-below n (λ i g. h i (omega arith)), h n (omega arith))
-
-  pub all-each : (n : ℕ) → allBelow n f ≡ true → (i : ℕ) → i < n → f i ≡ true
-  unfolding allBelow
-  all-each zero e i h = absurd (omega arith)
-  all-each (suc n) e i h =
-      let p = and-eq-true-iff (allBelow n f) (f n) .0 e in
-      elim (ℕ-discrete i n) [
-        | yes q ↦ rw q (p .1)
-        | no q ↦ all-each n (p .0) i (omega arith)
-      ]
-
   pub all-fails : (n i : ℕ) → i < n → f i ≡ false → allBelow n f ≡ false
-  all-fails n i h e = unless (allBelow n f) (λ g. true≢false (sym (all-each n g i h) ∙ e))
+  all-fails n i h e = unless (allBelow n f) (λ g. true≢false (sym (all-each f n g i h) ∙ e))
 
   -- what a loop has seen so far
   pub record Seen (n k : ℕ) : Type 0 where
@@ -65,7 +52,7 @@ module _ (f : ℕ → Bool) where
       }
 
   pub seen-all : {n k : ℕ} → Seen n k → n ≤ k → allBelow n f ≡ true
-  seen-all {n} {k} w h = all-below n (λ i g. w .each i (omega arith))
+  seen-all {n} {k} w h = all-below f n (λ i g. w .each i (omega arith))
 
 -- NUMBERS
 zero-is : (a : Number) → isZero a ≡ true → a ≡ zeroNumber

@@ -1,18 +1,14 @@
 -- The test of a shelf that nothing vouches for (`isGood`): it holds of the good shelves and of no others.
-use Prim.Native.Nat.{ℕ, zero, suc, _/_, _%_, _^_}
-use mathlib.Core.Bool.{Bool, true, cond, _&&_}
+use Prim.Native.Nat.{ℕ, suc, _/_, _%_, _^_}
+use mathlib.Core.Bool.{Bool, cond, _&&_}
 use lib.Dec.{eqb, leb, ltb}
 use lib.ListN.{getD}
+use Rattle.arrays.specs.Below.{allBelow}
 use Rattle.number.specs.declared.Number.{Number}
 use Rattle.number.specs.Number.{bias, inRange}
 use Rattle.table.specs.Table.{absent}
 use Rattle.places.specs.declared.Shelf.{Shelf}
 use Rattle.places.specs.Shelf.{rowsAt}
-
--- a test of 0 .. n - 1
-unfoldable pub allBelow : ℕ → (ℕ → Bool) → Bool
-allBelow zero f = true
-allBelow (suc n) f = allBelow n f && f n
 
 unfoldable pub isStored : Number → Bool
 isStored a = leb (2 ^ 31) (a .m) && (ltb (a .m) (2 ^ 32) && inRange a)

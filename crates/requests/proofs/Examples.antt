@@ -3,11 +3,11 @@ use mathlib.Core.Path.{_≡_, refl}
 use mathlib.Core.List.{[], _∷_}
 use lib.IntN.{pos, negsuc}
 use Rattle.lines.specs.Ascii.{ascii}
-use Rattle.lines.specs.Words.{before}
+use Rattle.lines.specs.Words.{before, same}
 use Rattle.lines.specs.Decimal.{allNumerals, valueFrom}
 use Rattle.lines.specs.Hexadecimal.{allDigits, spelledBytes}
-use Rattle.requests.specs.declared.commands.Command.the-variants.{Load, Product, Build, Carry, Add}
-use Rattle.requests.specs.Words.{wordsOf, same}
+use Rattle.requests.specs.declared.commands.Command.the-variants.{Load, Product, Build, Carry, Add, Sentence}
+use Rattle.requests.specs.Words.{wordsOf}
 use Rattle.requests.specs.Commands.{entryForm, formOf}
 use Rattle.requests.specs.Lists.{spelledList}
 use Rattle.requests.specs.Items.{spelledItem}
@@ -76,3 +76,16 @@ build-sixteen = refl
 build-seventeen : requestOf (ascii "build 3 1 2 3 4 5 6 7 8 9 10 11 12 13 14 15 16 17") ≡ bad
 unfolding requestOf formOf entryForm same wordsOf letterNumbers allNumerals valueFrom spelledList
 build-seventeen = refl
+
+sentence : requestOf (ascii "sentence 38 11 0 6") ≡ askedWholes Sentence (38 ∷ 11 ∷ 0 ∷ 0 ∷ []) (6 ∷ [])
+unfolding requestOf formOf entryForm same wordsOf letterNumbers allNumerals valueFrom spelledList
+sentence = refl
+
+-- any number of 32 bits, and one more
+sentence-largest : requestOf (ascii "sentence 512 256 4294967295 4294967295 0") ≡ askedWholes Sentence (512 ∷ 256 ∷ 4294967295 ∷ 0 ∷ []) (4294967295 ∷ 0 ∷ [])
+unfolding requestOf formOf entryForm same wordsOf letterNumbers allNumerals valueFrom spelledList
+sentence-largest = refl
+
+sentence-larger : requestOf (ascii "sentence 512 11 0 4294967296") ≡ bad
+unfolding requestOf formOf entryForm same wordsOf letterNumbers allNumerals valueFrom spelledList
+sentence-larger = refl

@@ -1,4 +1,4 @@
--- The words of a line by their indices (`words-at`, `words-past`), and sameness as equality (`same-is`).
+-- The words of a line by their indices (`words-at`, `words-past`).
 use Prim.Native.Nat.{ℕ, zero, suc, _+_, _≤_, _<_, compare·suc-suc}
 use native.Mathlib.Omega.{arith}
 use mathlib.Core.Path.{_≡_, refl, sym, ap, _∙_}
@@ -6,10 +6,9 @@ use mathlib.Core.Bool.{Bool, true, false, cond}
 use mathlib.Core.List.{List, [], _∷_}
 use lib.Dec.{eqb, ltb}
 use lib.ListN.{length, drop, drop-of-length-le}
-use borrow.Author.Tests.{lt-ltb, le-ltb, ltb-true, ltb-false, eq-eqb, eqb-true}
-use Rattle.number.proofs.Tests.{both}
+use borrow.Author.Tests.{lt-ltb, le-ltb, ltb-true, ltb-false}
 use Rattle.lines.specs.Words.{before, wordAt, nextWord}
-use Rattle.requests.specs.Words.{wordsOf, wordsAt, inFront, firstWord, wordsBehind, same}
+use Rattle.requests.specs.Words.{wordsOf, wordsAt, inFront, firstWord, wordsBehind}
 
 pub words-past : (s : List ℕ) (at : ℕ) → length s < at → wordsAt s at ≡ []
 words-past s at h = rw (lt-ltb _ _ h)
@@ -66,24 +65,3 @@ words-behind s at = behind-by s at (ltb (length s) at) refl
 
 pub words-all : (s : List ℕ) → wordsAt s 0 ≡ wordsOf s
 words-all s = rw (le-ltb (length s) 0 (omega arith))
-
-same-refl : (s : List ℕ) → same s s ≡ true
-unfolding same
-same-refl [] = refl
-same-refl (a ∷ s) = rw (eq-eqb a a refl) (same-refl s)
-
-same-eq : (s t : List ℕ) → same s t ≡ true → s ≡ t
-unfolding same
-same-eq [] [] h = refl
-same-eq [] (b ∷ t) h = ap (λ x. cond x (b ∷ t) []) h
-same-eq (a ∷ s) [] h = ap (λ x. cond x [] (a ∷ s)) h
-same-eq (a ∷ s) (b ∷ t) h = let e = both (eqb a b) (same s t) h in rw (eqb-true a b (e .0), same-eq s t (e .1))
-
-true-together : (r t : Bool) → (r ≡ true → t ≡ true) → (t ≡ true → r ≡ true) → r ≡ t
-true-together true true f g = refl
-true-together true false f g = sym (f refl)
-true-together false true f g = g refl
-true-together false false f g = refl
-
-pub same-is : (s t : List ℕ) (r : Bool) → (r ≡ true → s ≡ t) × (s ≡ t → r ≡ true) → r ≡ same s t
-same-is s t r h = true-together r (same s t) (λ e. rw (h .0 e) (same-refl t)) (λ e. h .1 (same-eq s t e))

@@ -6,13 +6,14 @@ use mathlib.Core.List.{List, [], _∷_}
 use Rattle.lines.specs.Ascii.{ascii}
 use Rattle.requests.specs.declared.commands.Command.{Command}
 use Rattle.requests.specs.declared.commands.Command.the-variants.{Load, Write, Drop, Product, Inverse, Converse, Transpose, Submatrix, Build}
-use Rattle.requests.specs.declared.commands.Command.the-variants.{Minor, Carry, Reversals, Add, Multiply, Divide, Rest, Show, Bad}
+use Rattle.requests.specs.declared.commands.Command.the-variants.{Minor, Carry, Reversals, Add, Multiply, Divide, Rest, Sentence, Show, Bad}
 use Rattle.requests.specs.declared.commands.Form.{Form}
 use Rattle.requests.specs.declared.commands.Tail.{Tail}
-use Rattle.requests.specs.declared.commands.Tail.the-variants.{None, Bytes, Items, Two, Wholes}
-use Rattle.requests.specs.Words.{same}
+use Rattle.requests.specs.declared.commands.Tail.the-variants.{None, Bytes, Items, Two, Stamps, Places}
+use Rattle.lines.specs.Words.{same}
 
--- a word, and its form: a command, the letters of its numbers (P a place, M a mask, C a length to lend, - no number), and what stands behind them
+-- a word, and its form: a command, the letters of its numbers (P a place or another number of 32 bits, M a mask, C a length to lend, - no number), and what
+-- stands behind them
 pub record Entry : Type 0 where
   pub word : List ℕ
   pub form : Form
@@ -30,7 +31,7 @@ firstForms =
     ∷ entry "converse" Converse "PP--" None
     ∷ entry "transpose" Transpose "PP--" None
     ∷ entry "submatrix" Submatrix "PMMP" None
-    ∷ entry "build" Build "P---" Wholes
+    ∷ entry "build" Build "P---" Stamps
     ∷ []
 
 abbrev pub secondForms : List Entry
@@ -42,6 +43,7 @@ secondForms =
     ∷ entry "multiply" Multiply "----" Two
     ∷ entry "divide" Divide "----" Two
     ∷ entry "rest" Rest "----" Bytes
+    ∷ entry "sentence" Sentence "CPP-" Places
     ∷ entry "show" Show "P---" None
     ∷ []
 

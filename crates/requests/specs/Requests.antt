@@ -16,7 +16,7 @@ use Rattle.requests.specs.declared.commands.Command.{Command}
 use Rattle.requests.specs.declared.commands.Command.the-variants.{Bad}
 use Rattle.requests.specs.declared.commands.Form.{Form}
 use Rattle.requests.specs.declared.commands.Tail.{Tail}
-use Rattle.requests.specs.declared.commands.Tail.the-variants.{None, Bytes, Items, Two, Wholes}
+use Rattle.requests.specs.declared.commands.Tail.the-variants.{None, Bytes, Items, Two, Stamps, Places}
 use Rattle.requests.specs.declared.request.Numbers.{Numbers}
 use Rattle.requests.specs.declared.request.Request.{Request}
 use Rattle.requests.specs.Words.{wordsOf, wordsAt, firstWord, wordsBehind}
@@ -24,7 +24,7 @@ use Rattle.requests.specs.Commands.{formOf}
 use Rattle.requests.specs.Items.{spelledItems}
 use Rattle.requests.specs.Wholes.{spelledWholes}
 
--- the largest number that a letter stands for: a place, a mask, a length to lend
+-- the largest number that a letter stands for: a place or another number of 32 bits, a mask, a length to lend
 abbrev pub most : ℕ → ℕ
 most letter = cond (eqb letter 80) 4294967295 (cond (eqb letter 77) 255 512)
 
@@ -145,7 +145,8 @@ withTail command None (some v) = withNothing command (v .values) (v .left)
 withTail command Bytes (some v) = withBytes command (v .values) (v .left)
 withTail command Items (some v) = withItems command (v .values) (v .left)
 withTail command Two (some v) = withTwo command (v .values) (v .left)
-withTail command Wholes (some v) = withWholes (2 ^ 64 - 1) command (v .values) (v .left)
+withTail command Stamps (some v) = withWholes (2 ^ 64 - 1) command (v .values) (v .left)
+withTail command Places (some v) = withWholes (2 ^ 32 - 1) command (v .values) (v .left)
 
 -- the request of a form with the words behind the first
 abbrev pub formRequest : Form → List (List ℕ) → Asked

@@ -1,6 +1,6 @@
--- The words of a line (`wordsOf`), and whether two words are the same.
+-- The words of a line (`wordsOf`).
 use Prim.Native.Nat.{ℕ}
-use mathlib.Core.Bool.{Bool, true, false, cond, _&&_}
+use mathlib.Core.Bool.{cond}
 use mathlib.Core.List.{List, [], _∷_}
 use lib.Dec.{ltb, eqb}
 use lib.ListN.{length, drop}
@@ -27,9 +27,3 @@ firstWord (w ∷ ws) = w
 abbrev pub wordsBehind : List (List ℕ) → List (List ℕ)
 wordsBehind [] = []
 wordsBehind (w ∷ ws) = ws
-
-unfoldable pub same : List ℕ → List ℕ → Bool
-same [] [] = true
-same [] (b ∷ t) = false
-same (a ∷ s) [] = false
-same (a ∷ s) (b ∷ t) = eqb a b && same s t

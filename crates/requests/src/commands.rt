@@ -19,6 +19,7 @@ pub enum Command {
     Multiply,
     Divide,
     Rest,
+    Sentence,
     Show,
     // None of these.
     Bad,
@@ -31,11 +32,12 @@ pub enum Tail {
     Items,
     // Exactly two items.
     Two,
-    // At most 16 whole numbers of 64 bits.
-    Wholes,
+    // At most 16 whole numbers: stamps of 64 bits, or places of 32.
+    Stamps,
+    Places,
 }
 
-// A command, the letters of its numbers (P a place, M a mask, C a length to lend, - no number), and what stands behind them.
+// A command, the letters of its numbers (P a place or another number of 32 bits, M a mask, C a length to lend, - no number), and what stands behind them.
 pub struct Form {
     pub command: Command,
     pub letters: [u8; 4],
@@ -76,7 +78,7 @@ fn first_forms(w: &[u8], before: Form) -> Form
     let f = named(w, f, b"converse", Command::Converse, b"PP--", Tail::None);
     let f = named(w, f, b"transpose", Command::Transpose, b"PP--", Tail::None);
     let f = named(w, f, b"submatrix", Command::Submatrix, b"PMMP", Tail::None);
-    named(w, f, b"build", Command::Build, b"P---", Tail::Wholes)
+    named(w, f, b"build", Command::Build, b"P---", Tail::Stamps)
 }
 
 fn second_forms(w: &[u8], before: Form) -> Form
@@ -89,6 +91,7 @@ fn second_forms(w: &[u8], before: Form) -> Form
     let f = named(w, f, b"multiply", Command::Multiply, b"----", Tail::Two);
     let f = named(w, f, b"divide", Command::Divide, b"----", Tail::Two);
     let f = named(w, f, b"rest", Command::Rest, b"----", Tail::Bytes);
+    let f = named(w, f, b"sentence", Command::Sentence, b"CPP-", Tail::Places);
     named(w, f, b"show", Command::Show, b"P---", Tail::None)
 }
 

@@ -32,7 +32,7 @@ pub struct Request {
     pub wholes: usize,
 }
 
-// The largest number that a letter stands for: a place, a mask, a length to lend.
+// The largest number that a letter stands for: a place or another number of 32 bits, a mask, a length to lend.
 fn most(letter: u8) -> u64
     ensures { λ r. ⌜ r ≡ most letter ⌝ }
 {
@@ -239,7 +239,8 @@ fn with_tail(
         Tail::Bytes => with_bytes(line, command, values, next, bytes),
         Tail::Items => with_items(line, command, values, next, list),
         Tail::Two => with_two(line, command, values, next, list),
-        Tail::Wholes => with_wholes(line, command, values, next, u64::MAX, wholes),
+        Tail::Stamps => with_wholes(line, command, values, next, u64::MAX, wholes),
+        Tail::Places => with_wholes(line, command, values, next, 4294967295, wholes),
         Tail::None => with_nothing(line, command, values, next),
     }
 }

@@ -12,7 +12,7 @@ use Rattle.operations.proofs.Building.{build-good}
 use Rattle.operations.proofs.Results.{product-ready, whole-ready, submatrix-ready, operation-good}
 use Rattle.shelf.specs.Calls.{writeCall, carryCall}
 use Rattle.shelf.specs.Run.{Call, load, write, drop, product, inverse, converse, submatrix, transpose, build, minor}
-use Rattle.shelf.specs.Run.{carry, reversals, arithmetic, rest, rows, factor}
+use Rattle.shelf.specs.Run.{carry, reversals, arithmetic, rest, sentence, rows, factor}
 use Rattle.shelf.specs.Run.{Given, AllGiven, run, afterEach, afterCalls}
 use Rattle.shelf.proofs.Loading.{load-good}
 use Rattle.shelf.proofs.Dropping.{drop-good}
@@ -33,6 +33,7 @@ run-good s g (carry p items out) h = g
 run-good s g (reversals items) h = g
 run-good s g (arithmetic o items) h = g
 run-good s g (rest bytes) h = g
+run-good s g (sentence a out) h = g
 run-good s g (rows p) h = g
 run-good s g (factor p i j) h = g
 

@@ -10,12 +10,14 @@ use Rattle.lists.specs.Lists.{reversalsCall}
 use Rattle.rests.specs.declared.Operator.{Operator}
 use Rattle.arithmetic.specs.Arithmetic.{arithmeticCall}
 use Rattle.verdict.specs.Report.{accepted}
+use Rattle.sentences.specs.Sentence.{Notice, sentenceReport, bytesAfterSentence}
 use Rattle.places.specs.declared.Shelf.{Shelf}
 use Rattle.places.specs.Outcome.{Outcome, outcome}
 use Rattle.operations.specs.Operations.{transposeCall, buildCall, productCall, inverseCall, converseCall, submatrixCall, minorCall}
 use Rattle.shelf.specs.Calls.{loadCall, dropCall, writeCall, carryCall, rowsCall, factorCall}
 
--- a call with what it is given: places, masks, bytes, time stamps, an operator, items, and last the bytes or items that it is lent to write to
+-- a call with what it is given: places, masks, bytes, time stamps, an operator, items, what a sentence tells, and last the bytes or items that it is lent to
+-- write to
 pub data Call : Type 0 where
   load : ℕ → List ℕ → Call
   write : ℕ → List ℕ → Call
@@ -31,10 +33,11 @@ pub data Call : Type 0 where
   reversals : List ℤ → Call
   arithmetic : Operator → List ℤ → Call
   rest : List ℕ → Call
+  sentence : Notice → List ℕ → Call
   rows : ℕ → Call
   factor : ℕ → ℕ → ℕ → Call
 
--- WHAT A CALL DOES; `rest` returns bytes: the part of those it is given behind the first matrix
+-- WHAT A CALL DOES; `rest` returns bytes: the part of those it is given behind the first matrix. The shelf has no part in a sentence
 unfoldable pub run : Shelf → Call → Outcome
 run s (load p bytes) = loadCall s p bytes
 run s (write p out) = writeCall s p out
@@ -50,6 +53,7 @@ run s (carry p items out) = carryCall s p items out
 run s (reversals items) = outcome s (reversalsCall items)
 run s (arithmetic o items) = outcome s (arithmeticCall o items)
 run s (rest bytes) = record { shelf = s; report = accepted []; bytes = behindOf bytes; items = [] }
+run s (sentence a out) = record { shelf = s; report = sentenceReport a out; bytes = bytesAfterSentence a out; items = [] }
 run s (rows p) = outcome s (rowsCall s p)
 run s (factor p i j) = outcome s (factorCall s p i j)
 
@@ -69,6 +73,7 @@ Given (carry p items out) = Unit {0}
 Given (reversals items) = Unit {0}
 Given (arithmetic o items) = Unit {0}
 Given (rest bytes) = Unit {0}
+Given (sentence a out) = Unit {0}
 Given (rows p) = Unit {0}
 Given (factor p i j) = Unit {0}
 

@@ -26,6 +26,7 @@ use places::judge;
 pub use places::new;
 pub use places::rows_at;
 pub use reader::behind;
+pub use sentences::sentence;
 pub use verdict::Refusal;
 pub use verdict::Verdict;
 pub use writer::Written;

@@ -4,4 +4,5 @@ pub mod Numbers
 pub mod Answered
 pub mod Carried
 pub mod Logged
+pub mod Sentences
 pub mod Chains

@@ -1,8 +1,8 @@
 -- What the calls for C and Rust answer. Nothing vouches for the shelf that such a caller hands over, so it is tested first (`checked`): on a good shelf the
 -- call is run (`run`, the one list of calls), any other is turned away with 255 (`foreign`). What a call does as a struct that C can hold: `answerOf`,
 -- `lengthOf`, `valueOf`, `workedOf`, `statusOf`. Demand 3 of an answer: `Answered`; the promise of a build: `BuiltAnswer`; of a carry: `SteadyStatus`; of a
--- worked number: `LoggedAnswer`. Any sequence of calls: `afterAnswers`.
-use Prim.Native.Nat.{ℕ}
+-- worked number: `LoggedAnswer`; of a sentence: `SentenceAnswer`. Any sequence of calls: `afterAnswers`.
+use Prim.Native.Nat.{ℕ, _≤_}
 use mathlib.Core.Path.{_≡_}
 use mathlib.Core.Bool.{cond}
 use mathlib.Core.List.{List, []}
@@ -17,10 +17,12 @@ use Rattle.arithmetic.specs.Promise.{itemValue}
 use Rattle.places.specs.declared.Shelf.{Shelf}
 use Rattle.places.specs.Check.{isGood}
 use Rattle.places.specs.Outcome.{Outcome}
+use Rattle.sentences.specs.Sentence.{Notice, isUnsayable}
+use Rattle.sentences.specs.Promise.{TellsOnly, sentenceRoom}
 use Rattle.lists.specs.Promise.{NoMoreReversals}
 use Rattle.operations.specs.Promise.{Met, Built}
 use Rattle.shelf.specs.Run.{Call, load, write, drop, product, inverse, converse, submatrix, transpose, build, minor, run, afterEach}
-use Rattle.shelf.specs.Run.{carry, reversals, arithmetic, rest, rows, factor}
+use Rattle.shelf.specs.Run.{carry, reversals, arithmetic, rest, sentence, rows, factor}
 use Rattle.tnb_c.specs.declared.Answer.{Answer}
 use Rattle.tnb_c.specs.declared.Length.{Length}
 use Rattle.tnb_c.specs.declared.Status.{Status}
@@ -46,6 +48,7 @@ foreign s (carry p items out) = turnedAway s [] out
 foreign s (reversals items) = turnedAway s [] []
 foreign s (arithmetic o items) = turnedAway s [] []
 foreign s (rest bytes) = turnedAway s [] []
+foreign s (sentence a out) = turnedAway s out []
 foreign s (rows p) = turnedAway s [] []
 foreign s (factor p i j) = turnedAway s [] []
 
@@ -113,3 +116,9 @@ SteadyStatus a given out = a .number ≡ 0 → NoMoreReversals given (take (leng
 abbrev pub LoggedAnswer : Operator → Worked → (given : List ℤ) → Type 0
 LoggedAnswer o a given =
     a .number ≡ 0 → Balanced o (itemValue given 0) (itemValue given 1) (dyadic (pos (a .mantissa)) (a .exponent)) (a .rest) (a .«rest_exponent»)
+
+-- THE PROMISE OF A SENTENCE (document 02, request (n)): where its number is 0, what was written is the sentence of this notice and of no other; and with 220
+-- lent bytes it is 9 where there is none to write, else 0
+pub record SentenceAnswer (a : Notice) (out left : List ℕ) (r : Length) : Type 0 where
+  pub recovered : r .number ≡ 0 → TellsOnly a (take (r .length) left)
+  pub roomy : sentenceRoom ≤ length out → r .number ≡ cond (isUnsayable a) 9 0

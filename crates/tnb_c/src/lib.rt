@@ -6,9 +6,11 @@ ghost use Rattle.reader.specs.Matrix.{behindOf};
 ghost use Rattle.places.specs.Shelf.{emptyShelf, rowsAt};
 ghost use Rattle.lists.specs.Lists.{reversalsCall};
 ghost use Rattle.arithmetic.specs.Arithmetic.{arithmeticCall};
+ghost use Rattle.sentences.specs.Sentence.{notice, sentenceReport, bytesAfterSentence};
 ghost use Rattle.operations.specs.Operations.{productAt, inverseAt, converseAt, submatrixAt};
 ghost use Rattle.shelf.specs.Run.{load, drop, write, product, inverse, converse, submatrix, transpose, build, minor, carry, rows, factor};
-ghost use Rattle.tnb_c.specs.Answers.{checked, answerOf, lengthOf, valueOf, workedOf, statusOf, Answered, BuiltAnswer, SteadyStatus, LoggedAnswer};
+ghost use Rattle.tnb_c.specs.Answers.{checked, answerOf, lengthOf, valueOf, workedOf, statusOf};
+ghost use Rattle.tnb_c.specs.Answers.{Answered, BuiltAnswer, SteadyStatus, LoggedAnswer, SentenceAnswer};
 use arithmetic::Operator;
 use places::Shelf;
 use places::check;
@@ -277,4 +279,14 @@ pub extern "C" fn tnb_divide(items: &[i64]) -> Worked
     ensures { λ r. ⌜ LoggedAnswer Operator.Divide r (now (items .entry)) ⌝ }
 {
     worked_by(Operator::Divide, items)
+}
+
+// Writes the sentence of a refusal's number, its offset and up to seven places to lent bytes; 220 are always enough. No shelf is handed over.
+#[no_mangle]
+pub extern "C" fn tnb_sentence(number: u64, offset: u64, places: &[u64], out: &mut [u8]) -> Length
+    ensures { λ r. ⌜ r ≡ lengthOf (sentenceReport (notice number offset (now (places .entry))) (now (out .entry))) ⌝ }
+    ensures { λ _. ⌜ now (out .exit) ≡ bytesAfterSentence (notice number offset (now (places .entry))) (now (out .entry)) ⌝ }
+    ensures { λ r. ⌜ SentenceAnswer (notice number offset (now (places .entry))) (now (out .entry)) (now (out .exit)) r ⌝ }
+{
+    answers::written(sentences::sentence(number, offset, places, out))
 }

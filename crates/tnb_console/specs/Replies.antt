@@ -10,13 +10,15 @@ use Rattle.lines.specs.Text.{Puts}
 use Rattle.rests.specs.declared.Operator.the-variants as Operator
 use Rattle.places.specs.declared.Shelf.{Shelf}
 use Rattle.places.specs.Outcome.{Outcome}
-use Rattle.shelf.specs.Run.{run, load, write, drop, product, inverse, converse, transpose, submatrix, build, minor, carry, reversals, arithmetic, rest}
+use Rattle.sentences.specs.Sentence.{notice}
+use Rattle.shelf.specs.Run.{run, load, write, drop, product, inverse, converse, transpose, submatrix, build, minor}
+use Rattle.shelf.specs.Run.{carry, reversals, arithmetic, rest, sentence}
 use Rattle.answers.specs.Answers.{reportText, workedText, withBytes, badText}
 use Rattle.answers.specs.Items.{withItems}
 use Rattle.tnb_console.specs.declared.calls.Answered.{Answered}
 use Rattle.requests.specs.declared.commands.Command.{Command}
 use Rattle.requests.specs.declared.commands.Command.the-variants.{Load, Write, Drop, Product, Inverse, Converse, Transpose, Submatrix, Build}
-use Rattle.requests.specs.declared.commands.Command.the-variants.{Minor, Carry, Reversals, Add, Multiply, Divide, Rest, Show, Bad}
+use Rattle.requests.specs.declared.commands.Command.the-variants.{Minor, Carry, Reversals, Add, Multiply, Divide, Rest, Sentence, Show, Bad}
 use Rattle.requests.specs.Requests.{Asked}
 use Rattle.tnb_console.specs.Calls.{lentCount, lentBytes, lentItems, showText}
 
@@ -70,6 +72,8 @@ replyBy s Add v bytes items wholes = toldWorked (run s (arithmetic Operator.Add 
 replyBy s Multiply v bytes items wholes = toldWorked (run s (arithmetic Operator.Multiply items))
 replyBy s Divide v bytes items wholes = toldWorked (run s (arithmetic Operator.Divide items))
 replyBy s Rest v bytes items wholes = toldBytes (ascii "rest") (run s (rest bytes))
+replyBy s Sentence v bytes items wholes =
+    toldBytes (ascii "wrote") (run s (sentence (notice (getD v 1 0) (getD v 2 0) wholes) (lentBytes (lentCount (getD v 0 0)))))
 replyBy s Show v bytes items wholes = reply s (showText s (getD v 0 0))
 replyBy s Bad v bytes items wholes = reply s badText
 

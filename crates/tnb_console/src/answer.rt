@@ -55,7 +55,8 @@ fn some_wholes(list: &[u64], count: usize) -> &[u64]
     &list[0..count]
 }
 
-// The answer to a call with its numbers, bytes, items and whole numbers. A number is a place, a length to lend, or a mask of rows or columns.
+// The answer to a call with its numbers, bytes, items and whole numbers. A number is a place, a length to lend, a mask of rows or columns, or
+// what a sentence tells.
 fn to_command(
     shelf: Shelf,
     command: Command,
@@ -94,6 +95,7 @@ fn to_command(
         Command::Multiply => calls::arithmetic(shelf, Operator::Multiply, list, out, at),
         Command::Divide => calls::arithmetic(shelf, Operator::Divide, list, out, at),
         Command::Rest => calls::rest(shelf, bytes, out, at),
+        Command::Sentence => calls::sentence(shelf, a, b, c, wholes, out, at),
         Command::Show => calls::show(shelf, a, out, at),
         Command::Bad => calls::after(shelf, bad(out, at)),
     }

@@ -5,7 +5,10 @@ ghost use Rattle.lines.specs.Text.{Puts};
 ghost use Rattle.places.specs.Shelf.{Good};
 ghost use Rattle.operations.specs.Reports.{operatedOutcome};
 ghost use Rattle.shelf.specs.Reports.{changedOutcome};
-ghost use Rattle.shelf.specs.Run.{run, load, write, drop, minor, carry, reversals, arithmetic, rest};
+ghost use Rattle.writer.specs.Encoding.{writtenReport};
+ghost use Rattle.sentences.specs.Sentence.{notice};
+ghost use Rattle.shelf.specs.Run.{run, load, write, drop, minor, carry, reversals, arithmetic, rest, sentence};
+ghost use Rattle.answers.specs.Answers.{reportText, withBytes};
 ghost use Rattle.tnb_console.specs.Calls.{lentCount, lentBytes, lentItems, showText};
 ghost use Rattle.tnb_console.specs.Replies.{Replied, told, toldWorked, toldBytes, toldItems, reply};
 use crate::items;
@@ -14,6 +17,7 @@ use shelf::Operated;
 use shelf::Operator;
 use shelf::Refusal;
 use shelf::Shelf;
+use shelf::Written;
 
 // The shelf after a request, and the index of the output behind the answer.
 pub struct Answered {
@@ -76,6 +80,18 @@ fn lent(count: usize) -> usize
     count
 }
 
+// `wrote N` or the refusal, and behind it all the lent bytes.
+fn wrote(shelf: Shelf, answer: Written, bytes: &[u8], out: &mut [u8], at: usize) -> Answered
+    requires { ⌜ Good shelf ⌝ }
+    ensures { λ r. ⌜ Good (r .shelf) ⌝ }
+    ensures { λ r. ⌜ Replied (reply shelf (withBytes (reportText (ascii "wrote") (writtenReport answer)) (now (bytes .entry))))
+        (now (out .entry)) at (now (out .exit)) r ⌝ }
+{
+    let space = answers::put_written(out, at, answer);
+    let buffer = lines::put(out, space, b" ");
+    after(shelf, lines::put_bytes(out, buffer, bytes))
+}
+
 // Writes a place to lent bytes, which the answer ends with.
 fn write_to(shelf: Shelf, place: usize, bytes: &mut [u8], out: &mut [u8], at: usize) -> Answered
     requires { ⌜ Good shelf ⌝ }
@@ -83,9 +99,7 @@ fn write_to(shelf: Shelf, place: usize, bytes: &mut [u8], out: &mut [u8], at: us
     ensures { λ r. ⌜ Replied (toldBytes (ascii "wrote") (run shelf (write place (now (bytes .entry))))) (now (out .entry)) at (now (out .exit)) r ⌝ }
 {
     let written = shelf::write(shelf, place, bytes);
-    let space = answers::put_written(out, at, written);
-    let buffer = lines::put(out, space, b" ");
-    after(shelf, lines::put_bytes(out, buffer, bytes))
+    wrote(shelf, written, bytes, out, at)
 }
 
 // Lends so many bytes, each a5.
@@ -98,6 +112,46 @@ pub fn write(shelf: Shelf, place: usize, count: usize, out: &mut [u8], at: usize
     let bytes: &mut [u8] = &mut memory;
     let n = lent(count);
     write_to(shelf, place, &mut bytes[0..n], out, at)
+}
+
+// Writes the sentence of a refusal to lent bytes, which the answer ends with.
+fn sentence_to(
+    shelf: Shelf,
+    number: usize,
+    offset: usize,
+    places: &[u64],
+    bytes: &mut [u8],
+    out: &mut [u8],
+    at: usize,
+) -> Answered
+    requires { ⌜ Good shelf ⌝ }
+    ensures { λ r. ⌜ Good (r .shelf) ⌝ }
+    ensures { λ r. ⌜ Replied (toldBytes (ascii "wrote") (run shelf (sentence (notice number offset (now (places .entry))) (now (bytes .entry)))))
+        (now (out .entry)) at (now (out .exit)) r ⌝ }
+{
+    let written = shelf::sentence(number as u64, offset as u64, places, bytes);
+    wrote(shelf, written, bytes, out, at)
+}
+
+// Lends so many bytes, each a5.
+pub fn sentence(
+    shelf: Shelf,
+    count: usize,
+    number: usize,
+    offset: usize,
+    places: &[u64],
+    out: &mut [u8],
+    at: usize,
+) -> Answered
+    requires { ⌜ Good shelf ⌝ }
+    ensures { λ r. ⌜ Good (r .shelf) ⌝ }
+    ensures { λ r. ⌜ Replied (toldBytes (ascii "wrote") (run shelf (sentence (notice number offset (now (places .entry))) (lentBytes (lentCount count)))))
+        (now (out .entry)) at (now (out .exit)) r ⌝ }
+{
+    let mut memory = [0xa5u8; 512];
+    let bytes: &mut [u8] = &mut memory;
+    let n = lent(count);
+    sentence_to(shelf, number, offset, places, &mut bytes[0..n], out, at)
 }
 
 // Carries a list into lent items, which the answer ends with.

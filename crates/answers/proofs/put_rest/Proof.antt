@@ -1,4 +1,5 @@
 -- `answers::put_rest` meets its contract.
+use mathlib.Core.List.{flatMap}
 use Rattle.lines.specs.Ascii.{ascii}
 use Rattle.lines.proofs.Text.{puts-behind}
 use borrow.Author.Needs.{needs}
@@ -18,6 +19,7 @@ same-length : tie.Need-same-length
 same-length c = search needs
 
 returns : tie.Need-returns
+unfolding flatMap
 returns c = puts-behind {a = ascii "rest "} (c .before .before .before .before .before .before .put .ensures) (c .before .before .put-bytes .ensures)
 
 pub put-rest-spec : {M : Type 1} → statement M

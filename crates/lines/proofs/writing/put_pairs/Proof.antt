@@ -3,18 +3,19 @@ use Prim.Native.Nat.{_-_}
 use native.Mathlib.Omega.{arith}
 use borrow.Author.Needs.{needs}
 use lib.ListN.{length}
+use Rattle.lines.specs.Text.{pairText}
 use Rattle.lines.proofs.Text.{Spelt, spelt-none, spelt-end, spelt-more}
 use Rattle.lines.proofs.writing.put_pairs.Statement.{statement}
 use Rattle.lines.proofs.writing.put_pairs.Tie as tie
 
 abbrev Inv-loop : tie.InvT-loop
-Inv-loop out₀ at s to₀ i₀ out to i = Spelt out₀ at s out to i
+Inv-loop out₀ at s to₀ i₀ out to i = Spelt pairText out₀ at s out to i
 
 abbrev μ-loop : tie.MeasureT-loop
 μ-loop out₀ at s to₀ i₀ out to i = length s - i
 
 loop-holds : tie.Need-loop-holds Inv-loop μ-loop
-loop-holds c = spelt-none _ _ _
+loop-holds c = spelt-none _ _ _ _
 
 shared-slice-read-put-pair : tie.Need-shared-slice-read-put-pair Inv-loop μ-loop
 shared-slice-read-put-pair c = search needs
@@ -30,13 +31,13 @@ loop-less c = omega arith
 
 loop-again : tie.Need-loop-again Inv-loop μ-loop
 loop-again c =
-    spelt-more (c .before .before .before .before .before .before .loop .inv) (omega arith) _ _ (c .before .before .put-pair .ensures)
+    spelt-more _ (c .before .before .before .before .before .before .loop .inv) 0 (omega arith) (c .before .before .put-pair .ensures)
 
 same-length : tie.Need-same-length Inv-loop μ-loop
 same-length c = c .before .loop .inv .left .kept
 
 returns : tie.Need-returns Inv-loop μ-loop
-returns c = spelt-end (c .before .loop .inv) (c .loop-test .left)
+returns c = spelt-end _ (c .before .loop .inv) (c .loop-test .left)
 
 pub put-pairs-spec : {M : Type 1} → statement M
 put-pairs-spec =

@@ -1,7 +1,7 @@
 -- `requests::commands::named` meets its contract.
 use mathlib.Core.Path.{sym, _∙_}
 use Rattle.requests.specs.Commands.{entryForm}
-use Rattle.requests.proofs.Words.{same-is}
+use Rattle.lines.proofs.Words.{same-is}
 use borrow.Author.Needs.{needs}
 use Rattle.requests.proofs.commands.named.Statement.{statement}
 use Rattle.requests.proofs.commands.named.Tie as tie

@@ -38,6 +38,12 @@ with-wholes-requires c κs = search needs
 enum-told-5 : tie.Need-enum-told-5
 enum-told-5 c = search needs
 
+with-wholes-requires-2 : tie.Need-with-wholes-requires-2
+with-wholes-requires-2 c κs = search needs
+
+enum-told-6 : tie.Need-enum-told-6
+enum-told-6 c = search needs
+
 with-nothing-requires : tie.Need-with-nothing-requires
 with-nothing-requires c κs = search needs
 
@@ -63,8 +69,13 @@ returns-5 c =
 
 returns-6 : tie.Need-returns-6
 returns-6 c =
+    let well = c .before .before .before .before .before in
+    c .with-wholes2 .ensures _ _ ∙ rw (c .before .before .enum-told5 .given .1, not-false (well .before .before .before .args .read .well) (well .if1 .left))
+
+returns-7 : tie.Need-returns-7
+returns-7 c =
     let well = c .before .before .before .before in
-    c .with-nothing .ensures _ _ _ ∙ rw (c .before .enum-told5 .given .1, not-false (well .before .before .before .args .read .well) (well .if1 .left))
+    c .with-nothing .ensures _ _ _ ∙ rw (c .before .enum-told6 .given .1, not-false (well .before .before .before .args .read .well) (well .if1 .left))
 
 pub with-tail-spec : {M : Type 1} → statement M
 with-tail-spec =
@@ -81,9 +92,12 @@ with-tail-spec =
     enum-told-4
     with-wholes-requires
     enum-told-5
+    with-wholes-requires-2
+    enum-told-6
     with-nothing-requires
     returns-2
     returns-3
     returns-4
     returns-5
-    returns-6)
+    returns-6
+    returns-7)

@@ -143,11 +143,17 @@ rest-requires c κs = search needs
 enum-told-17 : tie.Need-enum-told-17
 enum-told-17 c = search needs
 
-show-requires : tie.Need-show-requires
-show-requires c κs = search needs
+sentence-requires : tie.Need-sentence-requires
+sentence-requires c κs = search needs
 
 enum-told-18 : tie.Need-enum-told-18
 enum-told-18 c = search needs
+
+show-requires : tie.Need-show-requires
+show-requires c κs = search needs
+
+enum-told-19 : tie.Need-enum-told-19
+enum-told-19 c = search needs
 
 bad-requires : tie.Need-bad-requires
 bad-requires c κs = search needs
@@ -313,7 +319,7 @@ same-length-17 c = search needs
 returns-17 : tie.Need-returns-17
 unfolding replyBy
 returns-17 c =
-    let call = c .before .before .show .ensures in
+    let call = c .before .before .sentence .ensures in
     (call .0, rw (c .before .before .before .before .enum-told17 .given .1) (call .1))
 
 same-length-18 : tie.Need-same-length-18
@@ -322,8 +328,17 @@ same-length-18 c = search needs
 returns-18 : tie.Need-returns-18
 unfolding replyBy
 returns-18 c =
+    let call = c .before .before .show .ensures in
+    (call .0, rw (c .before .before .before .before .enum-told18 .given .1) (call .1))
+
+same-length-19 : tie.Need-same-length-19
+same-length-19 c = search needs
+
+returns-19 : tie.Need-returns-19
+unfolding replyBy
+returns-19 c =
     let told = c .before .before .before .before .before in
-    (c .after .ensures .0, rw (told .enum-told18 .given .1) (replied refl (c .after .ensures .1) (c .before .before .before .bad .ensures)))
+    (c .after .ensures .0, rw (told .enum-told19 .given .1) (replied refl (c .after .ensures .1) (c .before .before .before .bad .ensures)))
 
 pub to-command-spec : {M : Type 1} → statement M
 to-command-spec =
@@ -374,8 +389,10 @@ to-command-spec =
     enum-told-16
     rest-requires
     enum-told-17
-    show-requires
+    sentence-requires
     enum-told-18
+    show-requires
+    enum-told-19
     bad-requires
     after-requires
     same-length
@@ -413,4 +430,6 @@ to-command-spec =
     same-length-17
     returns-17
     same-length-18
-    returns-18)
+    returns-18
+    same-length-19
+    returns-19)

@@ -1,0 +1,4 @@
+pub mod Reasons
+pub mod Sentence
+pub mod Promise
+pub mod Examples
