@@ -1,12 +1,9 @@
--- `tnb_console::answer::to_command` meets its contract: at each arm the call's own promise.
-use mathlib.Core.Path.{refl}
-use Rattle.lines.specs.Ascii.{ascii}
-use Rattle.shelf.specs.Run.{run}
-use Rattle.tnb_console.specs.Replies.{replyBy}
-use Rattle.tnb_console.proofs.Replies.{replied, told-as}
+-- `tnb_console::answer::to_command` meets its contract: what each arm answers stands in Arms; what the calls ask for is found.
+use Rattle.tnb_console.proofs.answer.to_command.Proof.Arms as arms
 use borrow.Author.Needs.{needs}
 use Rattle.tnb_console.proofs.answer.to_command.Statement.{statement}
 use Rattle.tnb_console.proofs.answer.to_command.Tie as tie
+mod Arms
 
 array-read-a : tie.Need-array-read-a
 array-read-a c = search needs
@@ -161,185 +158,6 @@ bad-requires c κs = search needs
 after-requires : tie.Need-after-requires
 after-requires c κs = search needs
 
-same-length : tie.Need-same-length
-same-length c = search needs
-
-returns : tie.Need-returns
-unfolding replyBy
-returns c =
-    let call = c .before .before .load .ensures in
-    (call .0, rw (c .before .before .before .before .enum-told .given .1) (call .1))
-
-same-length-2 : tie.Need-same-length-2
-same-length-2 c = search needs
-
-returns-2 : tie.Need-returns-2
-unfolding replyBy
-returns-2 c =
-    let call = c .before .before .write .ensures in
-    (call .0, rw (c .before .before .before .before .enum-told2 .given .1) (call .1))
-
-same-length-3 : tie.Need-same-length-3
-same-length-3 c = search needs
-
-returns-3 : tie.Need-returns-3
-unfolding replyBy
-returns-3 c =
-    let call = c .before .before .drop .ensures in
-    (call .0, rw (c .before .before .before .before .enum-told3 .given .1) (call .1))
-
-same-length-4 : tie.Need-same-length-4
-same-length-4 c = search needs
-
-returns-4 : tie.Need-returns-4
-unfolding replyBy run
-returns-4 c =
-    let call = c .before .before .before .before .product .ensures .0 in
-    let reply = c .before .before .operated .ensures in
-    (reply .0, rw (c .before .before .before .before .before .enum-told4 .given .1) (told-as (ascii "bound") _ call (reply .1)))
-
-same-length-5 : tie.Need-same-length-5
-same-length-5 c = search needs
-
-returns-5 : tie.Need-returns-5
-unfolding replyBy run
-returns-5 c =
-    let call = c .before .before .before .before .inverse .ensures .0 in
-    let reply = c .before .before .operated2 .ensures in
-    (reply .0, rw (c .before .before .before .before .before .enum-told5 .given .1) (told-as (ascii "bound") _ call (reply .1)))
-
-same-length-6 : tie.Need-same-length-6
-same-length-6 c = search needs
-
-returns-6 : tie.Need-returns-6
-unfolding replyBy run
-returns-6 c =
-    let call = c .before .before .before .before .converse .ensures .0 in
-    let reply = c .before .before .operated3 .ensures in
-    (reply .0, rw (c .before .before .before .before .before .enum-told6 .given .1) (told-as (ascii "bound") _ call (reply .1)))
-
-same-length-7 : tie.Need-same-length-7
-same-length-7 c = search needs
-
-returns-7 : tie.Need-returns-7
-unfolding replyBy run
-returns-7 c =
-    let call = c .before .before .before .before .transpose .ensures .0 in
-    let reply = c .before .before .operated4 .ensures in
-    (reply .0, rw (c .before .before .before .before .before .enum-told7 .given .1) (told-as (ascii "bound") _ call (reply .1)))
-
-same-length-8 : tie.Need-same-length-8
-same-length-8 c = search needs
-
-returns-8 : tie.Need-returns-8
-unfolding replyBy run
-returns-8 c =
-    let masks = c .before .before .before .before .before .before .before in
-    let call = rw (masks .before .mask .ensures, masks .mask2 .ensures) at (c .before .before .before .before .submatrix .ensures .0) in
-    let reply = c .before .before .operated5 .ensures in
-    (reply .0, rw (c .before .before .before .before .before .enum-told8 .given .1) (told-as (ascii "bound") _ call (reply .1)))
-
-same-length-9 : tie.Need-same-length-9
-same-length-9 c = search needs
-
-returns-9 : tie.Need-returns-9
-unfolding replyBy run
-returns-9 c =
-    let call = c .before .before .before .before .build .ensures .0 in
-    let reply = c .before .before .operated6 .ensures in
-    (reply .0, rw (c .before .before .before .before .before .enum-told9 .given .1) (told-as (ascii "bound") _ call (reply .1)))
-
-same-length-10 : tie.Need-same-length-10
-same-length-10 c = search needs
-
-returns-10 : tie.Need-returns-10
-unfolding replyBy
-returns-10 c =
-    let masks = c .before .before .before .before .before .before in
-    let call = rw (masks .before .mask .ensures, masks .mask2 .ensures) at (c .before .before .minor .ensures .1) in
-    (c .before .before .minor .ensures .0, rw (c .before .before .before .before .enum-told10 .given .1) call)
-
-same-length-11 : tie.Need-same-length-11
-same-length-11 c = search needs
-
-returns-11 : tie.Need-returns-11
-unfolding replyBy
-returns-11 c =
-    let call = c .before .before .carry .ensures in
-    (call .0, rw (c .before .before .before .before .enum-told11 .given .1) (call .1))
-
-same-length-12 : tie.Need-same-length-12
-same-length-12 c = search needs
-
-returns-12 : tie.Need-returns-12
-unfolding replyBy
-returns-12 c =
-    let call = c .before .before .reversals .ensures in
-    (call .0, rw (c .before .before .before .before .enum-told12 .given .1) (call .1))
-
-same-length-13 : tie.Need-same-length-13
-same-length-13 c = search needs
-
-returns-13 : tie.Need-returns-13
-unfolding replyBy
-returns-13 c =
-    let call = c .before .before .arithmetic .ensures in
-    (call .0, rw (c .before .before .before .before .enum-told13 .given .1) (call .1))
-
-same-length-14 : tie.Need-same-length-14
-same-length-14 c = search needs
-
-returns-14 : tie.Need-returns-14
-unfolding replyBy
-returns-14 c =
-    let call = c .before .before .arithmetic2 .ensures in
-    (call .0, rw (c .before .before .before .before .enum-told14 .given .1) (call .1))
-
-same-length-15 : tie.Need-same-length-15
-same-length-15 c = search needs
-
-returns-15 : tie.Need-returns-15
-unfolding replyBy
-returns-15 c =
-    let call = c .before .before .arithmetic3 .ensures in
-    (call .0, rw (c .before .before .before .before .enum-told15 .given .1) (call .1))
-
-same-length-16 : tie.Need-same-length-16
-same-length-16 c = search needs
-
-returns-16 : tie.Need-returns-16
-unfolding replyBy
-returns-16 c =
-    let call = c .before .before .rest .ensures in
-    (call .0, rw (c .before .before .before .before .enum-told16 .given .1) (call .1))
-
-same-length-17 : tie.Need-same-length-17
-same-length-17 c = search needs
-
-returns-17 : tie.Need-returns-17
-unfolding replyBy
-returns-17 c =
-    let call = c .before .before .sentence .ensures in
-    (call .0, rw (c .before .before .before .before .enum-told17 .given .1) (call .1))
-
-same-length-18 : tie.Need-same-length-18
-same-length-18 c = search needs
-
-returns-18 : tie.Need-returns-18
-unfolding replyBy
-returns-18 c =
-    let call = c .before .before .show .ensures in
-    (call .0, rw (c .before .before .before .before .enum-told18 .given .1) (call .1))
-
-same-length-19 : tie.Need-same-length-19
-same-length-19 c = search needs
-
-returns-19 : tie.Need-returns-19
-unfolding replyBy
-returns-19 c =
-    let told = c .before .before .before .before .before in
-    (c .after .ensures .0, rw (told .enum-told19 .given .1) (replied refl (c .after .ensures .1) (c .before .before .before .bad .ensures)))
-
 pub to-command-spec : {M : Type 1} → statement M
 to-command-spec =
     tie.close
@@ -395,41 +213,41 @@ to-command-spec =
     enum-told-19
     bad-requires
     after-requires
-    same-length
-    returns
-    same-length-2
-    returns-2
-    same-length-3
-    returns-3
-    same-length-4
-    returns-4
-    same-length-5
-    returns-5
-    same-length-6
-    returns-6
-    same-length-7
-    returns-7
-    same-length-8
-    returns-8
-    same-length-9
-    returns-9
-    same-length-10
-    returns-10
-    same-length-11
-    returns-11
-    same-length-12
-    returns-12
-    same-length-13
-    returns-13
-    same-length-14
-    returns-14
-    same-length-15
-    returns-15
-    same-length-16
-    returns-16
-    same-length-17
-    returns-17
-    same-length-18
-    returns-18
-    same-length-19
-    returns-19)
+    arms.kept-load
+    arms.answered-load
+    arms.kept-write
+    arms.answered-write
+    arms.kept-drop
+    arms.answered-drop
+    arms.kept-product
+    arms.answered-product
+    arms.kept-inverse
+    arms.answered-inverse
+    arms.kept-converse
+    arms.answered-converse
+    arms.kept-transpose
+    arms.answered-transpose
+    arms.kept-submatrix
+    arms.answered-submatrix
+    arms.kept-build
+    arms.answered-build
+    arms.kept-minor
+    arms.answered-minor
+    arms.kept-carry
+    arms.answered-carry
+    arms.kept-reversals
+    arms.answered-reversals
+    arms.kept-add
+    arms.answered-add
+    arms.kept-multiply
+    arms.answered-multiply
+    arms.kept-divide
+    arms.answered-divide
+    arms.kept-rest
+    arms.answered-rest
+    arms.kept-sentence
+    arms.answered-sentence
+    arms.kept-show
+    arms.answered-show
+    arms.kept-bad
+    arms.answered-bad)
