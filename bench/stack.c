@@ -1,7 +1,7 @@
 /* The sizes of the structs, and how much stack each call of the library takes. Each call runs on a stack of its own that was painted before;
  * afterwards the lowest byte that lost its paint tells the depth. Counted from the frame of a C function that makes the call, so with the shelf that
- * is handed over and the answer that comes back. Every call works on eight rows or a list, add, multiply and divide on two items. Exit status 1 if a
- * call answers otherwise than wanted. */
+ * is handed over and the answer that comes back. Every call works on eight rows or a list, add, multiply and divide on two items; a call on places also on
+ * banded ones, where zeros are looked for. Exit status 1 if a call answers otherwise than wanted. */
 #define _XOPEN_SOURCE 700
 #include "../include/beechcrib.h"
 #include "bytes.h"
@@ -178,14 +178,16 @@ static const struct {
     {"tnb_sentence", call_sentence, sizeof(tnb_length)},
 };
 
-/* eight rows at places 0 and 1, mantissas that differ, and a list of eight items with both signs */
-static void fill(void)
+/* eight rows at places 0 and 1, mantissas that differ, factors further than width from the diagonal zero; and a list of eight items with both signs */
+static void fill(int width)
 {
     shelf = tnb_new();
     for (unsigned p = 0; p < 2; p++) {
         plain_number factors[64];
-        for (unsigned t = 0; t < 64; t++)
-            factors[t] = (plain_number){0x80000000u + 12345678u * (64 * p + t) % 0x7fffffffu, -31};
+        for (unsigned t = 0; t < 64; t++) {
+            int far = abs((int)(t / 8) - (int)(t % 8)) > width;
+            factors[t] = far ? (plain_number){0, 0} : (plain_number){0x80000000u + 12345678u * (64 * p + t) % 0x7fffffffu, -31};
+        }
         tnb_answer a = tnb_load(shelf, p, bytes, matrix_bytes(8, factors, bytes));
         if (a.number != TNB_ACCEPTED)
             exit(1);
@@ -224,6 +226,19 @@ static size_t deepest(void (*run)(void))
     return a > b ? a : b;
 }
 
+/* the stack of a call that is accepted, on places of this width */
+static size_t accepted(size_t c, int width)
+{
+    fill(width);
+    call_write();
+    size_t most = deepest(calls[c].run);
+    if (number != TNB_ACCEPTED) {
+        printf("%s: refused %d\n", calls[c].name, number);
+        exit(1);
+    }
+    return most;
+}
+
 static void print_sizes(void)
 {
     printf("| struct | bytes |\n|:--|--:|\n");
@@ -237,13 +252,11 @@ int main(void)
     print_sizes();
     printf("| call            | stack, bytes | shelf and answer by value | the rest |\n");
     printf("|:----------------|-------------:|--------------------------:|---------:|\n");
-    fill();
     for (size_t c = 0; c < sizeof calls / sizeof calls[0]; c++) {
-        size_t good = deepest(calls[c].run);
-        if (number != TNB_ACCEPTED) {
-            printf("%s: refused %d\n", calls[c].name, number);
-            return 1;
-        }
+        size_t good = accepted(c, 6);
+        size_t full = accepted(c, 7);
+        if (full > good)
+            good = full;
         /* a shelf that is none of the library's takes another way */
         static tnb_shelf kept;
         kept = shelf;

@@ -1,8 +1,8 @@
 #!/usr/bin/env python3
 """Writes the pairs of matrices in the folders beside it, left.tnb and right.tnb in each.
 
-Each matrix is given by closed forms of its factors b(i,j), rounded to 32 binary digits. They come of the minors of the matrix: with M for
-minors, b(i,i) is M(1..i | 1..i) / M(1..i-1 | 1..i-1), and below the diagonal b(i,j) is
+Each matrix but those with zeros is given by closed forms of its factors b(i,j), rounded to 32 binary digits. They come of the minors of the
+matrix: with M for minors, b(i,i) is M(1..i | 1..i) / M(1..i-1 | 1..i-1), and below the diagonal b(i,j) is
 (M(i-j+1..i | 1..j) M(i-j..i-2 | 1..j-1)) / (M(i-j+1..i-1 | 1..j-1) M(i-j..i-1 | 1..j)); these matrices are symmetric.
 
 - ones: all factors one, two rows: the matrix 1 1; 1 2.
@@ -10,6 +10,10 @@ minors, b(i,i) is M(1..i | 1..i) / M(1..i-1 | 1..i-1), and below the diagonal b(
 - hilbert: entry (i,j) is 1/(i+j-1), eight rows. Its minors are Cauchy's determinants, which leave b(i,j) = (i-1)^2 / ((i+j-2)(i+j-1)) below
   the diagonal and b(i,i) = (i-1)!^4 / ((2i-2)! (2i-1)!).
 - mixed: left the three rows of hilbert, right those of pascal, so that the two files differ.
+- banded: five control points of a uniform cubic B-spline. Right takes them to the five around the middle one after every span is halved:
+  (P + 6 Q + R) / 8 in place of a control point Q between P and R, (P + Q) / 2 halfway between two. Left takes control points to the points of the
+  curve at their knots, (P + 4 Q + R) / 6, as if those beyond the five were zero. So the product takes the old control points to points of the
+  curve, and its middle row is 0 1 4 1 0 over 6 again: halving leaves the curve as it is. Factors, zeros among them, by elimination.
 
 Before a matrix is written, the exact factors are multiplied out as fractions and held to the entries.
 """
@@ -39,12 +43,43 @@ def hilbert_entry(i, j):
     return Fraction(1, i + j - 1)
 
 
+def knot_entry(i, j):
+    return Fraction(comb(2, 1 + i - j) ** 2, 6) if abs(i - j) < 2 else Fraction(0)
+
+
+def halved_entry(i, j):
+    """The binomial numbers 1 4 6 4 1 over 8, read two columns on for each row."""
+    k = 2 * (j - 1) - (i - 1)
+    return Fraction(comb(4, k), 8) if 0 <= k <= 4 else Fraction(0)
+
+
+def lower_factors(rows):
+    """Neville's elimination: from the last row up, each less a multiple of the one before it, column by column. What is zero already has the factor zero."""
+    rows, factors = [list(row) for row in rows], {}
+    for j in range(len(rows)):
+        for i in range(len(rows) - 1, j, -1):
+            factors[i + 1, j + 1] = multiple = rows[i][j] / rows[i - 1][j] if rows[i][j] else Fraction(0)
+            rows[i] = [x - multiple * y for x, y in zip(rows[i], rows[i - 1])]
+        factors[j + 1, j + 1] = rows[j][j]
+    return factors
+
+
+def eliminated(n, entry):
+    """The factors of a matrix that is given by its entries: those above the diagonal are the transpose's below it."""
+    rows = [[entry(i, j) for j in range(1, n + 1)] for i in range(1, n + 1)]
+    lower, upper = lower_factors(rows), lower_factors(zip(*rows))
+    return lambda i, j: lower[i, j] if i >= j else upper[j, i]
+
+
 # factors and entries of a matrix
 PASCAL = (one, pascal_entry)
 HILBERT = (hilbert, hilbert_entry)
+KNOTS = (eliminated(5, knot_entry), knot_entry)
+HALVED = (eliminated(5, halved_entry), halved_entry)
 
 # folder: rows, left, right
-PAIRS = {"ones": (2, PASCAL, PASCAL), "pascal": (5, PASCAL, PASCAL), "hilbert": (8, HILBERT, HILBERT), "mixed": (3, HILBERT, PASCAL)}
+PAIRS = {"ones": (2, PASCAL, PASCAL), "pascal": (5, PASCAL, PASCAL), "hilbert": (8, HILBERT, HILBERT), "mixed": (3, HILBERT, PASCAL),
+         "banded": (5, KNOTS, HALVED)}
 
 
 def word(n, factor):
@@ -83,8 +118,10 @@ def group(value):
 
 
 def encoding(n, factor):
-    numbers = (rounded(factor(i, j)) for i in range(1, n + 1) for j in range(1, n + 1))
-    return group(n) + b"".join(group(e + 1001) + group(m - 2 ** 31) for m, e in numbers)
+    """The bytes; zero is the exponent code 0 and has no mantissa."""
+    numbers = (factor(i, j) for i in range(1, n + 1) for j in range(1, n + 1))
+    pairs = (rounded(x) if x else None for x in numbers)
+    return group(n) + b"".join(group(pair[1] + 1001) + group(pair[0] - 2 ** 31) if pair else group(0) for pair in pairs)
 
 
 def main():

@@ -6,12 +6,12 @@
  *
  * Places count from 0 to 7. Row and column sets are masks, bit 0 for row 1.
  *
- * Every answer has a number: 0 for accepted, 1 to 15 for a refusal, 255 where the shelf handed over is not one that these calls can have made; they
+ * Every answer has a number: 0 for accepted, 1 to 17 for a refusal, 255 where the shelf handed over is not one that these calls can have made; they
  * have names below. docs/REFUSALS.md says when each refusal is given, and has the reason that tnb_sentence writes for it. A refused call changes
- * neither the shelf nor lent memory. Where several conditions hold, the order is 1 (sources, then target), 11, 12, 15, 13, 8, 9, 14, 10; a load tests
- * 1, 12, then bytes from the left.
+ * neither the shelf nor lent memory. Where several conditions hold, the order is 1 (sources, then target), 11, 12, 15, 13, 8, 17, 9, 14, 10; a load
+ * tests 1, 12, then bytes from the left: of a factor its exponent code for 2, 3, 5, then 6 or 16, then its mantissa.
  *
- * The offset: for 3 to 6 the first byte of the group number at fault, for 2 the length of the input, for 7 the first byte behind the matrix, else 0.
+ * The offset: for 3 to 6 and 16 the first byte of the group number at fault, for 2 the length of the input, for 7 the first byte behind the matrix, else 0.
  *
  * A pointer may be NULL where the length beside it is 0: nothing is then read or written there. */
 #ifndef BEECHCRIB_H
@@ -25,10 +25,10 @@ extern "C" {
 
 /* The version of this header and of the archive built beside it. It rises whenever a struct changes its size, a call or a number is added, or a call
  * answers otherwise than before (2: tnb_reversals passes over zeros; 3: tnb_add, tnb_multiply and tnb_divide are new; 4: tnb_build and its refusal 15
- * are new; 5: tnb_sentence is new). A program that uses only what stands here, and not the inside of a shelf, compiles again with every later
- * version; it is compiled again for each, since structs go by value. Later versions may refuse with numbers that are not listed yet: test for
- * TNB_ACCEPTED. */
-#define TNB_VERSION 5
+ * are new; 5: tnb_sentence is new; 6: factors may be zero in the pattern that tnb_load names, with the refusals 16 and 17). A program that uses only
+ * what stands here, and not the inside of a shelf, compiles again with every later version; it is compiled again for each, since structs go by value.
+ * Later versions may refuse with numbers that are not listed yet: test for TNB_ACCEPTED. */
+#define TNB_VERSION 6
 
 /* The numbers of answers. */
 enum {
@@ -38,7 +38,7 @@ enum {
     TNB_BAD_GROUP_NUMBER = 3,    /* group number not shortest, or 2^32 or more, or a fifth byte with its top bit set */
     TNB_ROWS_NOT_1_TO_8 = 4,     /* n not 1 to 8 */
     TNB_CODE_TOO_LARGE = 5,      /* exponent code above 2001, or mantissa part above 2^31 - 1 */
-    TNB_ZERO_FACTOR = 6,         /* zero factor */
+    TNB_ZERO_FACTOR = 6,         /* zero factor on the diagonal */
     TNB_BYTES_BEHIND_MATRIX = 7, /* bytes behind the matrix */
     TNB_BAD_SETS = 8,            /* sets of unequal count, empty, or beyond n */
     TNB_BAD_LIST = 9,            /* list length wrong, or an item not of the stated form, or, where numbers are worked, an item that is not positive; of a
@@ -49,6 +49,8 @@ enum {
     TNB_SIZES_DIFFER = 13,       /* sizes differ */
     TNB_EXPONENT_OUTSIDE = 14,   /* a new factor, an answered minor or a nonzero carried item has an exponent outside -1000 to 1000 */
     TNB_BAD_STAMPS = 15,         /* a time stamp is zero, is 2^32 or more, or does not exceed the one before it, or their count is not 1 to 8 */
+    TNB_BROKEN_PATTERN = 16,     /* a zero below the diagonal with a nonzero factor further down its column, or above it with one further right in its row */
+    TNB_SINGULAR = 17,           /* the chosen submatrix is singular: its exact determinant is zero */
     TNB_FOREIGN_SHELF = 255      /* the shelf handed over is not one that these calls can have made */
 };
 
@@ -80,7 +82,8 @@ typedef struct {
     size_t offset;
 } tnb_status;
 
-/* A minor or a factor: mantissa times 2 to the power exponent. Mantissa from 2^31 to 2^32 - 1; both 0 for zero and for a refusal. */
+/* A minor or a factor: mantissa times 2 to the power exponent. Mantissa from 2^31 to 2^32 - 1; both 0 for zero, which a minor and a factor off the
+ * diagonal may be, and for a refusal. */
 typedef struct {
     uint8_t number;
     size_t offset;
@@ -108,10 +111,12 @@ tnb_shelf tnb_new(void);
 tnb_length tnb_rows(tnb_shelf shelf, size_t place);
 
 /* Factor b(i, j) of the matrix at a place, i and j from 1 to its rows; zero (mantissa and exponent 0) for any other i or j, for an empty place
- * and for a place above 7. A stored factor is never zero. Never refused, but for 255. */
+ * and for a place above 7. A factor off the diagonal may be zero too, so that tnb_rows tells what is there. Never refused, but for 255. */
 tnb_value tnb_factor(tnb_shelf shelf, size_t place, size_t i, size_t j);
 
-/* Loads an empty place from the bytes of one matrix. Refusals 1, 12, 2 to 7. */
+/* Loads an empty place from the bytes of one matrix. A factor off the diagonal may be zero where every factor further down its column (below the
+ * diagonal) or further right in its row (above it) is zero too; 16 stands at the exponent code of the first nonzero factor behind a zero there.
+ * Refusals 1, 12, 2 to 7, 16. */
 tnb_answer tnb_load(tnb_shelf shelf, size_t place, const uint8_t *bytes, size_t count);
 
 /* Writes a place to lent bytes and answers the length, at most 449; no byte past it is changed. Refusals 1, 11, 10. */
@@ -129,7 +134,8 @@ tnb_answer tnb_inverse(tnb_shelf shelf, size_t source, size_t target);
 /* The converse of a place, to an empty place: rows and columns read backwards. Refusals 1, 11, 12, 14. */
 tnb_answer tnb_converse(tnb_shelf shelf, size_t source, size_t target);
 
-/* The submatrix of chosen rows and columns, to an empty place. Refusals 1, 11, 12, 8, 14. */
+/* The submatrix of chosen rows and columns, to an empty place. It must not be singular, which it cannot be where no factor of the source is zero.
+ * Refusals 1, 11, 12, 8, 17, 14. */
 tnb_answer tnb_submatrix(tnb_shelf shelf, size_t source, uint8_t rows, uint8_t columns, size_t target);
 
 /* The transpose of a place, to an empty place; no rounding, bound 0. Refusals 1, 11, 12. */
@@ -141,11 +147,11 @@ tnb_answer tnb_transpose(tnb_shelf shelf, size_t source, size_t target);
  * are always in range. Refusals 1, 12, 15. */
 tnb_answer tnb_build(tnb_shelf shelf, size_t target, const uint64_t *stamps, size_t count);
 
-/* A minor of a place. Refusals 1, 11, 8, 14. */
+/* A minor of a place. It may be zero, mantissa and exponent 0, which is in range. Refusals 1, 11, 8, 14. */
 tnb_value tnb_minor(tnb_shelf shelf, size_t place, uint8_t rows, uint8_t columns);
 
 /* How many bytes lie behind the first matrix of a bundle, so that the next one starts at bytes + count - tnb_rest(bytes, count); all of
- * them, where a load would refuse that matrix for a fault in its own bytes. Never refused. */
+ * them, where a load would refuse that matrix for a fault in its own bytes (2 to 6, 16). Never refused. */
 size_t tnb_rest(const uint8_t *bytes, size_t count);
 
 /* Carries n items through the matrix of a place, n being its rows, into a second list. An item is three numbers: sign (-1, 0 or 1),

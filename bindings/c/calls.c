@@ -6,6 +6,8 @@
 
 static const uint8_t two[] = {2, 0xca, 7, 0, 0xca, 7, 0, 0xca, 7, 0, 0xca, 7, 0, 0xff};
 static const uint8_t three[] = {3, 0xca, 7, 0, 0xca, 7, 0, 0xca, 7, 0, 0xca, 7, 0, 0xca, 7, 0, 0xca, 7, 0, 0xca, 7, 0, 0xca, 7, 0, 0xca, 7, 0};
+static const uint8_t banded[] = {3, 0xca, 7, 0, 0xca, 7, 0, 0, 0xca, 7, 0, 0xca, 7, 0, 0xca, 7, 0, 0, 0xca, 7, 0, 0xca, 7, 0};
+static const uint8_t broken[] = {3, 0xca, 7, 0, 0, 0xca, 7, 0};
 static const int64_t list[] = {1, 2147483648, -31, -1, 2147483648, -31};
 static const int64_t standstill[] = {1, 2147483648, -31, 0, 0, 0, -1, 2147483648, -31};
 
@@ -54,6 +56,23 @@ static tnb_shelf operations(tnb_shelf s)
     want(square(&s, 6, m, -31, -31, -30, -31), "transpose");
     want(tnb_submatrix(s, 1, 6, 1, 7).number == TNB_BAD_SETS, "submatrix, unequal sets");
     return s;
+}
+
+/* the matrix 1 1 0, 1 2 1, 0 1 2, whose factors far from the diagonal are zero: read and written, its submatrices and minors, and a broken pattern */
+static void zeros(void)
+{
+    uint8_t bytes[sizeof banded];
+    tnb_shelf s = accepted(tnb_load(tnb_new(), 0, banded, sizeof banded), 0, "load, zeros");
+    want(factor(&s, 0, 1, 3, 0, 0) && factor(&s, 0, 3, 1, 0, 0) && factor(&s, 0, 3, 2, 2147483648u, -31), "load, zeros");
+    want(tnb_write(s, 0, bytes, sizeof bytes).length == sizeof banded && memcmp(bytes, banded, sizeof bytes) == 0, "write, zeros");
+    tnb_value v = tnb_minor(s, 0, 1, 4);
+    want(v.number == TNB_ACCEPTED && v.mantissa == 0 && v.exponent == 0, "minor, zero");
+    want(tnb_submatrix(s, 0, 1, 4, 1).number == TNB_SINGULAR && tnb_submatrix(s, 0, 1, 4, 1).offset == 0, "submatrix, singular");
+    s = accepted(tnb_submatrix(s, 0, 3, 6, 1), 63, "submatrix, a zero stays");
+    want(factor(&s, 1, 1, 1, 2147483648u, -31) && factor(&s, 1, 1, 2, 0, 0) && factor(&s, 1, 2, 1, 2147483648u, -30), "submatrix, a zero stays");
+    tnb_answer a = tnb_load(s, 2, broken, sizeof broken);
+    want(a.number == TNB_BROKEN_PATTERN && a.offset == 5 && tnb_rows(a.shelf, 2).length == 0, "load, broken pattern");
+    want(tnb_load(s, 2, broken, 5).number == TNB_BYTES_END_EARLY && tnb_rest(broken, sizeof broken) == sizeof broken, "load and rest, broken pattern");
 }
 
 /* the stamps 1, 3, 7: factors worked by hand; a single stamp, the largest; and stamps that are turned down */
@@ -229,6 +248,7 @@ int main(void)
     want(tnb_load(s, 2, two, 14).number == TNB_BYTES_BEHIND_MATRIX && tnb_load(s, 2, two, 14).offset == 13, "load, bytes behind");
     want(tnb_rest(two, 14) == 1 && tnb_rest(two, 5) == 5, "rest");
     s = operations(s);
+    zeros();
     building(s);
     reading(s);
     lists(s);

@@ -188,6 +188,14 @@ def tables(rng, rounds):
     same(len(encode(Matrix(8, ((HIGH - 1, 1000),) * 64))), 449)
 
 
+def four_minors(i, j):
+    """The row and column sets of a new factor of document 01, two of them on the diagonal."""
+    if i == j:
+        return [(words.interval(1, k), words.interval(1, k)) for k in (i, i - 1)]
+    i, j = max(i, j), min(i, j)
+    return sum(words.quotient(i, j, words.interval(i - j + 1, i - 1), words.interval(i - j, i - 2)), [])
+
+
 @check
 def updates_counted(rng, rounds):
     """The set updates of a product with minors worked one by one, as the readings count them."""
@@ -195,7 +203,7 @@ def updates_counted(rng, rounds):
         total = 0
         for i in range(1, n + 1):
             for j in range(1, n + 1):
-                for rows, _ in sum(words.formula(i, j), []):
+                for rows, _ in four_minors(i, j):
                     letters = [(kind, k) for kind in ("E", "Et") for k in range(2, n + 1) for _ in range(k - 1)]
                     total += 2 * sum(len(words.updates(n, count(rows), *letter)) for letter in letters)
         same(total, wanted)

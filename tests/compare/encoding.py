@@ -1,9 +1,9 @@
 """Bytes: group numbers, a matrix, a bundle. A fault in the bytes is raised as Refusal with its number and offset.
 
 group, encode: the writer. read_group, read_matrix: the reader, offsets counted from the first byte of the whole input.
-rest: the bytes behind the first matrix of a bundle.
+behind_zero: whether a nonzero factor would break the pattern of zeros. rest: the bytes behind the first matrix of a bundle.
 """
-from number import EXPONENT_LIMIT, HIGH, LOW
+from number import EXPONENT_LIMIT, HIGH, LOW, ZERO
 from words import Matrix
 
 MOST_BYTES = 5
@@ -42,17 +42,29 @@ def read_group(data, start):
 def encode(matrix):
     parts = [group(matrix.n)]
     for m, e in matrix.factors:
-        parts.append(group(e + EXPONENT_LIMIT + 1))
-        parts.append(group(m - LOW))
+        # Zero is the code 0 and has no mantissa.
+        parts += [group(e + EXPONENT_LIMIT + 1), group(m - LOW)] if m else [group(0)]
     return b"".join(parts)
 
 
-def read_factor(data, start):
+def behind_zero(factors, n):
+    """Whether the factor that follows these stands behind a zero: of its column if it is below the diagonal, of its row if it is above."""
+    i, j = divmod(len(factors), n)
+    between = [factors[k * n + j] for k in range(j + 1, i)] if i > j else [factors[i * n + k] for k in range(i + 1, j)]
+    return ZERO in between
+
+
+def read_factor(data, start, factors, n):
+    """The factor that follows those already read, and the offset behind it."""
     code, behind = read_group(data, start)
     if code > EXPONENT_CODES:
         raise Refusal(5, start)
     if code == 0:
-        raise Refusal(6, start)
+        if len(factors) % (n + 1) == 0:
+            raise Refusal(6, start)
+        return ZERO, behind
+    if behind_zero(factors, n):
+        raise Refusal(16, start)
     part, end = read_group(data, behind)
     if part >= LOW:
         raise Refusal(5, behind)
@@ -66,7 +78,7 @@ def read_matrix(data):
         raise Refusal(4, 0)
     factors = []
     for _ in range(n * n):
-        number, place = read_factor(data, place)
+        number, place = read_factor(data, place, factors, n)
         factors.append(number)
     return Matrix(n, tuple(factors)), place
 

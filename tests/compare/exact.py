@@ -1,14 +1,14 @@
 """The exact run, in fractions, and the matrices that its answers are held to.
 
-exact_run: the exact factors, by the same word, minors and formulas as the rounded rule. multiply_out: the entries that a
-matrix's letters multiply out to. requested: the entries that ordinary matrix arithmetic on the sources' entries gives.
-exact_parts: the exact run for measuring, without fractions in lowest terms. units: a ratio in unit roundings.
+exact_run: the exact factors, by the same word, minors, sets R and formulas as the rounded rule. multiply_out: the entries that a
+matrix's letters multiply out to. requested: the entries that ordinary matrix arithmetic on the sources' entries gives. singular: of a
+choice of rows and columns. exact_parts: the exact run for measuring, without fractions in lowest terms. units: a ratio in unit roundings.
 """
 import math
 from fractions import Fraction
 
 from number import value
-from words import Arithmetic, Walker, count, factors_by, interval, operation_word, plain_minor, rows_of, sets, updates
+from words import Arithmetic, Walker, count, factors_by, interval, operation_word, plain_walk, rows_of, sets, updates, word
 
 FRACTIONS = Arithmetic(Fraction(0), Fraction(1), lambda a, b: a + b, lambda a, b: a * b, lambda a, b: a / b)
 UNIT = -math.log1p(-2.0 ** -32)
@@ -24,15 +24,15 @@ def chosen_rows(kind, n, rows, columns):
 
 
 def exact_run(kind, sources, rows=None, columns=None):
-    """One fraction for each (i, j), row by row."""
+    """One fraction for each (i, j), row by row. It finds the sets R by its own minors."""
     n = sources[0].n
     letters = in_fractions(operation_word(kind, sources))
-    known = {}
+    walks = {}
 
     def minor(r, c):
-        if (r, c) not in known:
-            known[r, c] = plain_minor(letters, n, r, c, FRACTIONS)
-        return known[r, c]
+        if c not in walks:
+            walks[c] = plain_walk(letters, n, c, FRACTIONS)
+        return walks[c][r]
 
     return factors_by(minor, FRACTIONS, *chosen_rows(kind, n, rows, columns))
 
@@ -42,7 +42,9 @@ def identity(n):
 
 
 def matrix_product(a, b):
-    return [[sum(a[i][k] * b[k][j] for k in range(len(b))) for j in range(len(b[0]))] for i in range(len(a))]
+    """Terms with a zero are left out: most entries of a letter's matrix are."""
+    columns = list(zip(*b))
+    return [[sum((x * y for x, y in zip(row, column) if x and y), Fraction(0)) for column in columns] for row in a]
 
 
 def letter_matrix(letter, n):
@@ -141,7 +143,7 @@ class ExactWalker(Walker):
                         numbers[s] = dyadic_multiply(numbers[s], j[row - 1])
             else:
                 for s, t in updates(n, size, kind, j):
-                    if numbers[t][0]:
+                    if w[0] and numbers[t][0]:
                         numbers[s] = dyadic_add(numbers[s], dyadic_multiply(w, numbers[t]))
         return numbers
 
@@ -154,17 +156,25 @@ class ExactWalker(Walker):
         return total
 
 
+def singular(source, rows, columns):
+    """Whether the chosen rows and columns have determinant zero, exactly."""
+    return ExactWalker(word(source), source.n).minor(rows, columns)[0] == 0
+
+
 def exact_parts(kind, sources, rows=None, columns=None):
     """The exact run as pairs of whole numbers times powers of two, above and below the line, row by row."""
     n = sources[0].n
     walker = ExactWalker(operation_word(kind, sources), n)
     scale = walker.scale()
 
+    zero = ((0, 0), (1, 0))
+
     def minor(r, c):
-        return walker.minor(r, c), scale if r else (1, 0)
+        found = walker.minor(r, c)
+        return (found, scale if r else (1, 0)) if found[0] else zero
 
     quotients = Arithmetic(
-        None, None, None,
+        zero, None, None,
         lambda a, b: (dyadic_multiply(a[0], b[0]), dyadic_multiply(a[1], b[1])),
         lambda a, b: (dyadic_multiply(a[0], b[1]), dyadic_multiply(a[1], b[0])))
     return factors_by(minor, quotients, *chosen_rows(kind, n, rows, columns))
@@ -189,5 +199,8 @@ def within(number, exact, k):
 
 
 def largest_units(kind, sources, result, rows=None, columns=None):
-    return max(abs(units(number, parts))
-               for number, parts in zip(result.factors, exact_parts(kind, sources, rows, columns)))
+    """The largest of the nonzero factors; a zero on one side alone is endlessly far."""
+    pairs = list(zip(result.factors, exact_parts(kind, sources, rows, columns)))
+    if any((number[0] == 0) != (parts[0][0] == 0) for number, parts in pairs):
+        return math.inf
+    return max(abs(units(number, parts)) for number, parts in pairs if number[0])

@@ -3,8 +3,9 @@
 
 freeze.py [--seed S] [--count N] [--check]: about N requests, the same for the same seed. It covers every call, each refusal of
 each call, every pair of refusals that a call can meet at once, each operation in all sizes, every number of stamps and every fault
-of them that can stand alone, every way that a sum, a product and a quotient can be rounded, and the sentence of every number in lent
-bytes that just suffice and in one less, or it fails. With --check nothing is written: the files are held to what would be.
+of them that can stand alone, every way that a sum, a product and a quotient can be rounded, the sentence of every number in lent
+bytes that just suffice and in one less, and banded places in every call and every place that breaks their pattern, or it fails. With
+--check nothing is written: the files are held to what would be.
 """
 import argparse
 import os
@@ -14,10 +15,13 @@ from collections import Counter
 from itertools import combinations, product
 
 import sweeps
+from banded_cases import unbanded
+from banded_sweeps import banded_tour, every_break, every_order_of_singular, every_precedence, some_patterns
 from comparison import Tally, batch
 from console_model import LARGEST, LEAST, MOST_LISTED, MOST_PLACE, MOST_STAMP, Console, call_words, doubtful, parse, text_of_bytes, text_of_items
 from encoding import encode
 from garbage import ODD_LINES
+from list_lines import counted_carry
 from model import ORDER, WORKED, conditions, pair_good
 from number import HIGH, LOW, ONE
 from pairs import cases, every_case, pair
@@ -31,7 +35,7 @@ from words import Matrix
 HERE = os.path.dirname(os.path.abspath(__file__))
 FOLDER = os.path.join(os.path.dirname(os.path.dirname(HERE)), "crates", "tnb_console")
 OPERATIONS = ("product", "inverse", "converse", "transpose", "submatrix")
-COUNT = 7000
+COUNT = 7700
 TWO, THREE = (LOW, -30), (LOW + (1 << 30), -30)
 
 
@@ -99,7 +103,7 @@ def standstills(maker):
         yield f"reversals {text_of_items(unit_items(signs))}"
     for n in range(1, 9):
         yield load(0, n, [spread_number(maker.rng, 2) for _ in range(n * n)])
-        yield from (line for _ in range(4) for line in maker.counted_carry())
+        yield from (line for _ in range(4) for line in counted_carry(maker))
         yield "drop 0"
 
 
@@ -152,6 +156,13 @@ def borders():
     yield "drop 0"
 
 
+def banded(maker):
+    """Banded places, and what is none."""
+    for part in (banded_tour, some_patterns, every_order_of_singular, every_precedence):
+        yield from part(maker)
+    yield from every_break(maker, 8)
+
+
 def lines(seed, shelf):
     maker = Stream(random.Random(f"frozen {seed}"), shelf)
     yield from marked()
@@ -163,6 +174,7 @@ def lines(seed, shelf):
     for sweep in (sweeps.every_minor, sweeps.every_length, sweeps.every_cut, sweeps.every_flip, sweeps.every_gap):
         yield from sweep(maker)
     yield from worded(maker)
+    yield from banded(maker)
     yield from stream(f"frozen {seed}", shelf)
 
 
@@ -209,13 +221,13 @@ def unsaid(asked):
 
 
 def wanted_pairs():
-    """The pairs of conditions that a call can meet at once. Faults in bytes come one at a time; 13 and 8 leave nothing to work."""
-    alone = [{2, 3, 4, 5, 6, 7}, {13, 14}, {8, 14}, {9, 14}]
+    """The pairs of conditions that a call can meet at once. Faults in bytes come one at a time; 13, 8 and 17 leave nothing to work."""
+    alone = [{2, 3, 4, 5, 6, 7, 16}, {13, 14}, {8, 14, 17}, {9, 14}]
     for call, order in ORDER.items():
         for pair in combinations(order, 2):
             # A place above 7 holds nothing, and an empty source leaves nothing to be judged but the target.
             lone = call in ("write", "drop", "minor", "carry") and pair[0] in (1, 11)
-            hidden = pair[0] == 11 and set(pair[1:]) & {8, 9, 10, 13, 14} or call in ("load", "build") and pair == (1, 12)
+            hidden = pair[0] == 11 and set(pair[1:]) & {8, 9, 10, 13, 14, 17} or call in ("load", "build") and pair == (1, 12)
             if not lone and not hidden and not any(set(pair) <= group for group in alone):
                 yield (call,) + pair
 
@@ -232,6 +244,7 @@ def missing(asked, wanted, tally):
     yield from (f"{call}, {case}" for call, case in uncovered(asked))
     yield from (f"build, {case}" for case in unbuilt(asked, wanted))
     yield from (f"sentence, {case}" for case in unsaid(asked))
+    yield from unbanded(asked)
     pairs = together(asked)
     yield from (f"{call} {first} with {second}" for call, first, second in wanted_pairs() if not pairs[call, first, second])
 

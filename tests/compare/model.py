@@ -5,19 +5,21 @@ order of tests, and then the shelf is as before. conditions: every condition of 
 shown: what the program of "Shown in full" prints.
 """
 from encoding import Refusal, encode, read_single, rest
+from exact import singular
 from number import HIGH, ITEM_ZERO, LOW, stored, worked
+from patterns import reached
 from sentences import answered, sentence_faults
 from stamps import BUILT_BOUND, built, stamp_faults, stamps_good
-from words import bound, carry, count, interval, minor, operate, reversals, transpose
+from words import bound, carry, count, interval, minor, operate, reversals, transpose, word
 
 PLACES = 8
 ONE_SOURCE = ("inverse", "converse", "transpose")
 WORKED = ("add", "multiply", "divide")
-# The tests of each call, in order. A load reads its bytes (2 to 7) from the left, last.
+# The tests of each call, in order. A load reads its bytes (2 to 7 and 16) from the left, last.
 ORDER = {
-    "load": (1, 12, 2, 3, 4, 5, 6, 7), "build": (1, 12, 15), "write": (1, 11, 10), "drop": (1, 11),
+    "load": (1, 12, 2, 3, 4, 5, 6, 16, 7), "build": (1, 12, 15), "write": (1, 11, 10), "drop": (1, 11),
     "product": (1, 11, 12, 13, 14), "inverse": (1, 11, 12, 14), "converse": (1, 11, 12, 14), "transpose": (1, 11, 12),
-    "submatrix": (1, 11, 12, 8, 14), "minor": (1, 11, 8, 14), "carry": (1, 11, 9, 14, 10), "reversals": (9,), "rest": (),
+    "submatrix": (1, 11, 12, 8, 17, 14), "minor": (1, 11, 8, 14), "carry": (1, 11, 9, 14, 10), "reversals": (9,), "rest": (),
     "add": (9,), "multiply": (9,), "divide": (9,), "sentence": (9, 10),
 }
 
@@ -112,6 +114,8 @@ class Shelf:
         self.free(target)
         if not sets_good(source.n, rows, columns):
             raise Refusal(8)
+        if singular(source, rows, columns):
+            raise Refusal(17)
         return self.keep(target, operate("submatrix", [source], rows, columns), bound("submatrix", source.n))
 
     def minor(self, place, rows, columns):
@@ -205,7 +209,7 @@ def conditions(shelf, call, words):
 
 
 def conditions_of_work(call, held, words):
-    """Those that concern what the sources hold: 8, 9, 10, 13, 14."""
+    """Those that concern what the sources hold: 8, 9, 10, 13, 14, 17."""
     n = held[0].n
     if call == "product":
         if held[0].n != held[1].n:
@@ -216,6 +220,8 @@ def conditions_of_work(call, held, words):
     if call in ("submatrix", "minor"):
         if not sets_good(n, words[1], words[2]):
             return {8}
+        if call == "submatrix" and words[1] not in reached(word(held[0]), n, words[2]):
+            return {17}
         good = in_range(operate(call, held, *words[1:3])) if call == "submatrix" else stored(minor(held[0], *words[1:]))
         return set() if good else {14}
     if call == "write":

@@ -92,12 +92,12 @@ def signed_add(x, y):
 
 
 def signed_multiply(weight, x):
-    """A positive number times an item."""
-    return (x[0],) + multiply(weight, x[1:]) if x[0] else ITEM_ZERO
+    """A positive number or zero times an item."""
+    return (x[0],) + multiply(weight, x[1:]) if x[0] and weight[0] else ITEM_ZERO
 
 
 def stored(number):
-    """Whether a nonzero number may be stored or answered."""
+    """Whether a number may be stored or answered, as far as its exponent goes; zero may."""
     return -EXPONENT_LIMIT <= number[1] <= EXPONENT_LIMIT
 
 

@@ -5,16 +5,19 @@ line given out must be answered by the model before the next is asked for. Each 
 """
 import random
 
+import banded_sweeps
+import byte_lines
+import list_lines
 import sweeps
+from banded import any_matrix, any_sets
+from banded_lines import operations, readings
 from console_model import text_of_bytes, text_of_items
-from encoding import Refusal, encode, rest
+from encoding import encode
 from garbage import garbled
-from model import ONE_SOURCE, PLACES, WORKED
-from pairs import pair, spoiled
+from model import ONE_SOURCE, PLACES
 from sentence_lines import sentences
-from sources import aimed, faulty, good_masks, listed, masks, matrix, odd_item, overflowing, random_item, still_or_moving
+from sources import aimed, good_masks, listed, masks
 from stamp_lists import build_line, rising, spoiled as spoiled_stamps, unread as unread_stamps
-from words import reversals
 
 SIZE_WEIGHTS = (12, 20, 20, 16, 11, 8, 6, 6)
 # How readily a matrix of each size is taken for an operation: large ones cost the model a twentieth of a second.
@@ -60,7 +63,7 @@ class Stream:
         yield f"load {self.last} {text_of_bytes(encode(source))}"
 
     def fill(self):
-        yield from self.put(matrix(self.rng, self.size()))
+        yield from self.put(any_matrix(self.rng, self.size()))
 
     def filled_source(self):
         """Sees to it that some place holds a matrix."""
@@ -82,13 +85,13 @@ class Stream:
             self.rng.shuffle(pair)
             return f"product {pair[0]} {pair[1]} {target}"
         if kind == "submatrix":
-            rows, columns = good_masks(self.rng, self.n(place))
+            rows, columns = any_sets(self.rng, self.shelf.places[place])
             return f"submatrix {place} {rows} {columns} {target}"
         return f"{kind} {place} {target}"
 
     def chain(self):
         """Results taken as sources again and again, until one is turned down."""
-        yield from self.put(matrix(self.rng, self.rng.choices((1, 2, 3, 4, 5), (1, 4, 4, 2, 1))[0]))
+        yield from self.put(any_matrix(self.rng, self.rng.choices((1, 2, 3, 4, 5), (1, 4, 4, 2, 1))[0]))
         place, kinds = self.last, ("product", "product", "submatrix") + ONE_SOURCE
         only = self.rng.choice((None, None, "product", "inverse", "converse", "transpose"))
         for _ in range(self.rng.randint(2, 6)):
@@ -152,63 +155,6 @@ class Stream:
         place = self.rng.choice(self.full())
         yield f"write {place} {self.lent(len(encode(self.shelf.places[place])), 512)}"
 
-    def carry(self):
-        yield from self.filled_source()
-        rng, place = self.rng, self.rng.choice(self.full())
-        source = self.shelf.places[place]
-        for _ in range(rng.randint(1, 4)):
-            items = listed(rng, source)
-            style = rng.random()
-            if style < 0.08:
-                items = items[:-1] if rng.random() < 0.5 else items + [random_item(rng)] * rng.randint(1, 16 - len(items))
-            elif style < 0.16:
-                items[rng.randrange(len(items))] = odd_item(rng)
-            elif style < 0.24:
-                items = overflowing(rng, source)
-            named = place if rng.random() < 0.95 else self.any_place()
-            most = 512 if rng.random() < 0.02 else 16
-            yield f"carry {named} {self.lent(source.n, most)} {text_of_items(items)}"
-
-    def no_items(self):
-        yield self.rng.choice(("reversals", f"carry {self.any_place()} {self.rng.randint(0, 9)}"))
-
-    def reversals(self):
-        rng = self.rng
-        length = rng.randint(1, 8) if rng.random() < 0.9 else rng.randint(9, 16)
-        items = [random_item(rng) for _ in range(length)]
-        if rng.random() < 0.2:
-            items[rng.randrange(length)] = odd_item(rng)
-        yield f"reversals {text_of_items(items)}"
-
-    def standstills(self):
-        """Reversals of a list with many zeros."""
-        rng = self.rng
-        yield f"reversals {text_of_items([still_or_moving(rng) for _ in range(rng.randint(1, 8))])}"
-
-    def counted_carry(self):
-        """A list carried between two counts of its reversals: there are never more of them afterwards."""
-        yield from self.filled_source()
-        rng, place = self.rng, self.rng.choice(self.full())
-        n = self.n(place)
-        items = listed(rng, self.shelf.places[place]) if rng.random() < 0.5 else [still_or_moving(rng) for _ in range(n)]
-        yield f"reversals {text_of_items(items)}"
-        yield f"carry {place} {n} {text_of_items(items)}"
-        try:
-            carried = self.shelf.carry(place, items, n)
-        except Refusal:
-            return
-        assert reversals(carried) <= reversals(items), f"{carried} from {items}"
-        yield f"reversals {text_of_items(carried)}"
-
-    def work(self):
-        """Numbers worked, now and then with an item that is refused or with a wrong count of items."""
-        rng, kind = self.rng, self.rng.choice(WORKED)
-        for _ in range(rng.randint(1, 4)):
-            items = pair(rng, kind) if rng.random() < 0.8 else spoiled(rng, kind)
-            if rng.random() < 0.03:
-                items = rng.choice(([], items[:1], items + items[:1], items * 8, items * 8 + items[:1]))
-            yield f"{kind} {text_of_items(items)}" if items else kind
-
     def build(self):
         """A matrix from stamps, put to use."""
         yield from self.make_room(2)
@@ -245,36 +191,6 @@ class Stream:
             yield f"drop {target}"
         yield f"rest {text_of_bytes(data)}"
 
-    def byte_faults(self):
-        yield from self.make_room()
-        for _ in range(self.rng.randint(1, 6)):
-            source = matrix(self.rng, self.rng.choices(range(1, 9), (30, 30, 20, 10, 4, 2, 2, 2))[0])
-            yield from self.bytes_judged(faulty(self.rng, source))
-
-    def load_anywhere(self):
-        """Loads that may meet a place above 7 or one that is full before a fault in the bytes."""
-        source = matrix(self.rng, self.rng.choice((1, 2, 3)))
-        data = faulty(self.rng, source) if self.rng.random() < 0.6 else encode(source)
-        yield f"load {self.any_place()} {text_of_bytes(data)}"
-
-    def random_bytes(self):
-        yield from self.make_room()
-        rng = self.rng
-        data = bytes(rng.choice((rng.randrange(256), rng.randrange(10), 128, 202, 7)) for _ in range(rng.randrange(24)))
-        yield from self.bytes_judged(data)
-
-    def bundle(self):
-        """A few matrices one behind the other, taken apart; the last may have a fault."""
-        rng = self.rng
-        parts = [encode(matrix(rng, rng.choices(range(1, 9), SIZE_WEIGHTS)[0])) for _ in range(rng.randint(1, 3))]
-        data = b"".join(parts) + (faulty(rng, matrix(rng, 2)) if rng.random() < 0.5 else b"")
-        while len(data) < 2000:
-            yield f"rest {text_of_bytes(data)}"
-            behind = rest(data)
-            if len(behind) == len(data):
-                return
-            data = behind
-
     def garbage(self):
         yield garbled(self.rng)
 
@@ -282,10 +198,12 @@ class Stream:
 # Each scenario with how often it is taken.
 SCENARIOS = (
     (Stream.fill, 30), (Stream.operate, 80), (Stream.chain, 14), (Stream.edge, 24), (Stream.faults, 60), (Stream.drop, 14),
-    (Stream.minor, 14), (sweeps.every_minor, 0.1), (Stream.write, 12), (sweeps.every_length, 0.5), (Stream.carry, 25),
-    (Stream.counted_carry, 8), (Stream.no_items, 1), (Stream.reversals, 4), (Stream.standstills, 4), (Stream.work, 40), (Stream.byte_faults, 12),
-    (Stream.load_anywhere, 12), (Stream.random_bytes, 4), (Stream.bundle, 4), (Stream.garbage, 12), (Stream.build, 28),
-    (Stream.wrong_stamps, 12), (Stream.build_anywhere, 8), (sweeps.every_wrong_stamp, 0.1), (sweeps.every_kind_of_stamps, 0.1),
+    (Stream.minor, 14), (sweeps.every_minor, 0.1), (Stream.write, 12), (sweeps.every_length, 0.5), (list_lines.carry, 25),
+    (list_lines.counted_carry, 8), (list_lines.no_items, 1), (list_lines.reversals, 4), (list_lines.standstills, 4), (list_lines.work, 40),
+    (byte_lines.byte_faults, 14), (byte_lines.load_anywhere, 12), (byte_lines.random_bytes, 4), (byte_lines.bundle, 4), (Stream.garbage, 12),
+    (operations, 40), (readings, 24), (banded_sweeps.every_break, 0.1), (banded_sweeps.every_precedence, 0.1),
+    (banded_sweeps.every_order_of_singular, 0.1), (banded_sweeps.some_patterns, 0.3),
+    (Stream.build, 28), (Stream.wrong_stamps, 12), (Stream.build_anywhere, 8), (sweeps.every_wrong_stamp, 0.1), (sweeps.every_kind_of_stamps, 0.1),
     (sweeps.every_cut, 0.3), (sweeps.every_flip, 0.1), (sweeps.every_order, 0.1), (sweeps.every_gap, 0.1), (sweeps.every_distance, 0.1),
     (sweeps.every_pair, 0.1), (sentences, 36), (sweeps.every_sentence, 0.1), (sweeps.every_lent, 0.1), (sweeps.every_fault_of_sentences, 0.1),
 )

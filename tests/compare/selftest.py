@@ -7,8 +7,10 @@ import argparse
 import random
 import sys
 
+import check_banded  # noqa: F401
 import check_directed  # noqa: F401
 import check_marked  # noqa: F401
+import check_pattern  # noqa: F401
 import check_random  # noqa: F401
 import check_sentences  # noqa: F401
 import check_stamps  # noqa: F401

@@ -209,10 +209,10 @@ def odd_item(rng):
 
 
 def tokens(source):
-    """The group numbers of an encoding, one by one."""
-    parts = [group(source.n)]
+    """The group numbers of an encoding, one by one, each with what it is: n, an exponent code or a mantissa part."""
+    parts = [("n", group(source.n))]
     for m, e in source.factors:
-        parts += [group(e + EDGE + 1), group(m - LOW)]
+        parts += [("code", group(e + EDGE + 1)), ("part", group(m - LOW))] if m else [("code", group(0))]
     return parts
 
 
@@ -221,16 +221,16 @@ def padded(part):
     return part[:-1] + bytes([part[-1] | 128]) + b"\x00" if len(part) < 5 else bytes.fromhex("8080808000")
 
 
-def broken(rng, index, part):
-    """A group number with a fault of form or of value; `index` tells n, exponent codes and mantissa parts apart."""
+def spoiled_group(rng, what, part):
+    """A group number with a fault of form or of value; `what` tells n, exponent codes and mantissa parts apart."""
     choice = rng.randrange(5)
     if choice == 0:
         return padded(part)
     if choice == 1:
         return bytes.fromhex(rng.choice(NEVER_SHORTEST))
-    if index == 0:
+    if what == "n":
         return group(rng.choice((0, 9, 10, 127, 128, 300, 2 ** 31, 2 ** 32 - 1)))
-    if index % 2:
+    if what == "code":
         return group(rng.choice((0, 0, 2002, 2003, 16384, 2 ** 31, 2 ** 32 - 1)))
     return group(rng.choice((2 ** 31, 2 ** 31 + 1, 2 ** 32 - 1)))
 
@@ -240,8 +240,8 @@ def faulty(rng, source):
     parts = tokens(source)
     for _ in range(rng.choice((0, 1, 1, 1, 2))):
         index = rng.randrange(len(parts)) if rng.random() < 0.8 else 0
-        parts[index] = broken(rng, index, parts[index])
-    data = b"".join(parts)
+        parts[index] = (parts[index][0], spoiled_group(rng, *parts[index]))
+    data = b"".join(part for _, part in parts)
     if rng.random() < 0.3:
         data = data[:rng.randrange(len(data) + 1)]
     if rng.random() < 0.3:
@@ -281,5 +281,5 @@ def masks(rng, n):
 
 def overflowing(rng, source):
     """Items that carry a matrix out of the stored exponents, if its diagonal allows."""
-    up = max(e for _, e in source.factors) > -31
+    up = max(e for m, e in source.factors if m) > -31
     return [(rng.choice((-1, 1)), mantissa(rng), EDGE if up else -EDGE) for _ in range(source.n)]

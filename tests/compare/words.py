@@ -1,9 +1,10 @@
 """The matrix, its word of letters, and the rounded rule.
 
 Matrix: n and its n * n factors, row by row. A letter is ("E", j, w), ("Et", j, w), or ("D", entries, divides), the
-entries of the positions 1 to n. word, inverse_word, converse_word; formula: the minors that a new factor is made of.
-Walker: minors of a word by the rounded rule, one walk for each column set. plain_minor: the same rule said letter by
-letter for any arithmetic, one minor at a time. Row sets are masks, bit 0 for row 1.
+entries of the positions 1 to n. word, inverse_word, converse_word; factors_by: the new factors from minors, in any arithmetic;
+latest, quotient: the set R of document 02, (e), and the minors that a new factor is made of. Walker: minors of a word by the
+rounded rule, one walk for each column set. plain_walk, plain_minor: the same rule said letter by letter for any arithmetic.
+Row sets are masks, bit 0 for row 1.
 """
 from collections import namedtuple
 from functools import lru_cache
@@ -75,16 +76,29 @@ def operation_word(kind, sources):
 
 
 @lru_cache(None)
-def formula(i, j):
-    """The minors above and below the line in the new factor (i, j), as pairs of a row set and a column set."""
-    if i == j:
-        return [(interval(1, i), interval(1, i))], [(interval(1, i - 1), interval(1, i - 1))]
-    if i < j:
-        above, below = formula(j, i)
-        return [minor[::-1] for minor in above], [minor[::-1] for minor in below]
-    above = [(interval(i - j + 1, i), interval(1, j)), (interval(i - j, i - 2), interval(1, j - 1))]
-    below = [(interval(i - j + 1, i - 1), interval(1, j - 1)), (interval(i - j, i - 1), interval(1, j))]
-    return above, below
+def sets_before(i, size):
+    """The sets of `size` rows, all before i, the latest first: largest rows are compared first."""
+    return sorted((s for s in range(1 << (i - 1)) if count(s) == size), key=lambda s: rows_of(s)[::-1], reverse=True)
+
+
+def latest(minor, zero, i, j):
+    """Document 02, (e): R, the latest set of j - 1 rows, all before i, whose minor with columns 1..j-1 is not zero."""
+    return next(s for s in sets_before(i, j - 1) if minor(s, interval(1, j - 1)) != zero)
+
+
+def quotient(i, j, here, before):
+    """The minors above and below the line in the new factor (i, j), i > j, as pairs of a row set and a column set: v(i, j) / v(i-1, j) with `here` for the
+    set R of row i and `before` for that of row i - 1."""
+    full, less = interval(1, j), interval(1, j - 1)
+    return [(here | bit(i), full), (before, less)], [(here, less), (before | bit(i - 1), full)]
+
+
+def side_factor(minor, arithmetic, i, j):
+    """The new factor (i, j) below the diagonal. Its first minor is tested before anything is divided: v(i-1, j) may be zero with v(i, j)."""
+    above, below = quotient(i, j, latest(minor, arithmetic.zero, i, j), latest(minor, arithmetic.zero, i - 1, j))
+    if minor(*above[0]) == arithmetic.zero:
+        return arithmetic.zero
+    return arithmetic.divide(*(arithmetic.multiply(*(minor(*sets) for sets in line)) for line in (above, below)))
 
 
 def chosen(mask, rows):
@@ -94,16 +108,20 @@ def chosen(mask, rows):
 
 def factors_by(minor, arithmetic, rows, columns):
     """The new factors, row by row, with the sets of the formulas counted among the chosen rows and columns."""
-    size = len(rows)
-    result = []
-    for i in range(1, size + 1):
-        for j in range(1, size + 1):
-            parts = []
-            for minors in formula(i, j):
-                numbers = [minor(chosen(r, rows), chosen(c, columns)) for r, c in minors]
-                parts.append(numbers[0] if i == j else arithmetic.multiply(*numbers))
-            result.append(arithmetic.divide(*parts))
-    return tuple(result)
+    def plain(r, c):
+        return minor(chosen(r, rows), chosen(c, columns))
+
+    def exchanged(c, r):
+        """For the factors above the diagonal: the same minors, rows and columns exchanged."""
+        return plain(r, c)
+
+    def new_factor(i, j):
+        if i == j:
+            return arithmetic.divide(plain(interval(1, i), interval(1, i)), plain(interval(1, i - 1), interval(1, i - 1)))
+        return side_factor(plain, arithmetic, i, j) if i > j else side_factor(exchanged, arithmetic, j, i)
+
+    places = range(1, len(rows) + 1)
+    return tuple(new_factor(i, j) for i in places for j in places)
 
 
 @lru_cache(None)
@@ -153,8 +171,8 @@ class Walker:
         return numbers
 
 
-def plain_minor(letters, n, rows, columns, arithmetic=ROUNDED):
-    """One minor as document 01 says it, for any arithmetic; the letters hold that arithmetic's numbers."""
+def plain_walk(letters, n, columns, arithmetic=ROUNDED):
+    """The walk from a column set as document 01 says it, for any arithmetic: a number for each row set. The letters hold that arithmetic's numbers."""
     numbers = {s: arithmetic.zero for s in range(1 << n) if count(s) == count(columns)}
     numbers[columns] = arithmetic.one
     for kind, j, w in reversed(letters):
@@ -168,7 +186,11 @@ def plain_minor(letters, n, rows, columns, arithmetic=ROUNDED):
             elif kind == "D":
                 for row in rows_of(s):
                     numbers[s] = (arithmetic.divide if w else arithmetic.multiply)(numbers[s], j[row - 1])
-    return numbers[rows]
+    return numbers
+
+
+def plain_minor(letters, n, rows, columns, arithmetic=ROUNDED):
+    return plain_walk(letters, n, columns, arithmetic)[rows]
 
 
 def minor(matrix, rows, columns):
@@ -176,7 +198,7 @@ def minor(matrix, rows, columns):
 
 
 def operate(kind, sources, rows=None, columns=None):
-    """The new factors of a product, inverse, converse or submatrix by the rounded rule, whatever their exponents."""
+    """The new factors of a product, inverse, converse or submatrix that is not singular, by the rounded rule, whatever their exponents."""
     n = sources[0].n
     every = rows_of(interval(1, n))
     rows, columns = (rows_of(rows), rows_of(columns)) if kind == "submatrix" else (every, every)

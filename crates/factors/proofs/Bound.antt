@@ -17,21 +17,19 @@ use Rattle.number.proofs.Value.{value-positive}
 use Rattle.words.specs.RowSet.{RowSet, equal}
 use Rattle.words.specs.Word.{Factors}
 use Rattle.words.specs.Walk.{State, oneAt, walk, minor}
-use Rattle.words.specs.Formula.{justBefore, newFactor}
+use Rattle.words.specs.Formula.{newFactor, Divisible}
 use Rattle.words.specs.Operation.{Step, step, plain, stepWord, joinedWord, Operation, joined, submatrix, steps, boundOf, size, Fit, askedMinor, result}
 use Rattle.words.specs.Operation.{eachSteps}
-use Rattle.words.specs.Sources.{Sources}
+use Rattle.words.specs.Sources.{Sources, Walkable}
 use Rattle.words.proofs.Walks.{walk-append}
 use Rattle.words.proofs.Operations.{length-rowsOf}
 use Rattle.words.proofs.Related.{total, letterCost, after, after-measure, walk-related}
 use Rattle.words.proofs.Alike.{AlikeStep, alike, letters-joined}
 use Rattle.words.proofs.Counts.{joined-cost, joined-square, row-square}
-use Rattle.words.proofs.Exponents.{Walkable}
 use Rattle.minors.specs.Matrix.{In}
-use Rattle.factors.specs.Demand.{Proper, AboveZero, exactly}
+use Rattle.factors.specs.Demand.{exactly}
 use Rattle.factors.proofs.Near.{Near, near-more, near-zero, near-one, near-stored}
-use Rattle.factors.proofs.Error.{Grade, Room, NearBy, NearWeight, NearEntry, near-related, factor-near}
-use Rattle.factors.proofs.Exact.{exact-asked-positive}
+use Rattle.factors.proofs.Error.{Grade, Room, NearBy, NearWeight, NearEntry, near-related, factor-near, divisible-near}
 
 pub stored-positive : (a : Number) → Stored a → 0 < value a .top
 stored-positive a s = value-positive a .0 (omega (arith, s .low))
@@ -131,14 +129,27 @@ module _ (n : ℕ) (some : 1 ≤ n) where
     same-size (submatrix b P Q) (submatrix c P′ Q′) (by-chosen h) = refl
 
     -- A NEW FACTOR
-    pub result-near : (o : Operation Number) (x : Operation Fraction) → Beside n κ o x → Proper AboveZero n x → (i j : ℕ) → In (size n x) i → In (size n x) j
-        → Near (4 * spent n κ + 3) (4 * reached n κ + 98) (result rounded n o i j) (result exact n x i j)
-    unfolding result
-    result-near o x b p i j u v =
-        subst (λ k. Near (4 * spent n κ + 3) (4 * reached n κ + 98) (newFactor rounded k (justBefore k) (askedMinor rounded n o) i j)
-        (newFactor exact (size n x) (justBefore (size n x)) (askedMinor exact n x) i j)) (sym (same-size o x b))
-        (factor-near (spent n κ) (reached n κ) (size n x) room (askedMinor rounded n o) (askedMinor exact n x)
-        (λ I J i j e. (asked-near o x b (p .fit) I J i, exact-asked-positive n x p I J i j e)) i j (u .0) (u .1) (v .0) (v .1))
+    module _ (o : Operation Number) (x : Operation Fraction) (b : Beside n κ o x) (fit : Fit n x)
+        (below : Divisible exact (size n x) (askedMinor exact n x)) (above : Divisible exact (size n x) (λ I J. askedMinor exact n x J I)) where
+      pub result-near : (i j : ℕ) → In (size n x) i → In (size n x) j
+          → Near (4 * spent n κ + 3) (4 * reached n κ + 98) (result rounded n o i j) (result exact n x i j)
+      unfolding result
+      result-near i j u v =
+          subst (λ k. Near (4 * spent n κ + 3) (4 * reached n κ + 98) (newFactor rounded k (askedMinor rounded n o) i j)
+          (newFactor exact (size n x) (askedMinor exact n x) i j)) (sym (same-size o x b))
+          (factor-near (spent n κ) (reached n κ) (size n x) room (askedMinor rounded n o) (askedMinor exact n x)
+          (λ I J i j. asked-near o x b fit I J i) below above i j u v)
+
+      -- no divisor is zero
+      pub rounded-below : Divisible rounded (size n o) (askedMinor rounded n o)
+      rounded-below =
+          subst (λ k. Divisible rounded k (askedMinor rounded n o)) (sym (same-size o x b))
+          (divisible-near (spent n κ) (reached n κ) (size n x) room _ _ (λ I J i j. asked-near o x b fit I J i) below)
+
+      pub rounded-above : Divisible rounded (size n o) (λ I J. askedMinor rounded n o J I)
+      rounded-above =
+          subst (λ k. Divisible rounded k (λ I J. askedMinor rounded n o J I)) (sym (same-size o x b))
+          (divisible-near (spent n κ) (reached n κ) (size n x) room _ _ (λ I J i j. asked-near o x b fit J I j) above)
 
 -- THE COUNT: the bound returned, and 4n² times the sum of the sources' counts
 pub spent-bound : (n : ℕ) → 1 ≤ n → (κ : List ℕ) → 4 * spent n κ + 3 ≡ boundOf (length κ) n + 4 * (n * n) * sumOf κ
@@ -165,12 +176,13 @@ module _ (n : ℕ) where
   reached-room κ few six = let h : length κ * (n * n) ≤ 6 * (8 * 8) = mul-le-mul six (mul-le-mul few few) in omega (arith, reached-is κ, h)
 
   -- SOURCES WITHIN THEIR COUNTS of exact ones
-  pub result-within : 1 ≤ n → n ≤ 8 → (κ : List ℕ) → length κ ≤ 6 → (o : Operation Number) (x : Operation Fraction) → Beside n κ o x → Proper AboveZero n x
+  pub result-within : 1 ≤ n → n ≤ 8 → (κ : List ℕ) → length κ ≤ 6 → (o : Operation Number) (x : Operation Fraction) → Beside n κ o x → Fit n x
+      → Divisible exact (size n x) (askedMinor exact n x) → Divisible exact (size n x) (λ I J. askedMinor exact n x J I)
       → (i j : ℕ) → In (size n x) i → In (size n x) j
       → Within (boundOf (length κ) n + 4 * (n * n) * sumOf κ) (value (result rounded n o i j)) (result exact n x i j)
-  result-within some few κ six o x b p i j u v =
+  result-within some few κ six o x b f below above i j u v =
       subst (λ k. Within k (value (result rounded n o i j)) (result exact n x i j)) (spent-bound n some κ)
-      (result-near n some κ (omega (arith, reached-room κ few six)) o x b p i j u v .within)
+      (result-near n some κ (omega (arith, reached-room κ few six)) o x b f below above i j u v .within)
 
   -- SOURCES TAKEN AS EXACT: no count
   abbrev pub noCounts : List (Step Number) → List ℕ

@@ -1,54 +1,103 @@
--- DEMAND 3 HOLDS of every operation of at most six steps on stored sources of up to eight rows (demand): product, re-signed inverse, converse and submatrix
--- among them. Its exact part holds for any positive fractions, any size and any number of steps (factored). In plain words: of one or two steps, a quarter of a
--- millionth (demand-close).
+-- DEMAND 3 of every operation of at most six steps on accepted sources of up to eight rows (demand): product, re-signed inverse, converse and submatrix, where
+-- that is not singular, among them; no other can be singular (joined-regular). Its exact part holds for any fractions in the pattern, any size and any number
+-- of steps (factored). In plain words: of one or two steps, a quarter of a millionth (demand-close).
 use mathlib.Core.Path.{_≡_, sym, ap, ap₂, _∙_, subst}
 use mathlib.Core.List.{List}
 use Prim.Native.Nat.{ℕ, _+_, _-_, _*_, _≤_, _<_}
 use native.Mathlib.Nat.{mul-le-mul, mul-le-mul-left}
 use native.Mathlib.Omega.{arith}
 use lib.ListN.{length}
+use borrow.Author.Tests.{eqb-true, eq-eqb}
 use Rattle.fraction.specs.Fraction.{Fraction, exact}
+use Rattle.fraction.specs.Rational.{rationals, rationals-ordered, rational}
 use Rattle.fraction.specs.Within.{Within, Close}
 use Rattle.fraction.proofs.Distance.{within-close}
+use Rattle.fraction.proofs.Rational.{positive-rational}
 use Rattle.number.specs.declared.Number.{Number}
-use Rattle.number.specs.Number.{rounded, value, Stored, reach}
+use Rattle.number.specs.Number.{zeroNumber, rounded, value, Stored, reach}
 use Rattle.number.proofs.Reach.{ranged-more}
-use Rattle.words.specs.RowSet.{RowSet}
-use Rattle.words.specs.Operation.{Operation, steps, size, boundOf, bound, askedMinor, result}
-use Rattle.words.specs.Sources.{Each, Sources}
+use Rattle.number.proofs.Value.{value-top-zero}
+use Rattle.words.specs.RowSet.{RowSet, rows}
+use Rattle.words.specs.Word.{Factors}
+use Rattle.words.specs.Operation.{Step, Operation, joined, joinedWord, steps, size, boundOf, bound, askedMinor, result, eachSteps}
+use Rattle.words.specs.Sources.{Banded, Sources, BandedNumbers, Walkable}
+use Rattle.words.proofs.RowSets.{length-rows}
 use Rattle.words.proofs.RowByRow.{rowByRow-length}
 use Rattle.words.proofs.Operations.{size-each, steps-each, fit-each}
-use Rattle.words.proofs.Steps.{sources-map}
-use Rattle.words.proofs.Exponents.{steps-walkable}
+use Rattle.words.proofs.Steps.{joined-rows, joined-weights, sources-map, sources-weaken}
+use Rattle.words.proofs.Banded.{Like, banded-like, StoredOrZero, stored, zero, banded-decided, banded-walkable}
+use Rattle.fraction.specs.Ring.{NonNegative}
 use Rattle.minors.specs.Matrix.{In}
-use Rattle.factors.specs.Demand.{Proper, AboveZero, Pair, Factored, exactly, Demand}
-use Rattle.factors.proofs.Exact.{exact-asked-positive, exact-positive, exact-only}
+use Rattle.bands.proofs.Theorem.{whole-regular}
+use Rattle.factors.specs.Demand.{Proper, AboveZero, IsZero, BandedFractions, determinantOf, Regular, Factored, exactly, Demand}
+use Rattle.factors.proofs.Exact.{rational-weighted, asked-rational, exact-below, exact-above, exact-banded, exact-only}
 use Rattle.factors.proofs.Requested.{exact-requested, multiplied-same}
-use Rattle.factors.proofs.Near.{Near, near-positive}
-use Rattle.factors.proofs.Bound.{stored-positive, spent, reached, asked-near, result-near, spent-bound, reached-room, noCounts, counts-length}
-use Rattle.factors.proofs.Bound.{counts-sum, near-exactly}
+use Rattle.factors.proofs.Near.{Near, near-positive, near-zeros}
+use Rattle.factors.proofs.Bound.{stored-positive, spent, reached, result-near, rounded-below, rounded-above, spent-bound, reached-room, noCounts}
+use Rattle.factors.proofs.Bound.{Beside, asked-near, counts-length, counts-sum, near-exactly}
 
--- THE EXACT RUN is right and the only one, for any positive fractions and any number of rows
-pub factored : (n : ℕ) (o : Operation Fraction) → Proper AboveZero n o → Factored n o
-factored n o h = record {
-  divisors = λ I J p. exact-asked-positive n o h I J (p .rows) (p .columns) (p .counts);
-  positive = exact-positive n o h;
-  requested = exact-requested n o h;
-  only = λ c p g. exact-only n o h c p (multiplied-same n o c (result exact n o) g (exact-requested n o h));
+-- THE EXACT RUN is right and the only one, for any fractions in the pattern and any number of rows
+pub factored : (n : ℕ) (o : Operation Fraction) → Proper (BandedFractions n) n o → Regular n o → Factored n o
+factored n o h g = record {
+  divisors-below = exact-below n o h g;
+  divisors-above = exact-above n o h g;
+  banded = exact-banded n o h g;
+  requested = exact-requested n o h g;
+  only = λ c p r. exact-only n o h g c p (multiplied-same n o c (result exact n o) r (exact-requested n o h g));
 }
 
--- stored sources are positive as the fractions that they stand for
-pub proper-value : (n : ℕ) (o : Operation Number) → Proper Stored n o → Proper AboveZero n (exactly o)
+-- only a submatrix can be singular
+pub joined-regular : (n : ℕ) (L : List (Step Fraction)) → Proper (BandedFractions n) n (joined L) → Regular n (joined L)
+joined-regular n L h =
+    positive-rational (determinantOf n (joined L)) .1
+    (subst (rationals-ordered .Pos) (sym (asked-rational n (joined L) h (rows n 1 n) (rows n 1 n) (length-rows n 1 n)))
+    (whole-regular rationals rationals-ordered n (joinedWord n (eachSteps rational L)) (joined-rows n (eachSteps rational L))
+    (joined-weights (NonNegative rationals rationals-ordered) (rationals-ordered .Pos) n (eachSteps rational L) (rational-weighted n (joined L) h))
+    (rows n 1 n) (length-rows n 1 n)))
+
+-- accepted numbers are accepted as the fractions that they stand for
+value-like : (a : Number) → StoredOrZero a → Like Stored (λ a. a ≡ zeroNumber) AboveZero IsZero a (value a)
+value-like a d = record {
+  positive = stored-positive a;
+  zero = λ e. value-top-zero a (ap (λ (b : Number). b .m) e);
+  back = λ e. by d e;
+}
+  where
+    by : StoredOrZero a → IsZero (value a) → a ≡ zeroNumber
+    by (stored s) e = absurd (omega (arith, stored-positive a s, e))
+    by (zero z) e = z
+
+banded-value : (n : ℕ) (b : Factors Number) → BandedNumbers n b → BandedFractions n (λ i j. value (b i j))
+banded-value n b h =
+    banded-like Stored (λ a. a ≡ zeroNumber) AboveZero IsZero n b (λ i j. value (b i j)) (λ i j x y. value-like (b i j) (banded-decided n b h i j x y)) h
+
+pub proper-value : (n : ℕ) (o : Operation Number) → Proper (BandedNumbers n) n o → Proper (BandedFractions n) n (exactly o)
 proper-value n o h = record {
-  sources = subst (Sources (Each AboveZero n)) (sym (steps-each value n o))
-      (sources-map (Each Stored n) (Each AboveZero n) value (λ b s i j x y. stored-positive (b i j) (s i j x y)) (steps o) (h .sources));
+  sources = subst (Sources (BandedFractions n)) (sym (steps-each value n o))
+      (sources-map (BandedNumbers n) (BandedFractions n) value (banded-value n) (steps o) (h .sources));
   fit = fit-each value n o (h .fit);
 }
 
+-- A MINOR IS ROUNDED TO ZERO where the exact one is zero, and only there
+module _ (n : ℕ) (o : Operation Number) (some : 1 ≤ n) (few : n ≤ 8) (six : length (steps o) ≤ 6) (proper : Proper (BandedNumbers n) n o) where
+  banded-near : Beside n (noCounts n (steps o)) o (exactly o)
+  banded-near = near-exactly n o (sources-weaken (BandedNumbers n) (Walkable n) (banded-walkable n) (steps o) (proper .sources))
+
+  pub asked-zeros : (I J : RowSet) → length I ≡ size n o → rounded .isZero (askedMinor rounded n o I J) ≡ exact .isZero (askedMinor exact n (exactly o) I J)
+  asked-zeros I J i =
+      let κ = noCounts n (steps o) in
+      let room = reached-room n κ few (omega (arith, counts-length n (steps o))) in
+      near-zeros (askedMinor rounded n o I J) (askedMinor exact n (exactly o) I J)
+      (asked-near n some κ (omega (arith, room)) o (exactly o) banded-near (proper-value n o proper .fit) I J (i ∙ sym (size-each value n o)))
+
 -- THE ROUNDED RUN beside it
-module _ (n : ℕ) (o : Operation Number) (some : 1 ≤ n) (few : n ≤ 8) (six : length (steps o) ≤ 6) (proper : Proper Stored n o) where
+module _ (n : ℕ) (o : Operation Number) (some : 1 ≤ n) (few : n ≤ 8) (six : length (steps o) ≤ 6) (proper : Proper (BandedNumbers n) n o)
+    (regular : Regular n (exactly o)) where
   abbrev κ : List ℕ
   κ = noCounts n (steps o)
+
+  exact-run : Factored n (exactly o)
+  exact-run = factored n (exactly o) (proper-value n o proper) regular
 
   reached-few : 4 * reached n κ + 98 ≤ reach
   reached-few = reached-room n κ few (omega (arith, counts-length n (steps o)))
@@ -56,20 +105,32 @@ module _ (n : ℕ) (o : Operation Number) (some : 1 ≤ n) (few : n ≤ 8) (six 
   same : size n (exactly o) ≡ size n o
   same = size-each value n o
 
+  walkable : Sources (Walkable n) (steps o)
+  walkable = sources-weaken (BandedNumbers n) (Walkable n) (banded-walkable n) (steps o) (proper .sources)
+
   run-near : (i j : ℕ) → In (size n o) i → In (size n o) j
       → Near (4 * spent n κ + 3) (4 * reached n κ + 98) (result rounded n o i j) (result exact n (exactly o) i j)
   run-near i j x y =
-      result-near n some κ (omega (arith, reached-few)) o (exactly o) (near-exactly n o (steps-walkable n (steps o) (proper .sources)))
-      (proper-value n o proper)
-      i j (subst (λ k. In k i) (sym same) x) (subst (λ k. In k j) (sym same) y)
+      result-near n some κ (omega (arith, reached-few)) o (exactly o) (near-exactly n o walkable) (proper-value n o proper .fit)
+      (exact-run .divisors-below) (exact-run .divisors-above) i j (subst (λ k. In k i) (sym same) x) (subst (λ k. In k j) (sym same) y)
 
-  -- no divisor of the rounded rule is zero
-  run-divisors : (I J : RowSet) → Pair (size n o) I J → 0 < askedMinor rounded n o I J .m
-  run-divisors I J p =
-      near-positive
-      (asked-near n some κ (omega (arith, reached-few)) o (exactly o) (near-exactly n o (steps-walkable n (steps o) (proper .sources)))
-      (proper-value n o proper .fit) I J (p .rows ∙ sym same))
-      (exact-asked-positive n (exactly o) (proper-value n o proper) I J (p .rows ∙ sym same) (p .columns ∙ sym same) (p .counts))
+  -- zero together
+  zero-of : (i j : ℕ) → In (size n o) i → In (size n o) j → IsZero (result exact n (exactly o) i j) → result rounded n o i j ≡ zeroNumber
+  zero-of i j x y z =
+      let h = run-near i j x y in
+      let m : result rounded n o i j .m ≡ 0 = eqb-true _ 0 (near-zeros (result rounded n o i j) (result exact n (exactly o) i j) h ∙ eq-eqb _ 0 z) in
+      ap₂ (λ (m x : ℕ). let r : Number = record { m = m; x = x } in r) m (h .ranged .zero m)
+
+  of-zero : (i j : ℕ) → In (size n o) i → In (size n o) j → result rounded n o i j ≡ zeroNumber → IsZero (result exact n (exactly o) i j)
+  of-zero i j x y z =
+      eqb-true _ 0 (sym (near-zeros (result rounded n o i j) (result exact n (exactly o) i j) (run-near i j x y))
+      ∙ eq-eqb _ 0 (ap (λ (a : Number). a .m) z))
+
+  run-banded : Banded (λ a. 0 < a .m) (λ a. a ≡ zeroNumber) (size n o) (result rounded n o)
+  run-banded =
+      banded-like AboveZero IsZero (λ (a : Number). 0 < a .m) (λ a. a ≡ zeroNumber) (size n o) (result exact n (exactly o)) (result rounded n o)
+      (λ i j x y. record { positive = near-positive (run-near i j x y); zero = zero-of i j x y; back = of-zero i j x y })
+      (subst (λ k. BandedFractions k (result exact n (exactly o))) same (exact-run .banded))
 
   bound-is : 4 * spent n κ + 3 ≡ bound n o
   bound-is = spent-bound n some κ ∙ ap₂ (λ m s. boundOf m n + 4 * (n * n) * s) (counts-length n (steps o)) (counts-sum n (steps o)) ∙ omega arith
@@ -77,13 +138,16 @@ module _ (n : ℕ) (o : Operation Number) (some : 1 ≤ n) (few : n ≤ 8) (six 
   -- DEMAND 3
   pub demand : Demand n o
   demand = record {
-    divisors = run-divisors;
+    divisors-below = rounded-below n some κ (omega (arith, reached-few)) o (exactly o) (near-exactly n o walkable) (proper-value n o proper .fit)
+        (exact-run .divisors-below) (exact-run .divisors-above);
+    divisors-above = rounded-above n some κ (omega (arith, reached-few)) o (exactly o) (near-exactly n o walkable) (proper-value n o proper .fit)
+        (exact-run .divisors-below) (exact-run .divisors-above);
     counts = rowByRow-length (size n o) _ ∙ ap (λ (k : ℕ). k * k) (sym same) ∙ sym (rowByRow-length (size n (exactly o)) _);
-    positive = λ i j x y. near-positive (run-near i j x y)
-        (factored n (exactly o) (proper-value n o proper) .positive i j (subst (λ k. In k i) (sym same) x) (subst (λ k. In k j) (sym same) y));
+    banded = run-banded;
+    zeros = λ i j x y. (of-zero i j x y, zero-of i j x y);
     ranged = λ i j x y. ranged-more reached-few (run-near i j x y .ranged);
     within = λ i j x y. subst (λ k. Within k (value (result rounded n o i j)) (result exact n (exactly o) i j)) bound-is (run-near i j x y .within);
-    factored = factored n (exactly o) (proper-value n o proper);
+    factored = exact-run;
   }
 
   -- IN PLAIN WORDS: of one or two steps, each factor differs from the exact one by less than a quarter of a millionth of it

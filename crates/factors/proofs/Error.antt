@@ -1,18 +1,21 @@
--- THE ERROR OF A RUN: a letter E or Et rounds twice, an entry of D once (near-related); new factors of minors that are near are near (factor-near).
--- A letter's own error c is a parameter: 0 for a stored number taken as exact.
-use mathlib.Core.Path.{_≡_}
-use Prim.Native.Nat.{ℕ, _+_, _*_, _≤_, _<_}
+-- THE ERROR OF A RUN: a letter E or Et rounds twice, an entry of D once (near-related); new factors of minors that are near are near (factor-near), and divide
+-- by nothing that is zero where the exact ones do not (divisible-near). A letter's own error c is a parameter: 0 for a stored number taken as exact.
+use mathlib.Core.Path.{_≡_, refl}
+use mathlib.Core.Bool.{false}
+use Prim.Native.Nat.{ℕ, zero, suc, _+_, _*_, _≤_, _<_}
 use native.Mathlib.Omega.{arith}
+use lib.Dec.{eqb}
 use lib.ListN.{length}
+use borrow.Author.Tests.{eqb-false}
 use Rattle.fraction.specs.Fraction.{Fraction, exact}
 use Rattle.fraction.proofs.Fraction.{product-positive}
 use Rattle.number.specs.declared.Number.{Number}
 use Rattle.number.specs.Number.{bias, rounded}
-use Rattle.words.specs.RowSet.{RowSet, count}
-use Rattle.words.specs.Formula.{justBefore, newFactor}
+use Rattle.words.specs.RowSet.{In, RowSet}
+use Rattle.words.specs.Formula.{newFactor, Divisible}
 use Rattle.words.proofs.Related.{Related}
-use Rattle.words.proofs.Formulas.{newFactor-related}
-use Rattle.factors.proofs.Near.{Near, near-more, near-sum, near-product, near-quotient}
+use Rattle.words.proofs.Formulas.{divisible-related, newFactor-related}
+use Rattle.factors.proofs.Near.{Near, near-more, near-zero, near-zeros, near-sum, near-product, near-quotient}
 
 -- THE GRADES: k unit roundings so far, exponents from -r to r
 abbrev pub Grade : Type 0
@@ -63,15 +66,35 @@ module _ (c : ℕ) where
     rel-over = λ g x e y f h k room. near-more (omega arith) (omega arith) (near-quotient (h (omega arith)) (k .0) (k .1) (omega arith));
   }
 
--- NEW FACTORS of minors within κ, the exact ones positive: four minors, two products and a quotient
-pub factor-near : (κ r k : ℕ) → 4 * r + 194 ≤ bias → (M : RowSet → RowSet → Number) (N : RowSet → RowSet → Fraction)
-    → ((I J : RowSet) → length I ≡ k → length J ≡ k → count I ≡ count J → Near κ r (M I J) (N I J) × (0 < N I J .top))
-    → (i j : ℕ) → 1 ≤ i → i ≤ k → 1 ≤ j → j ≤ k
-    → Near (4 * κ + 3) (4 * r + 98) (newFactor rounded k (justBefore k) M i j) (newFactor exact k (justBefore k) N i j)
-factor-near κ r k room M N h i j a b c d =
-    newFactor-related rounded exact k
-    (λ x y. Near κ r x y × (0 < y .top)) (λ x y. Near (κ + κ + 1) (r + r + 33) x y × (0 < y .top)) (λ x y. Near (4 * κ + 3) (4 * r + 98) x y)
-    (λ x x′ y y′ p q. (near-product (p .0) (q .0) (omega arith), product-positive y y′ (p .1) (q .1)))
-    (λ x x′ y y′ p q. near-more (omega arith) (omega arith) (near-quotient (p .0) (q .0) (q .1) (omega arith)))
-    (λ x x′ y y′ p q. near-more (omega arith) (omega arith) (near-quotient (p .0) (q .0) (q .1) (omega arith)))
-    M N h i j a b c d
+-- NEW FACTORS of minors within κ, where no divisor of the exact ones is zero: four minors, two products and a quotient
+module _ (κ r k : ℕ) (room : 4 * r + 194 ≤ bias) where
+  -- a top that is not zero is above it
+  nonzero : (t : ℕ) → eqb t 0 ≡ false → 0 < t
+  nonzero zero e = absurd (eqb-false 0 0 e refl)
+  nonzero (suc t) e = omega arith
+
+  quotients : (x₁ x₂ x₃ x₄ : Number) (y₁ y₂ y₃ y₄ : Fraction) → Near κ r x₁ y₁ → Near κ r x₂ y₂ → Near κ r x₃ y₃ → Near κ r x₄ y₄
+      → exact .isZero y₃ ≡ false → exact .isZero y₄ ≡ false
+      → Near (4 * κ + 3) (4 * r + 98) (rounded .div (rounded .mul x₁ x₂) (rounded .mul x₃ x₄)) (exact .div (exact .mul y₁ y₂) (exact .mul y₃ y₄))
+  quotients x₁ x₂ x₃ x₄ y₁ y₂ y₃ y₄ p₁ p₂ p₃ p₄ z₃ z₄ =
+      near-more (omega arith) (omega arith)
+      (near-quotient (near-product p₁ p₂ (omega arith)) (near-product p₃ p₄ (omega arith))
+      (product-positive y₃ y₄ (nonzero (y₃ .top) z₃) (nonzero (y₄ .top) z₄)) (omega arith))
+
+  ratios : (x x′ : Number) (y y′ : Fraction) → Near κ r x y → Near κ r x′ y′ → exact .isZero y′ ≡ false
+      → Near (4 * κ + 3) (4 * r + 98) (rounded .div x x′) (exact .div y y′)
+  ratios x x′ y y′ p p′ z = near-more (omega arith) (omega arith) (near-quotient p p′ (nonzero (y′ .top) z) (omega arith))
+
+  module _ (M : RowSet → RowSet → Number) (N : RowSet → RowSet → Fraction)
+      (near : (I J : RowSet) → length I ≡ k → length J ≡ k → Near κ r (M I J) (N I J)) where
+    pub factor-near : Divisible exact k N → Divisible exact k (λ I J. N J I) → (i j : ℕ) → In k i → In k j
+        → Near (4 * κ + 3) (4 * r + 98) (newFactor rounded k M i j) (newFactor exact k N i j)
+    factor-near =
+        newFactor-related rounded exact k (Near κ r) (Near (4 * κ + 3) (4 * r + 98)) near-zeros (near-more (omega arith) (omega arith) (near-zero 31))
+        quotients ratios M N near
+
+    -- nor is a divisor of the rounded ones
+    pub divisible-near : Divisible exact k N → Divisible rounded k M
+    divisible-near =
+        divisible-related rounded exact k (Near κ r) (Near (4 * κ + 3) (4 * r + 98)) near-zeros (near-more (omega arith) (omega arith) (near-zero 31))
+        quotients ratios M N near

@@ -1,30 +1,39 @@
--- THE EXACT RUN in fractions beside the rational numbers: each fraction of the run stands for the number of the mathematics (result-rational); so its factors
--- are positive (exact-positive), multiply out (exact-multiplied), and are the only ones (exact-only).
-use mathlib.Core.Path.{_≡_, refl, sym, ap₂, _∙_, subst}
+-- THE EXACT RUN in fractions beside the rational numbers: each fraction of the run stands for the number of the mathematics (result-rational), and is zero
+-- where that is. So no divisor is zero (exact-below, exact-above), its factors are positive or zero in the pattern (exact-banded), multiply out
+-- (exact-multiplied), and are the only such ones (exact-only), since accepted fractions are given by their matrix (fractions-same). Every operation but a
+-- submatrix is regular (joined-regular).
+use mathlib.Core.Path.{_≡_, refl, sym, ap, ap₂, _∙_, subst}
+use mathlib.Core.Bool.{false}
 use mathlib.Core.List.{List}
-use Prim.Native.Nat.{ℕ, _<_}
+use Prim.Native.Nat.{ℕ, zero, suc, _<_}
+use native.Mathlib.Omega.{arith}
 use lib.ListN.{length}
+use borrow.Author.Tests.{eqb-false}
 use Rattle.fraction.specs.Arithmetic.{Arithmetic}
-use Rattle.fraction.specs.Fraction.{Fraction, Same, fractionProduct, exact}
-use Rattle.fraction.specs.Ring.{arithmetic}
-use Rattle.fraction.specs.Rational.{rationals, rationals-ordered, rational}
+use Rattle.fraction.specs.Fraction.{Fraction, Same, natural, fractionProduct, exact}
+use Rattle.fraction.specs.Ring.{NonNegative, positive, zero as nothing, arithmetic}
+use Rattle.fraction.specs.Rational.{rationals, rationals-ordered, rational, rational-is-zero}
 use Rattle.fraction.proofs.Fraction.{product-positive, quotient-positive}
-use Rattle.fraction.proofs.Rational.{same-rational, rational-zero, rational-one, rational-sum, rational-product, rational-quotient, positive-rational}
-use Rattle.words.specs.RowSet.{RowSet, count}
+use Rattle.fraction.proofs.Rational.{same-rational, rational-same, rational-zero, rational-one, rational-sum, rational-product, rational-quotient}
+use Rattle.fraction.proofs.Rational.{positive-rational}
+use Rattle.words.specs.RowSet.{RowSet, rows}
 use Rattle.words.specs.Word.{Factors}
 use Rattle.words.specs.Walk.{minor}
-use Rattle.words.specs.Formula.{justBefore, newFactor}
+use Rattle.words.specs.Formula.{newFactor, Divisible}
 use Rattle.words.specs.Operation.{Step, Operation, joinedWord, steps, rowsOf, columnsOf, size, Fit, askedMinor, result, eachFactor, eachSteps, eachSource}
-use Rattle.words.specs.Sources.{Each, Weighted, Sources}
+use Rattle.words.specs.Sources.{Weighted, Sources}
+use Rattle.words.proofs.RowSets.{length-rows}
 use Rattle.words.proofs.Operations.{length-rowsOf, size-each, steps-each, fit-each, asked-each}
 use Rattle.words.proofs.Related.{Related, minor-related}
-use Rattle.words.proofs.Steps.{sources-map, sources-weaken, each-weighted}
+use Rattle.words.proofs.Steps.{sources-map, sources-weaken}
+use Rattle.words.proofs.Banded.{banded-like}
 use Rattle.words.proofs.Alike.{letters-joined, alike-each}
-use Rattle.words.proofs.Formulas.{newFactor-related}
-use Rattle.minors.specs.Matrix.{In, Equal, Positive, multiplied}
-use Rattle.minors.proofs.Positive.{PositiveSteps}
-use Rattle.factors.specs.Demand.{Proper, AboveZero, multipliedOut}
-use Rattle.factors.proofs.Result.{multiplied-equal, operationMatrix, asked-positive, result-positive, result-multiplied, result-unique}
+use Rattle.words.proofs.Formulas.{divisible-related, newFactor-related}
+use Rattle.minors.specs.Matrix.{In, Equal}
+use Rattle.bands.specs.Factored.{BandedOver, MatrixFactored}
+use Rattle.bands.proofs.Factoring.{tables-unique}
+use Rattle.factors.specs.Demand.{Proper, AboveZero, IsZero, BandedFractions, multipliedOut, determinantOf, Regular}
+use Rattle.factors.proofs.Result.{multiplied-equal, operationMatrix, WeightedSources, solved}
 
 -- the rational numbers' arithmetic
 abbrev pub ℚ : Arithmetic
@@ -60,6 +69,50 @@ rational-related = record {
   rel-over = λ g x e y f h k. rational-quotient x e (k .1) ∙ ap₂ (λ a b. rationals .mul a (rationals-ordered .inv b)) h (k .0);
 }
 
+-- zero together
+pub zero-rational : (x : Fraction) → IsZero x → rational x ≡ rationals .𝟘
+zero-rational x e = rational-same x (natural 0) (omega (arith, e)) ∙ rational-zero
+
+pub rational-zero-back : (x : Fraction) → rational x ≡ rationals .𝟘 → IsZero x
+rational-zero-back x e = let h = same-rational x (natural 0) (e ∙ sym rational-zero) in omega arith
+
+pub stands-zeros : (x : Fraction) (y : rationals .R) → Stands x y → exact .isZero x ≡ ℚ .isZero y
+stands-zeros x y e = ap rational-is-zero e
+
+pub rational-nonnegative : (x : Fraction) → NonNegative rationals rationals-ordered (rational x)
+rational-nonnegative x = by (x .top) refl
+  where
+    by : (t : ℕ) → x .top ≡ t → NonNegative rationals rationals-ordered (rational x)
+    by zero e = nothing (zero-rational x e)
+    by (suc t) e = positive (positive-rational x .0 (omega arith))
+
+-- a quotient by what is not zero
+top-nonzero : (x : Fraction) (y : rationals .R) → Stands x y → ℚ .isZero y ≡ false → 0 < x .top
+top-nonzero x y e z = let f : x .top ≡ 0 → ⊥ = eqb-false (x .top) 0 (stands-zeros x y e ∙ z) in omega arith
+
+stands-ratio : (x x′ : Fraction) (y y′ : rationals .R) → Stands x y → Stands x′ y′ → ℚ .isZero y′ ≡ false → Stands (exact .div x x′) (ℚ .div y y′)
+stands-ratio x x′ y y′ p p′ z =
+    rational-quotient x x′ (top-nonzero x′ y′ p′ z) ∙ ap₂ (λ u v. rationals .mul u (rationals-ordered .inv v)) p p′
+
+stands-quotients : (x₁ x₂ x₃ x₄ : Fraction) (y₁ y₂ y₃ y₄ : rationals .R) → Stands x₁ y₁ → Stands x₂ y₂ → Stands x₃ y₃ → Stands x₄ y₄
+    → ℚ .isZero y₃ ≡ false → ℚ .isZero y₄ ≡ false
+    → Stands (exact .div (exact .mul x₁ x₂) (exact .mul x₃ x₄)) (ℚ .div (ℚ .mul y₁ y₂) (ℚ .mul y₃ y₄))
+stands-quotients x₁ x₂ x₃ x₄ y₁ y₂ y₃ y₄ p₁ p₂ p₃ p₄ z₃ z₄ =
+    rational-quotient (exact .mul x₁ x₂) (exact .mul x₃ x₄) (product-positive x₃ x₄ (top-nonzero x₃ y₃ p₃ z₃) (top-nonzero x₄ y₄ p₄ z₄))
+    ∙ ap₂ (λ u v. rationals .mul u (rationals-ordered .inv v)) (rational-product x₁ x₂ ∙ ap₂ (rationals .mul) p₁ p₂)
+    (rational-product x₃ x₄ ∙ ap₂ (rationals .mul) p₃ p₄)
+
+-- accepted fractions are given by the matrix that they multiply out to
+pub fractions-same : (n : ℕ) (b c : Factors Fraction) → BandedFractions n b → BandedFractions n c → Equal rationals n (multipliedOut n b) (multipliedOut n c)
+    → (i j : ℕ) → In n i → In n j → Same (b i j) (c i j)
+fractions-same n b c p q e i j u v =
+    same-rational (b i j) (c i j)
+    (tables-unique rationals rationals-ordered n (eachFactor rational b) (eachFactor rational c) (rational-banded b p) (rational-banded c q) e i j u v)
+  where
+    rational-banded : (b : Factors Fraction) → BandedFractions n b → BandedOver rationals rationals-ordered n (eachFactor rational b)
+    rational-banded b = banded-like AboveZero IsZero (rationals-ordered .Pos) (λ x. x ≡ rationals .𝟘) n b (eachFactor rational b)
+        (λ i j x y. record { positive = positive-rational (b i j) .0; zero = zero-rational (b i j); back = rational-zero-back (b i j) })
+
 module _ (n : ℕ) where
   -- MINORS: only the diagonal's entries are divided by
   abbrev Any : Fraction → Type 0
@@ -72,8 +125,8 @@ module _ (n : ℕ) where
       (letters-joined Stands StandsAbove n L (eachSteps rational L)
       (alike-each Stands StandsAbove n Any AboveZero rational (λ x h. refl) (λ x h. (refl, h)) L h)) tt rational-zero rational-one I J i
 
-  -- OPERATIONS ON POSITIVE FRACTIONS, and the same on rational numbers
-  module _ (o : Operation Fraction) (proper : Proper AboveZero n o) where
+  -- OPERATIONS ON FRACTIONS, and the same on rational numbers
+  module _ (o : Operation Fraction) (proper : Proper (BandedFractions n) n o) where
     abbrev k : ℕ
     k = size n o
 
@@ -83,70 +136,68 @@ module _ (n : ℕ) where
     same : size n q ≡ k
     same = size-each rational n o
 
-    pub rational-positive : PositiveSteps rationals rationals-ordered n (steps (eachSource rational o))
-    rational-positive =
-        subst (PositiveSteps rationals rationals-ordered n) (sym (steps-each rational n o))
-        (sources-map (Each AboveZero n) (Positive rationals rationals-ordered n) rational (λ b h i j x y. positive-rational (b i j) .0 (h i j x y)) (steps o)
+    pub rational-weighted : WeightedSources rationals rationals-ordered n (eachSource rational o)
+    rational-weighted =
+        subst (Sources (Weighted (NonNegative rationals rationals-ordered) (rationals-ordered .Pos) n)) (sym (steps-each rational n o))
+        (sources-map (BandedFractions n) (Weighted (NonNegative rationals rationals-ordered) (rationals-ordered .Pos) n) rational
+        (λ b h. record { off = λ i j x y e. rational-nonnegative (b i j); on = λ i x. positive-rational (b i i) .0 (h .diagonal i x) }) (steps o)
         (proper .sources))
 
     pub rational-fit : Fit n (eachSource rational o)
     rational-fit = fit-each rational n o (proper .fit)
 
-    asked-rational : (I J : RowSet) → length I ≡ k → rational (askedMinor exact n o I J) ≡ askedMinor ℚ n q I J
+    pub asked-rational : (I J : RowSet) → length I ≡ size n o → rational (askedMinor exact n o I J) ≡ askedMinor ℚ n (eachSource rational o) I J
     asked-rational I J i =
         minor-rational (steps o)
-        (sources-weaken (Each AboveZero n) (Weighted Any AboveZero n) (each-weighted AboveZero Any AboveZero (λ x h. tt) (λ x h. h) n) (steps o)
-        (proper .sources))
+        (sources-weaken (BandedFractions n) (Weighted Any AboveZero n) (λ b h. record { off = λ i j x y e. tt; on = h .diagonal }) (steps o) (proper .sources))
         (rowsOf o I) (columnsOf o J) (length-rowsOf n o (proper .fit) I i)
         ∙ sym (asked-each ℚ rational n o I J)
 
-    -- the exact minors are positive
-    pub exact-asked-positive : (I J : RowSet) → length I ≡ size n o → length J ≡ size n o → count I ≡ count J → AboveZero (askedMinor exact n o I J)
-    exact-asked-positive I J i j e =
-        positive-rational (askedMinor exact n o I J) .1
-        (subst (rationals-ordered .Pos) (sym (asked-rational I J i))
-        (asked-positive rationals rationals-ordered n q rational-positive rational-fit I J (i ∙ sym same) (j ∙ sym same) e))
+    module _ (regular : Regular n o) where
+      -- what is known of the rational numbers
+      known : MatrixFactored rationals rationals-ordered k (askedMinor ℚ n q) (operationMatrix rationals rationals-ordered n q)
+      known =
+          subst (λ m. MatrixFactored rationals rationals-ordered m (askedMinor ℚ n q) (operationMatrix rationals rationals-ordered n q)) same
+          (solved rationals rationals-ordered n q rational-weighted rational-fit
+          (subst (λ m. rationals-ordered .Pos (askedMinor ℚ n q (rows m 1 m) (rows m 1 m))) (sym same)
+          (subst (rationals-ordered .Pos) (asked-rational (rows k 1 k) (rows k 1 k) (length-rows k 1 k))
+          (positive-rational (determinantOf n o) .0 regular))))
 
-    result-rational : (i j : ℕ) → In k i → In k j → rational (result exact n o i j) ≡ result ℚ n q i j
-    unfolding result
-    result-rational i j x y =
-        subst (λ m. rational (newFactor exact k (justBefore k) (askedMinor exact n o) i j) ≡ newFactor ℚ m (justBefore m) (askedMinor ℚ n q) i j) (sym same)
-        (newFactor-related exact ℚ k StandsAbove StandsAbove Stands
-        (λ a a′ b b′ p q. stands-product p q) (λ a a′ b b′ p q. stands-quotient p q .0) (λ a a′ b b′ p q. stands-quotient p q .0)
-        _ _ (λ I J i j e. (asked-rational I J i, exact-asked-positive I J i j e)) i j (x .0) (x .1) (y .0) (y .1))
+      -- NO DIVISOR IS ZERO
+      pub exact-below : Divisible exact (size n o) (askedMinor exact n o)
+      exact-below =
+          divisible-related exact ℚ k Stands Stands stands-zeros rational-zero stands-quotients stands-ratio _ _ (λ I J i j. asked-rational I J i)
+          (known .divisible)
 
-    -- POSITIVE
-    pub exact-positive : Each AboveZero (size n o) (result exact n o)
-    exact-positive i j x y =
-        positive-rational (result exact n o i j) .1
-        (subst (rationals-ordered .Pos) (sym (result-rational i j x y))
-        (subst (λ m. Positive rationals rationals-ordered m (result ℚ n q)) same
-        (result-positive rationals rationals-ordered n q rational-positive rational-fit) i j x y))
+      pub exact-above : Divisible exact (size n o) (λ I J. askedMinor exact n o J I)
+      exact-above =
+          divisible-related exact ℚ k Stands Stands stands-zeros rational-zero stands-quotients stands-ratio _ _ (λ I J i j. asked-rational J I j)
+          (known .divisible-exchanged)
 
-    -- THEY MULTIPLY OUT to the operation's matrix
-    pub exact-multiplied : Equal rationals (size n o) (multipliedOut (size n o) (result exact n o))
-        (operationMatrix rationals rationals-ordered n (eachSource rational o))
-    exact-multiplied i j x y =
-        multiplied-equal rationals rationals-ordered k _ _ result-rational i j x y
-        ∙ subst (λ m. Equal rationals m (multiplied rationals rationals-ordered m (result ℚ n q)) (operationMatrix rationals rationals-ordered n q)) same
-        (result-multiplied rationals rationals-ordered n q rational-positive rational-fit) i j x y
+      result-rational : (i j : ℕ) → In k i → In k j → rational (result exact n o i j) ≡ newFactor ℚ k (askedMinor ℚ n q) i j
+      unfolding result
+      result-rational =
+          newFactor-related exact ℚ k Stands Stands stands-zeros rational-zero stands-quotients stands-ratio _ _ (λ I J i j. asked-rational I J i)
+          (known .divisible) (known .divisible-exchanged)
 
-    -- AND NO OTHER POSITIVE FRACTIONS DO
-    pub exact-only : (c : Factors Fraction) → Each AboveZero (size n o) c
-        → Equal rationals (size n o) (multipliedOut (size n o) c) (multipliedOut (size n o) (result exact n o))
-        → (i j : ℕ) → In (size n o) i → In (size n o) j → Same (c i j) (result exact n o i j)
-    exact-only c p e i j x y =
-        same-rational (c i j) (result exact n o i j) (unique same (eachFactor rational c) above multiplies i j x y ∙ sym (result-rational i j x y))
-      where
-        above : Positive rationals rationals-ordered k (eachFactor rational c)
-        above r s u v = positive-rational (c r s) .0 (p r s u v)
+      -- POSITIVE OR ZERO, in the pattern
+      pub exact-banded : BandedFractions (size n o) (result exact n o)
+      exact-banded =
+          banded-like (rationals-ordered .Pos) (λ x. x ≡ rationals .𝟘) AboveZero IsZero k (newFactor ℚ k (askedMinor ℚ n q)) (result exact n o)
+          (λ i j x y. let e = result-rational i j x y in record {
+            positive = λ p. positive-rational (result exact n o i j) .1 (subst (rationals-ordered .Pos) (sym e) p);
+            zero = λ z. rational-zero-back (result exact n o i j) (e ∙ z);
+            back = λ z. sym e ∙ zero-rational (result exact n o i j) z;
+          })
+          (known .banded)
 
-        multiplies : Equal rationals k (multiplied rationals rationals-ordered k (eachFactor rational c)) (operationMatrix rationals rationals-ordered n q)
-        multiplies r s u v = e r s u v ∙ exact-multiplied r s u v
+      -- THEY MULTIPLY OUT to the operation's matrix
+      pub exact-multiplied : Equal rationals (size n o) (multipliedOut (size n o) (result exact n o))
+          (operationMatrix rationals rationals-ordered n (eachSource rational o))
+      exact-multiplied i j x y = multiplied-equal rationals rationals-ordered k _ _ result-rational i j x y ∙ known .multiplied-out i j x y
 
-        unique : {m : ℕ} → size n q ≡ m → (d : Factors (rationals .R)) → Positive rationals rationals-ordered m d
-            → Equal rationals m (multiplied rationals rationals-ordered m d) (operationMatrix rationals rationals-ordered n q)
-            → (i j : ℕ) → In m i → In m j → d i j ≡ result ℚ n q i j
-        unique f = subst (λ m. (d : Factors (rationals .R)) → Positive rationals rationals-ordered m d
-            → Equal rationals m (multiplied rationals rationals-ordered m d) (operationMatrix rationals rationals-ordered n q)
-            → (i j : ℕ) → In m i → In m j → d i j ≡ result ℚ n q i j) f (result-unique rationals rationals-ordered n q rational-positive rational-fit)
+      -- AND NO OTHERS DO
+      pub exact-only : (c : Factors Fraction) → BandedFractions (size n o) c
+          → Equal rationals (size n o) (multipliedOut (size n o) c) (multipliedOut (size n o) (result exact n o))
+          → (i j : ℕ) → In (size n o) i → In (size n o) j → Same (c i j) (result exact n o i j)
+      exact-only c h e = fractions-same k c (result exact n o) h exact-banded e

@@ -5,4 +5,5 @@ pub mod Near
 pub mod Error
 pub mod Bound
 pub mod Demanded
+pub mod Old
 pub mod Examples

@@ -1,10 +1,13 @@
 -- A rounded number near a fraction: its exponent in range and the two within k unit roundings. Laws: near-sum, near-product, near-quotient. Zero is near zero
--- only.
-use Prim.Native.Nat.{ℕ, _+_, _≤_, _<_}
+-- only (near-zeros).
+use mathlib.Core.Path.{_≡_, refl, sym, _∙_}
+use Prim.Native.Nat.{ℕ, zero, suc, _+_, _≤_, _<_}
 use native.Mathlib.Omega.{arith}
+use lib.Dec.{eqb}
+use borrow.Author.Tests.{ne-eqb}
 use Rattle.fraction.specs.Fraction.{Fraction, natural, fractionSum, fractionProduct, fractionQuotient}
 use Rattle.fraction.specs.Within.{Within}
-use Rattle.fraction.proofs.Within.{within-refl, within-same, within-trans, within-mono, within-sum, within-mul, within-div, within-positive}
+use Rattle.fraction.proofs.Within.{within-refl, within-sym, within-same, within-trans, within-mono, within-sum, within-mul, within-div, within-positive}
 use Rattle.number.specs.declared.Direction.the-variants.{Nearest}
 use Rattle.number.specs.declared.Number.{Number}
 use Rattle.number.specs.Number.{bias, zeroNumber, oneNumber, sumOf, productOf, quotientOf, value, Ranged, Stored}
@@ -21,6 +24,16 @@ near-more h g u = record { ranged = ranged-more g (u .ranged); within = within-m
 
 pub near-positive : {k r : ℕ} {x : Number} {y : Fraction} → Near k r x y → 0 < y .top → 0 < x .m
 near-positive {k} {r} {x} u h = value-positive x .1 (within-positive (u .within) h)
+
+-- zero together
+pub near-zeros : {k r : ℕ} (x : Number) (y : Fraction) → Near k r x y → eqb (x .m) 0 ≡ eqb (y .top) 0
+near-zeros {k} {r} x y h = by (y .top) (x .m) refl refl
+  where
+    by : (t m : ℕ) → y .top ≡ t → x .m ≡ m → eqb m 0 ≡ eqb t 0
+    by zero zero e f = refl
+    by zero (suc m) e f = absurd (let z : 0 < y .top = within-positive (within-sym (h .within)) (value-positive x .0 (omega arith)) in omega arith)
+    by (suc t) zero e f = absurd (let z : 0 < x .m = near-positive h (omega arith) in omega arith)
+    by (suc t) (suc m) e f = ne-eqb (suc m) 0 (λ z. omega arith) ∙ sym (ne-eqb (suc t) 0 (λ z. omega arith))
 
 -- THE START: zero, one, and a stored number with the fraction that it stands for
 pub near-zero : (r : ℕ) → Near 0 r zeroNumber (natural 0)

@@ -1,28 +1,36 @@
--- THE REQUESTED MATRIX of an operation is one matrix (requested-same, multiplied-same). Of positive sources it is that of the operation's words (requested-is),
--- to which the exact factors multiply out (exact-requested). Document 01's four sentences say the same (sentences).
+-- THE REQUESTED MATRIX of an operation is one matrix (requested-same, multiplied-same): that of the operation's words (requested-is), to which the exact
+-- factors multiply out (exact-requested), and whose determinant is the minor with all its rows and columns (determinant-requested, singular-requested).
+-- Document 01's four sentences say the same (sentences).
 use mathlib.Core.Path.{_≡_, refl, sym, ap, _∙_, subst}
+use mathlib.Core.Logic.{_↔_}
+use mathlib.Core.Bool.{true}
 use mathlib.Core.List.{List, [], _∷_}
 use Prim.Native.Nat.{ℕ, _+_ as _+ℕ_}
+use borrow.Author.Tests.{eqb-true, eq-eqb}
 use Rattle.fraction.specs.Fraction.{Fraction, exact}
-use Rattle.fraction.specs.Ring.{CRing, Ordered}
+use Rattle.fraction.specs.Ring.{CRing, Ordered, NonNegative}
 use Rattle.fraction.specs.Rational.{rationals, rationals-ordered, rational}
 use Rattle.fraction.proofs.Ring.{*-assoc, one-*}
+use Rattle.words.specs.RowSet.{RowSet, rows}
 use Rattle.words.specs.Word.{Factors, word, inverseWord}
-use Rattle.words.specs.Operation.{Step, step, plain, inverted, conversed, transposed, stepWord, joinedWord, Operation, joined, submatrix, steps, size, result}
+use Rattle.words.specs.Operation.{Step, step, plain, inverted, conversed, transposed, stepWord, joinedWord, Operation, joined, submatrix, size, result}
 use Rattle.words.specs.Operation.{eachSource}
+use Rattle.words.specs.Sources.{Weighted, Source, Sources}
+use Rattle.words.proofs.RowSets.{length-rows}
 use Rattle.words.proofs.Walks.{All}
 use Rattle.words.proofs.Stages.{word-rows}
 use Rattle.words.proofs.Operations.{size-each}
 use Rattle.minors.specs.Matrix.{Matrix, Equal, identity, times, sign, resigned, wordMatrix, multiplied}
 use Rattle.minors.proofs.Products.{times-equal, times-equal-left, times-equal-right}
-use Rattle.minors.proofs.Positive.{PositiveStep, PositiveSteps}
+use Rattle.minors.specs.Determinant.{determinant}
+use Rattle.minors.proofs.Determinant.{determinant-equal}
 use Rattle.minors.proofs.Complement.{Diagonal, word-diagonal}
 use Rattle.minors.proofs.Multiply.{wordMatrix-converse, joined-multiplied, multiplied-exchanged}
 use Rattle.minors.proofs.Inverse.{inverse-unique, inverse-left, inverse-right, sign-square}
 use Rattle.factors.specs.Requested.{ResignedInverse, StepMatrix, StepsMatrix, Requested, Sentences}
-use Rattle.factors.specs.Demand.{Proper, AboveZero, multipliedOut, GivesRequested}
-use Rattle.factors.proofs.Result.{operationMatrix}
-use Rattle.factors.proofs.Exact.{rational-positive, exact-multiplied}
+use Rattle.factors.specs.Demand.{Proper, BandedFractions, multipliedOut, GivesRequested, determinantOf, Regular}
+use Rattle.factors.proofs.Result.{operationMatrix, asked-determinant, WeightedSources}
+use Rattle.factors.proofs.Exact.{zero-rational, rational-zero-back, rational-weighted, rational-fit, asked-rational, exact-multiplied}
 
 -- THE RE-SIGNED INVERSE: the matrix of the inverse's word is it
 module _ (K : CRing) (O : Ordered K) where
@@ -57,13 +65,15 @@ module _ (K : CRing) (O : Ordered K) (n : ℕ) where
   open CRing K using (R)
 
   -- THE MATRIX OF THE WORDS is requested
-  step-requested : (s : Step R) → PositiveStep K O n s → (X : Matrix K) → Equal K n X (wordMatrix K O n (stepWord n s)) → StepMatrix K O n s X
+  step-requested : (s : Step R) → Source (Weighted (NonNegative K O) (O .Pos) n) s → (X : Matrix K) → Equal K n X (wordMatrix K O n (stepWord n s))
+      → StepMatrix K O n s X
   step-requested (step plain b) h X e = e
-  step-requested (step inverted b) h X e = inverse-resigned K O n b (word-diagonal K O n b (λ i x. h i i x x)) X e
+  step-requested (step inverted b) h X e = inverse-resigned K O n b (word-diagonal K O n b (h .on)) X e
   step-requested (step conversed b) h X e = λ i j x y. e i j x y ∙ wordMatrix-converse K O n (word n b) (word-rows n b) i j x y
   step-requested (step transposed b) h X e = λ i j x y. e i j x y ∙ multiplied-exchanged K O n b i j x y
 
-  steps-requested : (L : List (Step R)) → PositiveSteps K O n L → (X : Matrix K) → Equal K n X (wordMatrix K O n (joinedWord n L)) → StepsMatrix K O n L X
+  steps-requested : (L : List (Step R)) → Sources (Weighted (NonNegative K O) (O .Pos) n) L → (X : Matrix K)
+      → Equal K n X (wordMatrix K O n (joinedWord n L)) → StepsMatrix K O n L X
   unfolding joinedWord wordMatrix
   steps-requested [] h X e = e
   steps-requested (s ∷ []) h X e = step-requested s (h .0) X e
@@ -75,7 +85,7 @@ module _ (K : CRing) (O : Ordered K) (n : ℕ) where
     λ i j x y. e i j x y ∙ joined-multiplied K O n s t L i j x y,
   )
 
-  pub requested-is : (o : Operation R) → PositiveSteps K O n (steps o) → (X : Matrix K) → Equal K (size n o) X (operationMatrix K O n o) → Requested K O n o X
+  pub requested-is : (o : Operation R) → WeightedSources K O n o → (X : Matrix K) → Equal K (size n o) X (operationMatrix K O n o) → Requested K O n o X
   requested-is (joined L) h X e = steps-requested L h X e
   requested-is (submatrix b P Q) h X e = e
 
@@ -120,12 +130,45 @@ module _ (n : ℕ) (o : Operation Fraction) where
   same : size n (eachSource rational o) ≡ size n o
   same = size-each rational n o
 
-  pub exact-requested : Proper AboveZero n o → GivesRequested n o (result exact n o)
-  exact-requested h =
-      requested-is rationals rationals-ordered n (eachSource rational o) (rational-positive n o h) _
-      (subst (λ k. Equal rationals k (multipliedOut (size n o) (result exact n o)) (operationMatrix rationals rationals-ordered n (eachSource rational o)))
-      (sym same)
-      (exact-multiplied n o h))
+  module _ (proper : Proper (BandedFractions n) n o) where
+    -- the matrix of the words
+    words-requested : (X : Matrix rationals) → Equal rationals (size n o) X (operationMatrix rationals rationals-ordered n (eachSource rational o))
+        → Requested rationals rationals-ordered n (eachSource rational o) X
+    words-requested X e =
+        requested-is rationals rationals-ordered n (eachSource rational o) (rational-weighted n o proper) X
+        (subst (λ k. Equal rationals k X (operationMatrix rationals rationals-ordered n (eachSource rational o))) (sym same) e)
+
+    pub exact-requested : Regular n o → GivesRequested n o (result exact n o)
+    exact-requested g = words-requested _ (exact-multiplied n o proper g)
+
+    -- THE DETERMINANT of the requested matrix
+    pub determinant-requested : (X : Matrix rationals) → Requested rationals rationals-ordered n (eachSource rational o) X
+        → rational (determinantOf n o) ≡ determinant rationals X (rows (size n o) 1 (size n o)) (rows (size n o) 1 (size n o))
+    determinant-requested X h =
+        asked-rational n o proper S S (length-rows k 1 k)
+        ∙ asked-determinant rationals rationals-ordered n (eachSource rational o) (rational-fit n o proper) S S
+        (length-rows k 1 k ∙ sym same) (length-rows k 1 k ∙ sym same)
+        ∙ determinant-equal rationals k A X
+        (subst (λ m. Equal rationals m A X) same
+        (requested-same rationals rationals-ordered n (eachSource rational o) A X (words-requested A (λ i j x y. refl)) h))
+        S S (length-rows k 1 k) (length-rows k 1 k)
+      where
+        k : ℕ
+        k = size n o
+
+        S : RowSet
+        S = rows (size n o) 1 (size n o)
+
+        A : Matrix rationals
+        A = operationMatrix rationals rationals-ordered n (eachSource rational o)
+
+    -- it is singular, its determinant zero, where that minor is zero
+    pub singular-requested : (X : Matrix rationals) → Requested rationals rationals-ordered n (eachSource rational o) X
+        → (exact .isZero (determinantOf n o) ≡ true) ↔ (determinant rationals X (rows (size n o) 1 (size n o)) (rows (size n o) 1 (size n o)) ≡ rationals .𝟘)
+    singular-requested X h = (
+      λ e. sym (determinant-requested X h) ∙ zero-rational (determinantOf n o) (eqb-true _ 0 e),
+      λ e. eq-eqb _ 0 (rational-zero-back (determinantOf n o) (determinant-requested X h ∙ e)),
+    )
 
   -- so fractions that multiply out to it multiply out to one matrix
   pub multiplied-same : (c d : Factors Fraction) → GivesRequested n o c → GivesRequested n o d

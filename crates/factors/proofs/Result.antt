@@ -1,35 +1,34 @@
--- THE FACTOR THEOREM FOR OPERATIONS: the new factors of an operation on positive sources are positive (result-positive), multiply out to the matrix of its
--- words (operationMatrix, result-multiplied), and are the only positive ones that do (result-unique). The minors that are asked for are that matrix's
--- determinants.
+-- THE FACTOR THEOREM FOR OPERATIONS, over any ordered ring: where the sources' weights are positive or zero, their diagonals positive, and the determinant that
+-- is asked for is not zero, the matrix of the operation's words (operationMatrix) is factored by the new factors (solved). The minors that are asked for are
+-- that matrix's determinants (asked-determinant).
 use mathlib.Core.Path.{_≡_, refl, sym, ap, ap₂, _∙_, subst}
 use mathlib.Core.Bool.{cond}
 use mathlib.Core.List.{[], _∷_}
 use Prim.Native.Nat.{ℕ}
 use lib.Dec.{eqb}
 use lib.ListN.{length}
-use Rattle.fraction.specs.Ring.{CRing, Ordered, arithmetic}
-use Rattle.words.specs.RowSet.{RowSet, count, among}
+use Rattle.fraction.specs.Ring.{CRing, Ordered, arithmetic, NonNegative}
+use Rattle.words.specs.RowSet.{RowSet, rows, count, among}
 use Rattle.words.specs.Word.{Factors, Letter, E, Et, D, Dinv, Word, word}
-use Rattle.words.specs.Formula.{justBefore, newFactor}
-use Rattle.words.specs.Operation.{Operation, joined, submatrix, joinedWord, steps, rowsOf, columnsOf, size, Fit, askedMinor, result}
-use Rattle.words.proofs.RowSets.{length-rows}
-use Rattle.words.proofs.Chosen.{length-among}
+use Rattle.words.specs.Walk.{minor}
+use Rattle.words.specs.Operation.{Operation, joined, submatrix, joinedWord, steps, size, Fit, askedMinor}
+use Rattle.words.specs.Sources.{Weighted, Sources}
+use Rattle.words.proofs.Chosen.{length-among, among-whole}
 use Rattle.words.proofs.Stages.{word-rows}
-use Rattle.words.proofs.Steps.{joined-rows}
-use Rattle.words.proofs.Formulas.{newFactor-equal}
-use Rattle.words.proofs.Operations.{some-steps, length-rowsOf, length-columnsOf, count-asked}
+use Rattle.words.proofs.Steps.{word-weights, joined-weights, joined-rows}
 use Rattle.words.proofs.Related.{Matched, Letters}
 use Rattle.words.proofs.Alike.{letters-word}
-use Rattle.minors.specs.Matrix.{In, Matrix, Equal, submatrixOf, letterMatrix, wordMatrix, multiplied, Positive}
+use Rattle.minors.specs.Matrix.{In, Matrix, Equal, submatrixOf, letterMatrix, wordMatrix, multiplied}
 use Rattle.minors.proofs.Products.{times-equal}
 use Rattle.minors.proofs.Determinant.{determinant, determinant-among}
-use Rattle.minors.proofs.Determined.{initial}
 use Rattle.minors.proofs.Multiply.{word-determinant}
-use Rattle.minors.proofs.Positive.{PositiveSteps, joined-positive}
-use Rattle.minors.proofs.Factors.{factors-positive, factors-multiplied, factors-unique, initial-counts}
+use Rattle.bands.specs.Factored.{MatrixFactored}
+use Rattle.bands.proofs.Nonzero.{positive-present}
+use Rattle.bands.proofs.Theorem.{whole-factored, chosen-factored}
 
 module _ (K : CRing) (O : Ordered K) where
   open CRing K using (R)
+  open Ordered O using (Pos)
 
   -- words with equal letters have equal matrices
   letter-equal : (n : ℕ) (x y : Letter R) → Letters _≡_ _≡_ n x y → Equal K n (letterMatrix K O x) (letterMatrix K O y)
@@ -56,7 +55,7 @@ module _ (K : CRing) (O : Ordered K) where
   operationMatrix n (joined L) = wordMatrix K O n (joinedWord n L)
   operationMatrix n (submatrix b P Q) = submatrixOf K P Q (multiplied K O n b)
 
-  asked-determinant : (n : ℕ) (o : Operation R) → Fit n o → (I J : RowSet) → length I ≡ size n o → length J ≡ size n o
+  pub asked-determinant : (n : ℕ) (o : Operation R) → Fit n o → (I J : RowSet) → length I ≡ size n o → length J ≡ size n o
       → askedMinor (arithmetic K O) n o I J ≡ determinant K (operationMatrix n o) I J
   unfolding joinedWord
   asked-determinant n (joined L) f I J i j = word-determinant K O n (joinedWord n L) (joined-rows n L) I J i j
@@ -64,37 +63,16 @@ module _ (K : CRing) (O : Ordered K) where
       word-determinant K O n (word n b) (word-rows n b) (among P I) (among Q J) (length-among P I i ∙ f .0) (length-among Q J (j ∙ sym (f .2)) ∙ f .1)
       ∙ determinant-among K (multiplied K O n b) P Q I J i (j ∙ sym (f .2))
 
-  -- OPERATIONS ON POSITIVE SOURCES
-  module _ (n : ℕ) (o : Operation R) (positive : PositiveSteps K O n (steps o)) (fit : Fit n o) where
-    abbrev k : ℕ
-    k = size n o
+  -- THE OPERATIONS
+  abbrev pub WeightedSources : ℕ → Operation R → Type 0
+  WeightedSources n o = Sources (Weighted (NonNegative K O) Pos n) (steps o)
 
-    abbrev S : Matrix K
-    S = operationMatrix n o
-
-    pub asked-positive : (I J : RowSet) → length I ≡ size n o → length J ≡ size n o → count I ≡ count J → O .Pos (askedMinor (arithmetic K O) n o I J)
-    asked-positive I J i j e =
-        joined-positive K O n (steps o) (some-steps n o fit) positive (rowsOf o I) (columnsOf o J)
-        (length-rowsOf n o fit I i) (length-columnsOf n o fit J j) (count-asked n o fit I J i j e)
-
-    initial-positive : (i j : ℕ) → In k i → In k j → O .Pos (initial K k S i j)
-    initial-positive i j x y =
-        subst (O .Pos) (asked-determinant n o fit _ _ (length-rows k _ _) (length-rows k _ _))
-        (asked-positive _ _ (length-rows k _ _) (length-rows k _ _) (initial-counts k i j x y))
-
-    result-formula : (i j : ℕ) → In k i → In k j → result (arithmetic K O) n o i j ≡ newFactor (arithmetic K O) k (justBefore k) (determinant K S) i j
-    unfolding result
-    result-formula = newFactor-equal (arithmetic K O) k (askedMinor (arithmetic K O) n o) (determinant K S) (λ I J i j e. asked-determinant n o fit I J i j)
-
-    -- POSITIVE
-    pub result-positive : Positive K O (size n o) (result (arithmetic K O) n o)
-    result-positive i j x y = subst (O .Pos) (sym (result-formula i j x y)) (factors-positive K O k S initial-positive i j x y)
-
-    -- THEY MULTIPLY OUT
-    pub result-multiplied : Equal K (size n o) (multiplied K O (size n o) (result (arithmetic K O) n o)) (operationMatrix n o)
-    result-multiplied i j x y = multiplied-equal k _ _ result-formula i j x y ∙ factors-multiplied K O k S initial-positive i j x y
-
-    -- AND NO OTHERS DO
-    pub result-unique : (c : Factors R) → Positive K O (size n o) c → Equal K (size n o) (multiplied K O (size n o) c) (operationMatrix n o)
-        → (i j : ℕ) → In (size n o) i → In (size n o) j → c i j ≡ result (arithmetic K O) n o i j
-    result-unique c p e i j x y = factors-unique K O k S initial-positive c p e i j x y ∙ sym (result-formula i j x y)
+  pub solved : (n : ℕ) (o : Operation R) → WeightedSources n o → Fit n o
+      → Pos (askedMinor (arithmetic K O) n o (rows (size n o) 1 (size n o)) (rows (size n o) 1 (size n o)))
+      → MatrixFactored K O (size n o) (askedMinor (arithmetic K O) n o) (operationMatrix n o)
+  unfolding joinedWord
+  solved n (joined L) h f g = whole-factored K O n (joinedWord n L) (joined-rows n L) (joined-weights (NonNegative K O) Pos n L h)
+  solved n (submatrix b P Q) h f g =
+      chosen-factored K O n (word n b) (word-rows n b) (word-weights (NonNegative K O) Pos n b (h .0)) (count P) P Q (f .0) (f .1) refl (f .2)
+      (positive-present K O _
+      (subst Pos (ap₂ (minor (arithmetic K O) (word n b)) (among-whole P) (ap (λ k. among Q (rows k 1 k)) (sym (f .2)) ∙ among-whole Q)) g))

@@ -1,27 +1,37 @@
--- DEMAND 3: the module's run by the rounded rule beside the exact run of the same operation in fractions, source numbers taken as exact.
+-- DEMAND 3: the module's run by the rounded rule beside the exact run of the same operation in fractions, source numbers taken as exact. Factors are positive
+-- or zero, in document 02's pattern.
 use mathlib.Core.Path.{_≡_}
+use mathlib.Core.Logic.{_↔_}
 use Prim.Native.Nat.{ℕ, _<_}
 use lib.ListN.{length}
 use Rattle.fraction.specs.Fraction.{Fraction, Same, exact}
 use Rattle.fraction.specs.Within.{Within}
 use Rattle.fraction.specs.Rational.{rationals, rationals-ordered, rational}
 use Rattle.number.specs.declared.Number.{Number}
-use Rattle.number.specs.Number.{rounded, value, Ranged, reach}
-use Rattle.words.specs.RowSet.{RowSet, count}
+use Rattle.number.specs.Number.{zeroNumber, rounded, value, Ranged, reach}
+use Rattle.words.specs.RowSet.{rows}
 use Rattle.words.specs.Word.{Factors}
-use Rattle.words.specs.Sources.{Each, Sources}
+use Rattle.words.specs.Formula.{Divisible}
+use Rattle.words.specs.Sources.{Each, Banded, Sources}
 use Rattle.words.specs.Operation.{Operation, steps, size, Fit, bound, rowByRow, askedMinor, result, eachFactor, eachSource}
 use Rattle.minors.specs.Matrix.{In, Matrix, multiplied}
 use Rattle.factors.specs.Requested.{Requested}
 
--- sources of n rows whose every factor has a property, and an operation that fits them
-pub record Proper {A : Type 0} (P : A → Type 0) (n : ℕ) (o : Operation A) : Type 0 where
-  pub sources : Sources (Each P n) (steps o)
+-- sources whose factors have a property, and an operation that fits them
+pub record Proper {A : Type 0} (T : Factors A → Type 0) (n : ℕ) (o : Operation A) : Type 0 where
+  pub sources : Sources T (steps o)
   pub fit : Fit n o
 
--- a positive fraction
+-- a positive fraction, and zero
 abbrev pub AboveZero : Fraction → Type 0
 AboveZero x = 0 < x .top
+
+abbrev pub IsZero : Fraction → Type 0
+IsZero x = x .top ≡ 0
+
+-- fractions that are accepted as factors: positive, or zero in the pattern
+abbrev pub BandedFractions : ℕ → Factors Fraction → Type 0
+BandedFractions = Banded AboveZero IsZero
 
 -- what fractions multiply out to, as matrices of rational numbers
 abbrev pub multipliedOut : ℕ → Factors Fraction → Matrix rationals
@@ -31,30 +41,36 @@ multipliedOut k c = multiplied rationals rationals-ordered k (eachFactor rationa
 abbrev pub GivesRequested : ℕ → Operation Fraction → Factors Fraction → Type 0
 GivesRequested n o c = Requested rationals rationals-ordered n (eachSource rational o) (multipliedOut (size n o) c)
 
--- sets of k rows with equally many members
-pub record Pair (k : ℕ) (I J : RowSet) : Type 0 where
-  pub rows : length I ≡ k
-  pub columns : length J ≡ k
-  pub counts : count I ≡ count J
+-- the requested matrix's exact determinant: the minor with all its rows and columns (`determinant-requested`)
+abbrev pub determinantOf : ℕ → Operation Fraction → Fraction
+determinantOf n o = askedMinor exact n o (rows (size n o) 1 (size n o)) (rows (size n o) 1 (size n o))
 
--- THE EXACT RUN of an operation on fractions: no divisor is zero; its factors are positive and multiply out to the requested matrix, and no other positive
--- fractions do.
+-- it is not singular
+abbrev pub Regular : ℕ → Operation Fraction → Type 0
+Regular n o = AboveZero (determinantOf n o)
+
+-- THE EXACT RUN of an operation on fractions: no divisor is zero; its factors are positive or zero in the pattern and multiply out to the requested matrix, and
+-- no other such fractions do.
 pub record Factored (n : ℕ) (o : Operation Fraction) : Type 0 where
-  pub divisors : (I J : RowSet) → Pair (size n o) I J → AboveZero (askedMinor exact n o I J)
-  pub positive : Each AboveZero (size n o) (result exact n o)
+  pub divisors-below : Divisible exact (size n o) (askedMinor exact n o)
+  pub divisors-above : Divisible exact (size n o) (λ I J. askedMinor exact n o J I)
+  pub banded : BandedFractions (size n o) (result exact n o)
   pub requested : GivesRequested n o (result exact n o)
-  pub only : (c : Factors Fraction) → Each AboveZero (size n o) c → GivesRequested n o c
+  pub only : (c : Factors Fraction) → BandedFractions (size n o) c → GivesRequested n o c
       → (i j : ℕ) → In (size n o) i → In (size n o) j → Same (c i j) (result exact n o i j)
 
 -- the operation with each source number taken for the fraction that it stands for
 abbrev pub exactly : Operation Number → Operation Fraction
 exactly o = eachSource value o
 
--- BOTH RUNS meet no divisor that is zero and give equally many factors, all positive; at each row and column the two have a ratio within the bound returned.
+-- BOTH RUNS meet no divisor that is zero and give equally many factors, positive or zero in the pattern; a factor is zero exactly when the exact one is; at
+-- each row and column the two have a ratio within the bound returned, or are both zero.
 pub record Demand (n : ℕ) (o : Operation Number) : Type 0 where
-  pub divisors : (I J : RowSet) → Pair (size n o) I J → 0 < askedMinor rounded n o I J .m
+  pub divisors-below : Divisible rounded (size n o) (askedMinor rounded n o)
+  pub divisors-above : Divisible rounded (size n o) (λ I J. askedMinor rounded n o J I)
   pub counts : length (rowByRow (size n o) (result rounded n o)) ≡ length (rowByRow (size n (exactly o)) (result exact n (exactly o)))
-  pub positive : Each (λ a. 0 < a .m) (size n o) (result rounded n o)
+  pub banded : Banded (λ a. 0 < a .m) (λ a. a ≡ zeroNumber) (size n o) (result rounded n o)
+  pub zeros : (i j : ℕ) → In (size n o) i → In (size n o) j → (result rounded n o i j ≡ zeroNumber) ↔ IsZero (result exact n (exactly o) i j)
   pub ranged : Each (Ranged reach) (size n o) (result rounded n o)
   pub within : (i j : ℕ) → In (size n o) i → In (size n o) j → Within (bound n o) (value (result rounded n o i j)) (result exact n (exactly o) i j)
   pub factored : Factored n (exactly o)

@@ -1,3 +1,4 @@
 pub mod Requested
 pub mod Demand
+pub mod Before
 pub mod Examples

@@ -3,6 +3,7 @@ use mathlib.Core.Path.{_≡_}
 use Prim.Native.Nat.{ℕ, zero, suc, _+_, _*_, _≤_, _<_}
 use native.Mathlib.Nat.{mul-pos}
 use native.Mathlib.Omega.{arith}
+use lib.Dec.{eqb}
 use Rattle.fraction.specs.Arithmetic.{Arithmetic}
 
 -- top / low
@@ -42,4 +43,12 @@ fractionQuotient x y = dividedBy x (y .top) (y .low)
 
 -- the exact run's arithmetic: every sum, product and quotient is the exact fraction
 abbrev pub exact : Arithmetic
-exact = record { Num = Fraction; zero = natural 0; one = natural 1; add = fractionSum; mul = fractionProduct; div = fractionQuotient }
+exact = record {
+  Num = Fraction;
+  zero = natural 0;
+  one = natural 1;
+  add = fractionSum;
+  mul = fractionProduct;
+  div = fractionQuotient;
+  isZero = λ x. eqb (x .top) 0;
+}

@@ -1,11 +1,14 @@
 -- The rational numbers: fractions with a sign, equal where their cross products are. The ring `rationals`, its order and inverses `rationals-ordered`,
 -- and document 01's fractions among them, `rational`.
-use mathlib.Core.Path.{_≡_}
+use mathlib.Core.Path.{_≡_, sym, ap, _∙_}
+use mathlib.Core.Bool.{Bool, true, false, Bool-set, false≢true}
 use mathlib.Core.HLevel.{Π-prop}
 use mathlib.Core.Quot.{Quot, Quot·mk, Quot·sound, Quot-set, Quot·lift, Quot·liftProp, ind, liftProp-prop}
 use mathlib.Mathlib.Data.Quot.{lift₂, induction-on₂, induction-on₃}
 use native.Mathlib.Bridge.{le-prop}
 use native.Mathlib.Omega.{arith}
+use lib.Dec.{eqb}
+use borrow.Author.Tests.{eqb-true}
 use Rattle.fraction.specs.Fraction.{Fraction, natural}
 use Rattle.fraction.specs.Ring.{CRing, Ordered}
 use Rattle.fraction.specs.SignedFraction.{SignedFraction, EqualSigned, PositiveSigned, signed, signed-add, signed-mul, signed-neg, signed-inv}
@@ -96,7 +99,18 @@ pub rational-inv-positive : (a : Rational) → RationalPositive a → RationalPo
 rational-inv-positive =
     ind {β = λ a. RationalPositive a → RationalPositive (rational-inv a)} (λ a. Π-prop (λ _. positive-prop (rational-inv a))) Laws.positive-inv
 
--- their order and inverses
+-- zero: what is added is what is taken away
+abbrev pub rational-is-zero : Rational → Bool
+rational-is-zero = Quot·lift Bool-set (λ x. eqb (x .plus) (x .minus)) Laws.zero-equal
+
+pub rational-zero-yes : (a : Rational) → rational-is-zero a ≡ true → a ≡ rational (natural 0)
+rational-zero-yes = ind {β = λ a. rational-is-zero a ≡ true → a ≡ rational (natural 0)} (λ a. Π-prop (λ _. Quot-set _ _))
+    (λ x e. Quot·sound (omega (arith, eqb-true (x .plus) (x .minus) e)))
+
+pub rational-zero-no : (a : Rational) → rational-is-zero a ≡ false → a ≡ rational (natural 0) → ⊥
+rational-zero-no a e f = false≢true (sym e ∙ ap rational-is-zero f)
+
+-- their order, inverses and test for zero
 abbrev pub rationals-ordered : Ordered rationals
 rationals-ordered = record {
   Pos = RationalPositive;
@@ -107,4 +121,7 @@ rationals-ordered = record {
   inv = rational-inv;
   inv-mul = rational-inv-mul;
   inv-pos = rational-inv-positive;
+  isZero = rational-is-zero;
+  zero-yes = rational-zero-yes;
+  zero-no = rational-zero-no;
 }

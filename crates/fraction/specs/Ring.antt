@@ -1,5 +1,6 @@
 -- Commutative rings whose equality is ≡, and what an order and inverses add to one.
 use mathlib.Core.Path.{_≡_}
+use mathlib.Core.Bool.{Bool, true, false}
 use Rattle.fraction.specs.Arithmetic.{Arithmetic}
 
 -- a commutative ring with zero 𝟘 and one 𝟙
@@ -19,7 +20,7 @@ pub record CRing : Type 1 where
   pub mul-one : (a : R) → mul a 𝟙 ≡ a
   pub mul-add : (a b c : R) → mul a (add b c) ≡ add (mul a b) (mul a c)
 
--- positive elements, among which zero is not, and inverses of all elements but zero
+-- positive elements, among which zero is not, inverses of all elements but zero, and a test for zero
 pub record Ordered (K : CRing) : Type 1 where
   pub Pos : K .R → Type 0
   pub pos-one : Pos (K .𝟙)
@@ -29,6 +30,9 @@ pub record Ordered (K : CRing) : Type 1 where
   pub inv : K .R → K .R
   pub inv-mul : (x : K .R) → (x ≡ K .𝟘 → ⊥) → K .mul x (inv x) ≡ K .𝟙
   pub inv-pos : (x : K .R) → Pos x → Pos (inv x)
+  pub isZero : K .R → Bool
+  pub zero-yes : (x : K .R) → isZero x ≡ true → x ≡ K .𝟘
+  pub zero-no : (x : K .R) → isZero x ≡ false → x ≡ K .𝟘 → ⊥
 
 -- positive or zero
 pub data NonNegative (K : CRing) (O : Ordered K) (x : K .R) : Type 0 where
@@ -37,4 +41,4 @@ pub data NonNegative (K : CRing) (O : Ordered K) (x : K .R) : Type 0 where
 
 -- the mathematics' arithmetic
 abbrev pub arithmetic : (K : CRing) → Ordered K → Arithmetic
-arithmetic K O = record { Num = K .R; zero = K .𝟘; one = K .𝟙; add = K .add; mul = K .mul; div = λ x y. K .mul x (O .inv y) }
+arithmetic K O = record { Num = K .R; zero = K .𝟘; one = K .𝟙; add = K .add; mul = K .mul; div = λ x y. K .mul x (O .inv y); isZero = O .isZero }

@@ -1,9 +1,12 @@
 -- Laws of fractions with a sign, up to `EqualSigned`. They stand here and not among the proofs, since the ring of the rational numbers is made of them.
 use mathlib.Core.Path.{_≡_, refl, sym, ap}
+use mathlib.Core.Bool.{Bool, true, false}
 use mathlib.Core.Logic.{_↔_}
 use Prim.Native.Nat.{ℕ, zero, suc, _+_, _-_, _*_, _<_}
 use native.Mathlib.Nat.{mul-sub, le-dest, mul-lt-mul-of-pos-right, lt-of-mul-lt-mul-right, eq-of-mul-eq-mul-right}
 use native.Mathlib.Omega.{arith}
+use lib.Dec.{eqb}
+use borrow.Author.Tests.{eq-eqb, ne-eqb, eqb-true, eqb-false}
 use Rattle.fraction.specs.Fraction.{natural}
 use Rattle.fraction.specs.SignedFraction.{SignedFraction, EqualSigned, PositiveSigned, signed, signed-add, signed-mul, signed-neg, signed-inv, reciprocal}
 
@@ -101,3 +104,14 @@ positive-inv x p = by-sign (x .plus - x .minus) (x .minus - x .plus) refl
     by-sign : (i j : ℕ) → x .plus - x .minus ≡ i → PositiveSigned (reciprocal i j (x .low))
     by-sign (suc i) j e = x .above-zero
     by-sign zero j e = absurd (omega arith)
+
+-- ZERO: what is added is what is taken away, and so of every fraction equal to it
+zero-back : (x y : SignedFraction) → EqualSigned x y → x .plus ≡ x .minus → y .plus ≡ y .minus
+zero-back x y h e = eq-of-mul-eq-mul-right (x .low) (x .above-zero) _ _ (omega (arith, h, ap (λ (t : ℕ). t * y .low) e))
+
+pub zero-equal : (x y : SignedFraction) → EqualSigned x y → eqb (x .plus) (x .minus) ≡ eqb (y .plus) (y .minus)
+zero-equal x y h = by (eqb (x .plus) (x .minus)) refl
+  where
+    by : (t : Bool) → eqb (x .plus) (x .minus) ≡ t → t ≡ eqb (y .plus) (y .minus)
+    by true e = sym (eq-eqb (y .plus) (y .minus) (zero-back x y h (eqb-true (x .plus) (x .minus) e)))
+    by false e = sym (ne-eqb (y .plus) (y .minus) (λ f. eqb-false (x .plus) (x .minus) e (zero-back y x (sym h) f)))

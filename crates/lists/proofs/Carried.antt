@@ -1,5 +1,5 @@
--- Laws of carrying: vectors that agree (`carry-agree`), the letters of a word from the right, none (`carries-start`) and one more (`carries-letter`), how far
--- the items are then (`carries-ranged`), and an item added to another (`added-agrees`).
+-- Laws of carrying: vectors that agree (`carry-agree`), a letter of a word whose numbers are in range (`ranged-letter`), the letters of a word from the right,
+-- none (`carries-start`) and one more (`carries-letter`), how far the items are then (`carries-ranged`), and an item added to another (`added-agrees`).
 use mathlib.Core.Path.{_≡_, refl, sym, ap, ap₂, _∙_, subst}
 use mathlib.Core.Bool.{cond}
 use mathlib.Core.List.{List, [], _∷_}
@@ -23,7 +23,7 @@ use Rattle.words.proofs.Related.{letterCost}
 use Rattle.words.proofs.Walks.{All, all-behind}
 use Rattle.items.specs.Items.{vectorOf, ItemsRanged}
 use Rattle.lists.specs.Carrying.{SameItems, Carries, carryReach, workingReach}
-use Rattle.lists.proofs.LetterReach.{StoredLetter, reachOf, carry-reach}
+use Rattle.lists.proofs.LetterReach.{RangedLetter, reachOf, carry-reach}
 use Rattle.lists.proofs.Vectors.{vector-here, vector-other}
 
 -- a letter makes of vectors that agree such vectors
@@ -32,14 +32,14 @@ module _ (n : ℕ) (v w : ℕ → Signed) (h : SameItems n v w) where
       SameItems n (λ i. cond (eqb i a) (signedSum (v i) (signedProduct x (v o))) (v i)) (λ i. cond (eqb i a) (signedSum (w i) (signedProduct x (w o))) (w i))
   moved-agree a o x p i l = ap₂ (λ y z. cond (eqb i a) (signedSum y (signedProduct x z)) y) (h i l) (h o p)
 
-  letter-agree : (l : Letter Signed) → StoredLetter n l → SameItems n (carryLetter signedArithmetic l v) (carryLetter signedArithmetic l w)
+  letter-agree : (l : Letter Signed) → RangedLetter n l → SameItems n (carryLetter signedArithmetic l v) (carryLetter signedArithmetic l w)
   unfolding carryLetter
   letter-agree (E j x) s = moved-agree j (j - 1) x (omega (arith, s .0), omega (arith, s .1))
   letter-agree (Et j x) s = moved-agree (j - 1) j x (omega (arith, s .0), s .1)
   letter-agree (D e) s = λ i l. ap (λ y. signedProduct y (e i)) (h i l)
   letter-agree (Dinv e) s = absurd s
 
-pub carry-agree : (n : ℕ) (W : Word Signed) → All (StoredLetter n) W → (v w : ℕ → Signed) → SameItems n v w →
+pub carry-agree : (n : ℕ) (W : Word Signed) → All (RangedLetter n) W → (v w : ℕ → Signed) → SameItems n v w →
     SameItems n (carry signedArithmetic W v) (carry signedArithmetic W w)
 unfolding carry
 carry-agree n [] s v w h = h
@@ -50,16 +50,19 @@ module _ {n : ℕ} where
   unfolding carry
   carries-none v e = record { eight = e; agrees = λ i p. refl }
 
-  carries-next : {W : Word Signed} {v u t : List Signed} (l : Letter Signed) → StoredLetter n l → Carries n W v u → Carries n (l ∷ []) u t →
+  carries-next : {W : Word Signed} {v u t : List Signed} (l : Letter Signed) → RangedLetter n l → Carries n W v u → Carries n (l ∷ []) u t →
       Carries n (l ∷ W) v t
   unfolding carry
   carries-next {W} {v} {u} {t} l s c d =
       record { eight = d .eight; agrees = λ i p. d .agrees i p ∙ letter-agree n (vectorOf u) (carry signedArithmetic W (vectorOf v)) (c .agrees) l s i p }
 
 -- ---- the letters of a word from the right, those from t on done
-module _ (n : ℕ) (X : Word Signed) (s : All (StoredLetter n) X) where
-  behind : (t : ℕ) → All (StoredLetter n) (drop t X)
-  behind t = all-behind (StoredLetter n) (take t X) (drop t X) (subst (All (StoredLetter n)) (sym (take-append-drop t X)) s)
+module _ (n : ℕ) (X : Word Signed) (s : All (RangedLetter n) X) where
+  behind : (t : ℕ) → All (RangedLetter n) (drop t X)
+  behind t = all-behind (RangedLetter n) (take t X) (drop t X) (subst (All (RangedLetter n)) (sym (take-append-drop t X)) s)
+
+  pub ranged-letter : (t : ℕ) (d : Letter Signed) → t < length X → RangedLetter n (getD X t d)
+  ranged-letter t d h = subst (All (RangedLetter n)) (drop-cons X t d h) (behind t) .0
 
   pub carries-start : (t : ℕ) (v : List Signed) → t ≡ length X → length v ≡ 8 → Carries n (drop t X) v v
   carries-start t v e h = subst (λ W. Carries n W v v) (sym (drop-of-length-le X {i = t} (omega arith))) (carries-none v h)
@@ -69,7 +72,7 @@ module _ (n : ℕ) (X : Word Signed) (s : All (StoredLetter n) X) where
   carries-letter t d {v} {u} {w} h c l =
       let e : suc t ≡ t + 1 = omega arith in
       let f : drop t X ≡ getD X t d ∷ drop (t + 1) X = drop-cons X t d h ∙ ap (λ i. getD X t d ∷ drop i X) e in
-      subst (λ W. Carries n W v w) (sym f) (carries-next (getD X t d) (subst (All (StoredLetter n)) f (behind t) .0) c l)
+      subst (λ W. Carries n W v w) (sym f) (carries-next (getD X t d) (ranged-letter t d h) c l)
 
   pub carries-ranged : (t r : ℕ) {v u : List Signed} → r + reachOf X ≤ workingReach → ItemsRanged r n v → Carries n (drop t X) v u →
       ItemsRanged (r + reachOf X) n u

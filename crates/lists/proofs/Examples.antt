@@ -17,4 +17,4 @@ pub examples : AllHold listTable
 unfolding listTable storable signedItem listOf listNumbers opposite reversalsBehind carriedVector anyOutside itemsAfterCarry reversalsCall firstBehind
     ascending descending word carry carryLetter signedRound signedSum signedProduct withSign
     roundBy renormalised sumBy productBy inRange xor size lib.Ieee.span lib.Ieee.climb
-examples = (refl, (refl, (refl, (refl, (refl, (refl, (refl, (refl, (refl, (refl, (refl, (refl, (refl, tt)))))))))))))
+examples = (refl, (refl, (refl, (refl, (refl, (refl, (refl, (refl, (refl, (refl, (refl, (refl, (refl, (refl, (refl, tt)))))))))))))))

@@ -14,7 +14,7 @@ use Rattle.words.proofs.Walks.{All}
 use Rattle.items.specs.Items.{vectorOf}
 use Rattle.lists.specs.Lists.{signedWord, firstItems, carriedVector, carriedList}
 use Rattle.lists.specs.Carrying.{Carries}
-use Rattle.lists.proofs.LetterReach.{StoredLetter}
+use Rattle.lists.proofs.LetterReach.{RangedLetter}
 use Rattle.lists.proofs.Carried.{carry-agree}
 
 module _ {A : Type 0} (f : ℕ → A) where
@@ -42,7 +42,7 @@ first-back n L e =
     let i : k + 1 - 1 ≡ k = omega arith in
     first-at n (vectorOf L) k (omega (arith, first-length n (vectorOf L))) ∙ ap (λ i. getD L i zeroSigned) i)
 
-pub carries-list : {n : ℕ} (b : Factors Number) (v u : List Signed) → n ≤ 8 → All (StoredLetter n) (signedWord n b) → Carries n (signedWord n b) v u →
+pub carries-list : {n : ℕ} (b : Factors Number) (v u : List Signed) → n ≤ 8 → All (RangedLetter n) (signedWord n b) → Carries n (signedWord n b) v u →
     take n u ≡ carriedList n b (take n v)
 unfolding carriedVector
 carries-list {n} b v u few s c =

@@ -1,5 +1,5 @@
 -- How far a letter takes the exponents: an item times a factor (`product-reach`), that added to another item (`added-reach`); and so the items carried
--- through a word (`StoredLetter`, `carry-reach`), as that of stored factors (`stored-letters`, `word-reach`, `carried-reach`).
+-- through a word (`RangedLetter`, `carry-reach`), as that of factors stored or zero (`ranged-letters`, `word-reach`, `carried-reach`).
 use mathlib.Core.Path.{_≡_, subst}
 use mathlib.Core.Bool.{Bool, true, false, cond}
 use mathlib.Core.List.{[], _∷_}
@@ -7,11 +7,10 @@ use Prim.Native.Nat.{ℕ, _+_, _-_, _*_, _≤_}
 use native.Mathlib.Nat.{mul-le-mul}
 use native.Mathlib.Omega.{arith}
 use lib.Dec.{eqb}
-use Rattle.number.specs.Number.{Stored}
+use Rattle.number.specs.Number.{Ranged}
 use Rattle.number.specs.Signed.{plain, signedSum, signedProduct, signedArithmetic, SignedRanged}
 use Rattle.number.specs.declared.Number.{Number}
 use Rattle.number.specs.declared.signed.Signed.{Signed}
-use Rattle.number.proofs.Reach.{ranged-stored}
 use Rattle.number.proofs.Signs.{signed-product-comm}
 use Rattle.number.proofs.SignedReach.{signed-ranged-more, signed-ranged-plain, signed-ranged-sum, signed-ranged-product}
 use Rattle.words.specs.RowSet.{In}
@@ -32,12 +31,12 @@ module _ {r : ℕ} {y w : Signed} (far : r ≤ workingReach) (v : SignedRanged r
   pub added-reach : {x : Signed} → SignedRanged r x → SignedRanged (r + carryReach) (signedSum x (signedProduct y w))
   added-reach u = signed-ranged-more (omega arith) (signed-ranged-sum (signed-ranged-more (omega arith) u) product-reach (omega arith))
 
--- a letter of n rows whose numbers are stored ones
-abbrev pub StoredLetter : ℕ → Letter Signed → Type 0
-StoredLetter n (E j w) = (2 ≤ j) × (j ≤ n) × SignedRanged 1000 w
-StoredLetter n (Et j w) = (2 ≤ j) × (j ≤ n) × SignedRanged 1000 w
-StoredLetter n (D e) = (i : ℕ) → In n i → SignedRanged 1000 (e i)
-StoredLetter n (Dinv e) = ⊥
+-- a letter of n rows whose numbers are stored ones or zero
+abbrev pub RangedLetter : ℕ → Letter Signed → Type 0
+RangedLetter n (E j w) = (2 ≤ j) × (j ≤ n) × SignedRanged 1000 w
+RangedLetter n (Et j w) = (2 ≤ j) × (j ≤ n) × SignedRanged 1000 w
+RangedLetter n (D e) = (i : ℕ) → In n i → SignedRanged 1000 (e i)
+RangedLetter n (Dinv e) = ⊥
 
 abbrev pub Within : ℕ → ℕ → (ℕ → Signed) → Type 0
 Within r n v = (i : ℕ) → In n i → SignedRanged r (v i)
@@ -51,7 +50,7 @@ module _ (n r : ℕ) (far : r ≤ workingReach) (v : ℕ → Signed) (h : Within
       go true = subst (λ z. SignedRanged (r + carryReach) (signedSum (v i) z)) (signed-product-comm (v o) w) (added-reach far (h o p) s (h i l))
       go false = signed-ranged-more (omega arith) (h i l)
 
-  letter-reach : (l : Letter Signed) → StoredLetter n l → Within (r + carryReach) n (carryLetter signedArithmetic l v)
+  letter-reach : (l : Letter Signed) → RangedLetter n l → Within (r + carryReach) n (carryLetter signedArithmetic l v)
   unfolding carryLetter
   letter-reach (E j w) s = moved-reach j (j - 1) w (omega (arith, s .0), omega (arith, s .1)) (s .2)
   letter-reach (Et j w) s = moved-reach (j - 1) j w (omega (arith, s .0), s .1) (s .2)
@@ -62,7 +61,7 @@ module _ (n r : ℕ) (far : r ≤ workingReach) (v : ℕ → Signed) (h : Within
 abbrev pub reachOf : Word Signed → ℕ
 reachOf W = total (letterCost carryReach carryReach) W
 
-pub carry-reach : (n r : ℕ) (v : ℕ → Signed) → Within r n v → (W : Word Signed) → All (StoredLetter n) W → r + reachOf W ≤ workingReach →
+pub carry-reach : (n r : ℕ) (v : ℕ → Signed) → Within r n v → (W : Word Signed) → All (RangedLetter n) W → r + reachOf W ≤ workingReach →
     Within (r + reachOf W) n (carry signedArithmetic W v)
 unfolding carry total
 carry-reach n r v h [] s far i l = signed-ranged-more (omega arith) (h i l)
@@ -77,14 +76,11 @@ carry-reach n r v h (x ∷ W) s far i l =
     cost (Dinv e) = omega arith
 
 module _ (n : ℕ) (b : Factors Number) where
-  pub stored-letters : Each Stored n b → All (StoredLetter n) (signedWord n b)
-  stored-letters s = word-all (StoredLetter n) n (λ i j. plain (b i j))
-      (λ i j p q t. (omega arith, t, stored i j (omega arith, t) (p, omega arith)))
-      (λ i p. stored i i p p)
-      (λ i j p q t. (omega arith, t, stored j i (p, omega arith) (omega arith, t)))
-    where
-      stored : (i j : ℕ) → In n i → In n j → SignedRanged 1000 (plain (b i j))
-      stored i j p q = signed-ranged-plain (ranged-stored (s i j p q))
+  pub ranged-letters : Each (Ranged 1000) n b → All (RangedLetter n) (signedWord n b)
+  ranged-letters s = word-all (RangedLetter n) n (λ i j. plain (b i j))
+      (λ i j p q t. (omega arith, t, signed-ranged-plain (s i j (omega arith, t) (p, omega arith))))
+      (λ i p. signed-ranged-plain (s i i p p))
+      (λ i j p q t. (omega arith, t, signed-ranged-plain (s j i (p, omega arith) (omega arith, t))))
 
   pub word-reach : 1 ≤ n → n ≤ 8 → reachOf (signedWord n b) ≤ 64 * carryReach
   word-reach low high =
@@ -92,8 +88,8 @@ module _ (n : ℕ) (b : Factors Number) where
       let few : n * n ≤ 8 * 8 = mul-le-mul high high in
       omega arith
 
-  pub carried-reach : (v : ℕ → Signed) → 1 ≤ n → n ≤ 8 → Each Stored n b → Within 1000 n v → Within workingReach n (carriedVector n b v)
+  pub carried-reach : (v : ℕ → Signed) → 1 ≤ n → n ≤ 8 → Each (Ranged 1000) n b → Within 1000 n v → Within workingReach n (carriedVector n b v)
   unfolding carriedVector
   carried-reach v low high s h i l =
       let few = word-reach low high in
-      signed-ranged-more (omega arith) (carry-reach n 1000 v h (signedWord n b) (stored-letters s) (omega arith) i l)
+      signed-ranged-more (omega arith) (carry-reach n 1000 v h (signedWord n b) (ranged-letters s) (omega arith) i l)

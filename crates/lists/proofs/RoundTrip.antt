@@ -14,7 +14,7 @@ use Rattle.arrays.proofs.Runs.{take-sets-front}
 use Rattle.verdict.specs.declared.Verdict.{Verdict}
 use Rattle.verdict.specs.declared.Verdict.the-variants.{Accepted}
 use Rattle.verdict.specs.Verdict.{firstOf, after}
-use Rattle.number.specs.Number.{Stored, inRange}
+use Rattle.number.specs.Number.{Ranged, inRange}
 use Rattle.number.specs.Signed.{zeroSigned, SignedRanged}
 use Rattle.number.specs.declared.Number.{Number}
 use Rattle.number.specs.declared.signed.Signed.{Signed}
@@ -49,7 +49,7 @@ formed-list (a ∷ L) u h =
     let e = neither (itemOutside a) (anyOutside L) h in
     (formed-item a (u 0 (omega arith)) (e .0), formed-list L (λ k p. u (suc k) (omega arith)) (e .1))
 
-module _ (n : ℕ) (b : Factors Number) (low : 1 ≤ n) (high : n ≤ 8) (s : Each Stored n b) (z out : List ℤ) where
+module _ (n : ℕ) (b : Factors Number) (low : 1 ≤ n) (high : n ≤ 8) (s : Each (Ranged 1000) n b) (z out : List ℤ) where
   -- the carried items of a well-formed list are formed, if none is outside
   pub carried-formed : (L : List Signed) → listOf z ≡ some L → length L ≡ n → anyOutside (carriedList n b L) ≡ false → AllFormed (carriedList n b L)
   carried-formed L e f h = formed-list (carriedList n b L) (λ k p.

@@ -1,18 +1,19 @@
 -- The letters of the signed word in the code's terms: their rows, and the places of their factors (`letter-placed`); so letter t carries by a move
--- (`carries-moved`) or by the
--- entries of D (`carries-scaled`), and the word has so many letters (`signed-length`).
-use mathlib.Core.Path.{_≡_, refl, sym, ap, ap₂, _∙_}
+-- (`carries-moved`), whose factor is stored or zero (`factor-ranged`), or by the entries of D (`carries-scaled`), and the word has so many letters
+-- (`signed-length`).
+use mathlib.Core.Path.{_≡_, refl, sym, ap, ap₂, _∙_, subst}
 use mathlib.Core.Bool.{cond, false≢true}
 use mathlib.Core.List.{List, [], _∷_}
 use Prim.Native.Nat.{ℕ, _+_, _-_, _*_, _≤_, _<_}
 use native.Mathlib.Omega.{arith}
 use lib.Dec.{eqb}
 use lib.ListN.{length, set, getD, length-set}
-use Rattle.number.specs.Number.{zeroNumber}
-use Rattle.number.specs.Signed.{plain, signedSum, signedProduct, signedArithmetic}
+use Rattle.number.specs.Number.{zeroNumber, Ranged}
+use Rattle.number.specs.Signed.{plain, zeroSigned, signedSum, signedProduct, signedArithmetic, SignedRanged}
 use Rattle.number.specs.declared.Number.{Number}
 use Rattle.number.specs.declared.signed.Signed.{Signed}
 use Rattle.words.specs.RowSet.{In}
+use Rattle.words.specs.Sources.{Each}
 use Rattle.words.specs.Word.{Letter, E, Et, D, Dinv}
 use Rattle.words.specs.Walk.{carry, carryLetter}
 use Rattle.words.proofs.Alike.{letters-word}
@@ -26,7 +27,8 @@ use Rattle.walk.proofs.Spelling.{IsMove, IsDiagonal, word-length, letter-move, 
 use Rattle.items.specs.Items.{vectorOf}
 use Rattle.lists.specs.Lists.{signedWord}
 use Rattle.lists.specs.Carrying.{Carries, Scaled, letterOf}
-use Rattle.lists.proofs.Carried.{added-agrees}
+use Rattle.lists.proofs.LetterReach.{RangedLetter, ranged-letters}
+use Rattle.lists.proofs.Carried.{ranged-letter, added-agrees}
 
 -- a factor of a table, and the place where it stands
 abbrev At : List Number → Signed → ℕ → Type 0
@@ -36,6 +38,12 @@ module _ (b : List Number) (n : ℕ) where
   spelled : Matched (Letters (At b) (At b) n) (signedWord n (factorsOf b)) (placeWord n Plain)
   unfolding placeWord factorsOf
   spelled = letters-word (At b) (At b) n (λ i j. plain (factorsOf b i j)) cellOf (record { off = λ i j p q r t e. refl; on = λ i p q. refl })
+
+  -- the factor of a letter E or Et
+  move-ranged : (y : Letter ℕ) (x : Letter Signed) → Letters (At b) (At b) n x y → IsMove y → RangedLetter n x
+      → Ranged 1000 (getD b (moveOf y .at) zeroNumber)
+  move-ranged (E k p) (E j w) h m r = subst (SignedRanged 1000) (h .1) (r .2) .size
+  move-ranged (Et k p) (Et j w) h m r = subst (SignedRanged 1000) (h .1) (r .2) .size
 
   -- E and Et, and D
   module _ (v : ℕ → Signed) where
@@ -61,6 +69,14 @@ module _ (b : List Number) (n : ℕ) where
       letter-placed : Letters (At b) (At b) n (letterOf n (factorsOf b) t) (getD (placeWord n Plain) t (D (λ i. 0)))
       unfolding letterOf
       letter-placed = each-at _ (signedWord n (factorsOf b)) (placeWord n Plain) spelled t (omega (arith, word-length n Plain low high)) _ _
+
+      pub factor-ranged : Each (Ranged 1000) n (factorsOf b) → (t ≡ middle n → ⊥) → (m : Move) → m ≡ moveAt n Plain t → (w : Number)
+          → w ≡ getD b (m .at) zeroNumber → Ranged 1000 w
+      unfolding letterOf moveAt
+      factor-ranged s e m f w g =
+          let r = ranged-letter n (signedWord n (factorsOf b)) (ranged-letters n (factorsOf b) s) t (D (λ i. zeroSigned)) (omega (arith, signed-length)) in
+          subst (Ranged 1000) (ap (λ (x : Move). getD b (x .at) zeroNumber) (sym f) ∙ sym g)
+          (move-ranged _ (letterOf n (factorsOf b) t) letter-placed (letter-move n Plain low high t l e) r)
 
       pub carries-moved : (v : List Signed) → length v ≡ 8 → (t ≡ middle n → ⊥) → (m : Move) → m ≡ moveAt n Plain t → MoveWithin n m → (w : Number)
           → w ≡ getD b (m .at) zeroNumber

@@ -1,5 +1,5 @@
--- A LIST CARRIED, AS ROUNDED, HAS NO MORE REVERSALS THAN IT HAD (`carried-steady`): any number of rows, any factors, any list, since the letters of the signed
--- word are not negative (`word-steady`). So an accepted carry keeps its promise (`carry-steady`): what it wrote reads back as the carried list.
+-- A LIST CARRIED, AS ROUNDED, HAS NO MORE REVERSALS THAN IT HAD (`carried-steady`): any number of rows, any factors, zero or not, any list, since the letters
+-- of the signed word are not negative (`word-steady`). So an accepted carry keeps its promise (`carry-steady`): what it wrote reads back as the carried list.
 use mathlib.Core.Path.{_≡_, refl, ap, _∙_, subst}
 use mathlib.Core.Bool.{not}
 use mathlib.Core.List.{List, [], _∷_}
@@ -14,7 +14,7 @@ use Rattle.verdict.specs.Verdict.{when, firstBehind, firstOf}
 use Rattle.verdict.specs.Report.{accepted, reportOf}
 use Rattle.number.specs.declared.Number.{Number}
 use Rattle.number.specs.declared.signed.Signed.{Signed}
-use Rattle.number.specs.Number.{Stored}
+use Rattle.number.specs.Number.{Ranged}
 use Rattle.number.specs.Signed.{plain}
 use Rattle.words.specs.Word.{Factors}
 use Rattle.words.specs.Sources.{Each}
@@ -47,7 +47,7 @@ reversals-answered z L e l m =
     ap (λ (o : Option (List Signed)). reportOf (when (not (proper 1 8 o)) 9) (pos (reversals (Option·getD o [])) ∷ [])) e
     ∙ simp (le-leb 1 (length L) l, le-leb (length L) 8 m)
 
-module _ (n : ℕ) (b : Factors Number) (low : 1 ≤ n) (high : n ≤ 8) (s : Each Stored n b) (z out : List ℤ) where
+module _ (n : ℕ) (b : Factors Number) (low : 1 ≤ n) (high : n ≤ 8) (s : Each (Ranged 1000) n b) (z out : List ℤ) where
   pub carry-steady : firstOf (carryTests n b z out) ≡ Accepted → NoMoreReversals z (take (length z) (itemsAfterCarry n b z out))
   carry-steady h =
       let a = carry-accepted n b z out h in

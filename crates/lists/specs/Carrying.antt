@@ -32,7 +32,7 @@ pub record Scaled (k : ℕ) (b : Factors Number) (v u : List Signed) : Type 0 wh
 unfoldable pub letterOf : ℕ → Factors Number → ℕ → Letter Signed
 letterOf n b t = getD (signedWord n b) t (D (λ i. zeroSigned))
 
--- a letter takes exponents at most that far: a product by a stored number 1033, and a sum 31
+-- a letter takes exponents at most that far: a product by a factor 1033, and a sum 31
 abbrev pub carryReach : ℕ
 carryReach = 1064
 

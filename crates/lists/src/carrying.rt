@@ -3,7 +3,7 @@ ghost use mathlib.Core.Path.{_≡_};
 ghost use mathlib.Core.List.{[], _∷_};
 ghost use Prim.Native.Nat.{_+_, _-_, _*_, _≤_, _<_};
 ghost use lib.ListN.{take, set};
-ghost use Rattle.number.specs.Number.{Stored, reach};
+ghost use Rattle.number.specs.Number.{Ranged, reach};
 ghost use Rattle.number.specs.Signed.{plain, signedSum, signedProduct, SignedRanged};
 ghost use Rattle.words.specs.Sources.{Each};
 ghost use Rattle.table.specs.Table.{factorsOf};
@@ -19,7 +19,7 @@ use walk::letters;
 // Item `to` gets w times item `from` added: E_j(w) with to = j and from = j - 1, Et_j(w) with to = j - 1 and from = j.
 fn added(v: [Signed; 8], to: usize, from: usize, w: Number) -> [Signed; 8]
     requires { ⌜ (1 ≤ to) × (to ≤ 8) × (1 ≤ from) × (from ≤ 8) ⌝ }
-    requires { ⌜ SignedRanged workingReach (vectorOf v to) × SignedRanged workingReach (vectorOf v from) × Stored w ⌝ }
+    requires { ⌜ SignedRanged workingReach (vectorOf v to) × SignedRanged workingReach (vectorOf v from) × Ranged 1000 w ⌝ }
     ensures { λ r. ⌜ r ≡ set v (to - 1) (signedSum (vectorOf v to) (signedProduct (vectorOf v from) (plain w))) ⌝ }
 {
     let mut u = v;
@@ -32,7 +32,7 @@ fn added(v: [Signed; 8], to: usize, from: usize, w: Number) -> [Signed; 8]
 // D: each item times its entry.
 fn diagonal(v: [Signed; 8], b: [Number; 64], n: usize) -> [Signed; 8]
     requires { ⌜ n ≤ 8 ⌝ }
-    requires { ⌜ ItemsRanged workingReach n v × Each Stored n (factorsOf b) ⌝ }
+    requires { ⌜ ItemsRanged workingReach n v × Each (Ranged 1000) n (factorsOf b) ⌝ }
     ensures { λ r. ⌜ Scaled n (factorsOf b) v r ⌝ }
 {
     let mut u = v;
@@ -49,7 +49,7 @@ fn diagonal(v: [Signed; 8], b: [Number; 64], n: usize) -> [Signed; 8]
 // Letter t of the word.
 fn letter(v: [Signed; 8], b: [Number; 64], n: usize, t: usize) -> [Signed; 8]
     requires { ⌜ (1 ≤ n) × (n ≤ 8) × (t < 2 * middle n + 1) ⌝ }
-    requires { ⌜ ItemsRanged workingReach n v × Each Stored n (factorsOf b) ⌝ }
+    requires { ⌜ ItemsRanged workingReach n v × Each (Ranged 1000) n (factorsOf b) ⌝ }
     ensures { λ r. ⌜ Carries n (letterOf n (factorsOf b) t ∷ []) v r ⌝ }
 {
     if t == letters::middle(n) {
@@ -63,7 +63,7 @@ fn letter(v: [Signed; 8], b: [Number; 64], n: usize, t: usize) -> [Signed; 8]
 
 // The whole word.
 pub fn through(v: [Signed; 8], b: [Number; 64], n: usize) -> [Signed; 8]
-    requires { ⌜ (1 ≤ n) × (n ≤ 8) × ItemsRanged 1000 n v × Each Stored n (factorsOf b) ⌝ }
+    requires { ⌜ (1 ≤ n) × (n ≤ 8) × ItemsRanged 1000 n v × Each (Ranged 1000) n (factorsOf b) ⌝ }
     ensures { λ r. ⌜ take n r ≡ carriedList n (factorsOf b) (take n v) ⌝ }
     ensures { λ r. ⌜ ItemsRanged reach n r ⌝ }
 {

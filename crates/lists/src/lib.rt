@@ -5,7 +5,7 @@ ghost use lib.ListN.{take};
 ghost use Rattle.lists.specs.Lists.{itemOutside, anyOutside, carryTests, itemsAfterCarry, reversalsCall, reversalsReport};
 ghost use Rattle.lists.specs.Promise.{Steady};
 ghost use Rattle.verdict.specs.Verdict.{firstOf};
-ghost use Rattle.number.specs.Number.{Stored};
+ghost use Rattle.number.specs.Number.{Ranged};
 ghost use Rattle.words.specs.Sources.{Each};
 ghost use Rattle.table.specs.Table.{factorsOf};
 use number::Number;
@@ -62,10 +62,10 @@ fn any_outside(v: [Signed; 8], n: usize) -> bool
     false
 }
 
-// Carries the items through the word of n rows with these factors, that of row i and column j at (i - 1) * 8 + (j - 1), into `out`.
+// Carries the items through the word of n rows with these factors, stored or zero, that of row i and column j at (i - 1) * 8 + (j - 1), into `out`.
 // Zeros are carried in place of a list that is not proper.
 pub fn carry(factors: [Number; 64], n: usize, items: &[i64], out: &mut [i64]) -> Verdict
-    requires { ⌜ (1 ≤ n) × (n ≤ 8) × Each Stored n (factorsOf factors) ⌝ }
+    requires { ⌜ (1 ≤ n) × (n ≤ 8) × Each (Ranged 1000) n (factorsOf factors) ⌝ }
     ensures { λ r. ⌜ r ≡ firstOf (carryTests n (factorsOf factors) (now (items .entry)) (now (out .entry))) ⌝ }
     ensures { λ r. ⌜ now (out .exit) ≡ itemsAfterCarry n (factorsOf factors) (now (items .entry)) (now (out .entry)) ⌝ }
     ensures { λ r. ⌜ Steady r (now (items .entry)) (now (out .exit)) ⌝ }

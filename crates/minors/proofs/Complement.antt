@@ -14,14 +14,14 @@ use Rattle.fraction.specs.Ring.{CRing, Ordered, arithmetic}
 use Rattle.fraction.proofs.Ring.{ring, one-*, *-one, *-assoc, *-comm, *-left}
 use Rattle.fraction.proofs.Ordered.{inv-mul-pos}
 use Rattle.words.specs.RowSet.{In, RowSet, has, put, replaced, count}
-use Rattle.words.specs.Word.{Factors, Letter, E, Et, D, Dinv, Word, word, inverseLetter, inverseWord}
+use Rattle.words.specs.Word.{Factors, Letter, E, Et, D, Dinv, Word, word, inverseLetter, inverseWord, transposedLetter, transposedWord}
 use Rattle.words.specs.Walk.{State, oneAt, moved, movedIf, scaled, act, walk, minor}
 use Rattle.words.proofs.RowSets.{in-under, in-top, length-put}
 use Rattle.words.proofs.Walks.{Rows, All}
 use Rattle.words.proofs.Agree.{act-agree}
 use Rattle.words.proofs.Words.{transposed-transposed, inverse-all, inverse-row, transposed-rows}
 use Rattle.words.proofs.Steps.{Weights, word-weights}
-use Rattle.minors.proofs.Transpose.{transposedLetter, transposedWord, minor-transposed}
+use Rattle.minors.proofs.Transpose.{minor-transposed}
 use Rattle.minors.proofs.Mapped.{moved-mapped, oneAt-mapped}
 use Rattle.minors.proofs.Entries.{*-right, entryProduct, wholeProduct, scaled-product, wholeProduct-positive}
 

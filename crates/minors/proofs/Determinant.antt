@@ -22,26 +22,16 @@ use Rattle.words.proofs.Agree.{act-agree, walk-agree}
 use Rattle.minors.specs.Matrix.{Matrix, Equal, identity, submatrixOf}
 use Rattle.minors.proofs.Wedge.{wedge-agree, wedge-zero}
 use Rattle.minors.proofs.Carried.{act-wedge, act-empty}
-unfoldable pub use Rattle.minors.proofs.Wedge.{wedge, empty, wedges}
+unfoldable pub use Rattle.minors.specs.Determinant.{wedge, empty, wedges, columns, determinant}
 
 module _ (K : CRing) where
   open CRing K using (R, 𝟘, 𝟙, add as _+_, mul as _*_, neg)
 
   infixl 65 _+_
   infixl 70 _*_
-  -- the columns of M at J, the highest first
-  unfoldable pub columns : Matrix K → RowSet → List (ℕ → R)
-  columns M [] = []
-  columns M (true ∷ J) = (λ i. M i (suc (length J))) ∷ columns M J
-  columns M (false ∷ J) = columns M J
-
-  -- the minor of a matrix at the rows I and columns J
-  unfoldable pub determinant : Matrix K → RowSet → RowSet → R
-  determinant M I J = wedges K (columns M J) I
-
   -- it is made of the entries at the rows 1 .. length I and columns 1 .. length J
   pub determinant-agree : (M N : Matrix K) (I J : RowSet) → ((i j : ℕ) → In (length I) i → In (length J) j → M i j ≡ N i j)
-      → determinant M I J ≡ determinant N I J
+      → determinant K M I J ≡ determinant K N I J
   unfolding determinant columns wedges
   determinant-agree M N I [] e = refl
   determinant-agree M N I (true ∷ J) e =
@@ -49,7 +39,7 @@ module _ (K : CRing) where
       (λ T t. determinant-agree M N T J (λ i j p q. e i j (subst (λ n. In n i) t p) (in-under q)))
   determinant-agree M N I (false ∷ J) e = determinant-agree M N I J (λ i j p q. e i j p (in-under q))
 
-  pub determinant-equal : (n : ℕ) (M N : Matrix K) → Equal K n M N → (I J : RowSet) → length I ≡ n → length J ≡ n → determinant M I J ≡ determinant N I J
+  pub determinant-equal : (n : ℕ) (M N : Matrix K) → Equal K n M N → (I J : RowSet) → length I ≡ n → length J ≡ n → determinant K M I J ≡ determinant K N I J
   determinant-equal n M N e I J i j = determinant-agree M N I J (λ r c p q. e r c (subst (λ k. In k r) i p) (subst (λ k. In k c) j q))
 
   -- a row above the set, or a column, does not count
@@ -58,49 +48,46 @@ module _ (K : CRing) where
   wedges-false [] S = refl
   wedges-false (v ∷ vs) S = ap (λ ω. wedge K v ω S) (fun-ext (wedges-false vs))
 
-  pub determinant-above : (M : Matrix K) (I J : RowSet) → determinant M (false ∷ I) J ≡ determinant M I J
+  pub determinant-above : (M : Matrix K) (I J : RowSet) → determinant K M (false ∷ I) J ≡ determinant K M I J
   unfolding determinant
-  determinant-above M I J = wedges-false (columns M J) I
+  determinant-above M I J = wedges-false (columns K M J) I
 
   -- along the highest column, where it has the highest row
   pub determinant-expand : (M : Matrix K) (I J : RowSet) (i j : ℕ) → length I ≡ i → length J ≡ j
-      → determinant M (true ∷ I) (true ∷ J) ≡ M (suc i) (suc j) * determinant M I J + neg (wedge K (λ r. M r (suc j)) (λ T. determinant M (true ∷ T) J) I)
+      → determinant K M (true ∷ I) (true ∷ J) ≡ M (suc i) (suc j) * determinant K M I J + neg (wedge K (λ r. M r (suc j)) (λ T. determinant K M (true ∷ T) J) I)
   unfolding determinant columns wedges wedge
   determinant-expand M I J i j p q =
-      ap₂ (λ r c. M (suc r) (suc c) * determinant M (false ∷ I) J + neg (wedge K (λ k. M k (suc c)) (λ T. determinant M (true ∷ T) J) I)) p q
-      ∙ ap (λ x. M (suc i) (suc j) * x + neg (wedge K (λ k. M k (suc j)) (λ T. determinant M (true ∷ T) J) I)) (determinant-above M I J)
+      ap₂ (λ r c. M (suc r) (suc c) * determinant K M (false ∷ I) J + neg (wedge K (λ k. M k (suc c)) (λ T. determinant K M (true ∷ T) J) I)) p q
+      ∙ ap (λ x. M (suc i) (suc j) * x + neg (wedge K (λ k. M k (suc j)) (λ T. determinant K M (true ∷ T) J) I)) (determinant-above M I J)
 
   -- at runs of rows and of columns: those above their highest do not count, and a run of none is the empty set
-  pub determinant-runs : (M : Matrix K) (n m a b c d : ℕ) → b ≤ n → d ≤ m → determinant M (rows n a b) (rows m c d) ≡ determinant M (rows b a b) (rows d c d)
+  pub determinant-runs : (M : Matrix K) (n m a b c d : ℕ) → b ≤ n → d ≤ m
+      → determinant K M (rows n a b) (rows m c d) ≡ determinant K M (rows b a b) (rows d c d)
   unfolding determinant columns
   determinant-runs M n m a b c d h g =
-      rows-own (λ I. determinant M I (rows m c d)) (λ I. determinant-above M I (rows m c d)) n a b h
-      ∙ rows-own (determinant M (rows b a b)) (λ J. refl) m c d g
+      rows-own (λ I. determinant K M I (rows m c d)) (λ I. determinant-above M I (rows m c d)) n a b h
+      ∙ rows-own (determinant K M (rows b a b)) (λ J. refl) m c d g
 
-  pub determinant-none : (M : Matrix K) (I : RowSet) (m c d : ℕ) → d < c → determinant M I (rows m c d) ≡ empty K I
+  pub determinant-none : (M : Matrix K) (I : RowSet) (m c d : ℕ) → d < c → determinant K M I (rows m c d) ≡ empty K I
   unfolding determinant columns wedges
-  determinant-none M I m c d h = rows-none (determinant M I) (λ J. refl) m c d h
+  determinant-none M I m c d h = rows-none (determinant K M I) (λ J. refl) m c d h
 
   pub empty-none : (n a b : ℕ) → b < a → empty K (rows n a b) ≡ 𝟙
   unfolding empty
   empty-none n a b h = rows-none (empty K) (λ S. refl) n a b h
-
-  -- the empty minor is 1
-  pub determinant-empty : (M : Matrix K) (n a b m c d : ℕ) → b < a → d < c → determinant M (rows n a b) (rows m c d) ≡ 𝟙
-  determinant-empty M n a b m c d h g = determinant-none M (rows n a b) m c d g ∙ empty-none n a b h
 
   -- the first term of an expansion whose other terms are zero
   alone : (x y : R) → y ≡ 𝟘 → x + neg y ≡ x
   alone x y h = ap (λ z. x + neg z) h ∙ simp ring
 
   -- the determinant is zero where the highest row is
-  pub determinant-zero-row : (M : Matrix K) (I J : RowSet) → ((j : ℕ) → In (length J) j → M (suc (length I)) j ≡ 𝟘) → determinant M (true ∷ I) J ≡ 𝟘
+  pub determinant-zero-row : (M : Matrix K) (I J : RowSet) → ((j : ℕ) → In (length J) j → M (suc (length I)) j ≡ 𝟘) → determinant K M (true ∷ I) J ≡ 𝟘
   unfolding determinant columns wedges wedge empty
   determinant-zero-row M I [] h = refl
   determinant-zero-row M I (true ∷ J) h =
       alone _ _ (wedge-zero K _ _ I (λ i T p t. ap (λ x. M i (suc (length J)) * x)
       (determinant-zero-row M T J (λ j q. subst (λ n. M (suc n) j ≡ 𝟘) (sym t) (h j (in-under q)))) ∙ *-zero K _))
-      ∙ ap (λ x. x * determinant M (false ∷ I) J) (h (suc (length J)) (in-top (length J))) ∙ zero-* K _
+      ∙ ap (λ x. x * determinant K M (false ∷ I) J) (h (suc (length J)) (in-top (length J))) ∙ zero-* K _
   determinant-zero-row M I (false ∷ J) h = determinant-zero-row M I J (λ j p. h j (in-under p))
 
 module _ (K : CRing) (O : Ordered K) where

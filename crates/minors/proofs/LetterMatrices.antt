@@ -10,10 +10,9 @@ use borrow.Author.Tests.{eq-eqb, ne-eqb, eqb-true}
 use Rattle.fraction.specs.Ring.{CRing, Ordered, arithmetic}
 use Rattle.fraction.proofs.Ring.{ring, *-comm}
 use Rattle.words.specs.RowSet.{In}
-use Rattle.words.specs.Word.{Letter, E, Et, D, Dinv, converseLetter}
+use Rattle.words.specs.Word.{Letter, E, Et, D, Dinv, converseLetter, transposedLetter}
 use Rattle.words.specs.Walk.{carryLetter}
 use Rattle.words.proofs.Walks.{Rows}
-use Rattle.words.proofs.Words.{transposedLetter}
 use Rattle.minors.specs.Matrix.{Equal, identity, sum, letterMatrix}
 use Rattle.minors.proofs.Sums.{sum-equal, sum-add}
 use Rattle.minors.proofs.Products.{eqb-equivalent, sum-diagonal, identity-sum, identity-symmetric, reversed}

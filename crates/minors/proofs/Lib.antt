@@ -2,10 +2,7 @@ pub mod Entries
 pub mod Wedge
 pub mod Carried
 pub mod Determinant
-pub mod Determined
 pub mod Transpose
-pub mod Raising
-pub mod Recovery
 pub mod Nonnegative
 pub mod Sorting
 pub mod Mapped
@@ -17,5 +14,3 @@ pub mod Products
 pub mod LetterMatrices
 pub mod Multiply
 pub mod Inverse
-pub mod Ratios
-pub mod Factors

@@ -7,13 +7,13 @@ use Prim.Native.Nat.{ℕ, _+_ as _+ℕ_, _-_}
 use lib.ListN.{length}
 use Rattle.fraction.specs.Ring.{CRing, Ordered, arithmetic}
 use Rattle.words.specs.RowSet.{RowSet}
-use Rattle.words.specs.Word.{Factors, Word, word, converseWord, exchanged}
+use Rattle.words.specs.Word.{Factors, Word, word, converseWord, exchanged, transposedLetter, transposedWord}
 use Rattle.words.specs.Walk.{minor, carry}
 use Rattle.words.specs.Operation.{Step, stepWord, joinedWord}
 use Rattle.words.proofs.Walks.{Rows, All}
 use Rattle.minors.specs.Matrix.{Equal, times, letterMatrix, wordMatrix, multiplied}
 use Rattle.minors.proofs.Determinant.{determinant, matrixOf, minor-determinant, determinant-equal}
-use Rattle.minors.proofs.Transpose.{transposedLetter, transposedWord, transposed-word}
+use Rattle.minors.proofs.Transpose.{transposed-word}
 use Rattle.minors.proofs.Sums.{sum-equal}
 use Rattle.minors.proofs.Products.{identity-symmetric, times-equal, times-identity, times-transposed, times-reversed, wordMatrix-append}
 use Rattle.minors.proofs.LetterMatrices.{identity-reversed, letter-carry, letter-converse, letter-transposed}

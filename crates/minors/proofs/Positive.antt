@@ -10,12 +10,11 @@ use Rattle.fraction.specs.Ring.{CRing, Ordered, NonNegative, arithmetic, positi
 use Rattle.fraction.proofs.Ring.{ring, *-one}
 use Rattle.fraction.proofs.Ordered.{inv-mul-pos}
 use Rattle.words.specs.RowSet.{RowSet, count, rows}
-use Rattle.words.specs.Word.{Factors, Letter, D, Word, word, exchanged, inverseWord, converseWord}
+use Rattle.words.specs.Word.{Factors, Letter, D, Word, word, exchanged, inverseWord, converseWord, transposedWord}
 use Rattle.words.specs.Walk.{State, oneAt, act, walk, minor}
 use Rattle.words.specs.Operation.{Step, step, plain, inverted, conversed, transposed, stepWord, joinedWord}
 use Rattle.words.proofs.RowSets.{length-rows}
 use Rattle.words.proofs.Walks.{Rows, All, walk-append, oneAt-same}
-use Rattle.words.proofs.Words.{transposedWord}
 use Rattle.words.proofs.Stages.{stages, transposed-stages-all, stages-rows, word-stages, word-rows}
 use Rattle.words.specs.Sources.{Weighted, Source, Sources}
 use Rattle.words.proofs.Steps.{each-weighted, source-weaken, sources-weaken, step-weights, joined-weights}

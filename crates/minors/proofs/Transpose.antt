@@ -12,15 +12,13 @@ use Rattle.fraction.specs.Arithmetic.{Arithmetic}
 use Rattle.fraction.specs.Ring.{CRing, Ordered, arithmetic}
 use Rattle.fraction.proofs.Ring.{ring, +-zero, zero-+, *-assoc, *-comm, zero-*, one-*}
 use Rattle.words.specs.RowSet.{RowSet, equal}
-use Rattle.words.specs.Word.{Factors, Letter, E, Et, D, Dinv, Word, word, exchanged}
+use Rattle.words.specs.Word.{Factors, Letter, E, Et, D, Dinv, Word, word, exchanged, transposedLetter, transposedWord}
 use Rattle.words.specs.Walk.{oneAt, scaled, act, walk, minor}
 use Rattle.words.proofs.Walks.{Rows, All, under, walk-append, raised, lowered, raise-top, lower-top}
 use Rattle.words.proofs.Agree.{Agree, agree-under, rows-under}
 use Rattle.words.proofs.Words.{transposed-append, transposed-transposed}
 use Rattle.words.proofs.Stages.{stages, word-stages}
 use Rattle.minors.proofs.Entries.{scaled-product}
-pub use Rattle.words.proofs.Words.{transposedLetter}
-unfoldable pub use Rattle.words.proofs.Words.{transposedWord}
 
 -- the transposed word of a matrix is the word of its factors exchanged
 pub transposed-word : {A : Type 0} (n : ℕ) (b : Factors A) → transposedWord (word n b) ≡ word n (exchanged b)

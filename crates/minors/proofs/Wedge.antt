@@ -2,7 +2,7 @@
 -- a function of the rows of the set (wedge-agree), zero where every product is (wedge-zero), and compatible with a diagonal (wedge-diagonal).
 use mathlib.Core.Path.{_≡_, refl, sym, ap, ap₂, _∙_}
 use mathlib.Core.Bool.{true, false}
-use mathlib.Core.List.{List, [], _∷_}
+use mathlib.Core.List.{[], _∷_}
 use Prim.Native.Nat.{ℕ, suc}
 use lib.ListN.{length}
 use Rattle.fraction.specs.Ring.{CRing}
@@ -12,6 +12,7 @@ use Rattle.words.proofs.RowSets.{in-under, in-top}
 use Rattle.words.proofs.Walks.{under}
 use Rattle.words.proofs.Agree.{Agree, agree-under}
 use Rattle.minors.proofs.Entries.{entryProduct}
+unfoldable pub use Rattle.minors.specs.Determinant.{wedge, empty, wedges}
 
 -- the same entries 1 .. n
 abbrev pub SameEntries : {A : Type 0} → ℕ → (ℕ → A) → (ℕ → A) → Type 0
@@ -22,24 +23,7 @@ module _ (K : CRing) where
 
   infixl 65 _+_
   infixl 70 _*_
-  -- the wedge of a vector v 1, v 2, .. and a form: the highest row of the set first
-  unfoldable pub wedge : (ℕ → R) → (RowSet → R) → RowSet → R
-  wedge v ω [] = 𝟘
-  wedge v ω (true ∷ S) = v (suc (length S)) * ω (false ∷ S) + neg (wedge v (λ T. ω (true ∷ T)) S)
-  wedge v ω (false ∷ S) = wedge v (λ T. ω (false ∷ T)) S
-
-  -- 1 at the empty set
-  unfoldable pub empty : RowSet → R
-  empty [] = 𝟙
-  empty (true ∷ S) = 𝟘
-  empty (false ∷ S) = empty S
-
-  -- the determinant of the columns, the highest first, at the rows S
-  unfoldable pub wedges : List (ℕ → R) → RowSet → R
-  wedges [] = empty
-  wedges (v ∷ vs) = wedge v (wedges vs)
-
-  pub wedge-add : (w : R) (v : ℕ → R) (ω η : RowSet → R) (S : RowSet) → wedge v (λ T. ω T + w * η T) S ≡ wedge v ω S + w * wedge v η S
+  pub wedge-add : (w : R) (v : ℕ → R) (ω η : RowSet → R) (S : RowSet) → wedge K v (λ T. ω T + w * η T) S ≡ wedge K v ω S + w * wedge K v η S
   unfolding wedge
   wedge-add w v ω η [] = simp ring
   wedge-add w v ω η (true ∷ S) =
@@ -50,13 +34,13 @@ module _ (K : CRing) where
       step a x y p q = simp ring
   wedge-add w v ω η (false ∷ S) = wedge-add w v (under false ω) (under false η) S
 
-  pub wedge-mul : (w : R) (v : ℕ → R) (ω : RowSet → R) (S : RowSet) → wedge v (λ T. ω T * w) S ≡ wedge v ω S * w
+  pub wedge-mul : (w : R) (v : ℕ → R) (ω : RowSet → R) (S : RowSet) → wedge K v (λ T. ω T * w) S ≡ wedge K v ω S * w
   unfolding wedge
   wedge-mul w v ω [] = simp ring
   wedge-mul w v ω (true ∷ S) = rw (wedge-mul w v (under true ω) S, wedge) (simp ring)
   wedge-mul w v ω (false ∷ S) = wedge-mul w v (under false ω) S
 
-  pub wedge-agree : (v u : ℕ → R) (ω η : RowSet → R) (S : RowSet) → SameEntries (length S) v u → Agree (length S) ω η → wedge v ω S ≡ wedge u η S
+  pub wedge-agree : (v u : ℕ → R) (ω η : RowSet → R) (S : RowSet) → SameEntries (length S) v u → Agree (length S) ω η → wedge K v ω S ≡ wedge K u η S
   unfolding wedge
   wedge-agree v u ω η [] e h = refl
   wedge-agree v u ω η (true ∷ S) e h =
@@ -64,7 +48,8 @@ module _ (K : CRing) where
       (wedge-agree v u (under true ω) (under true η) S (λ i p. e i (in-under p)) (agree-under true h))
   wedge-agree v u ω η (false ∷ S) e h = wedge-agree v u (under false ω) (under false η) S (λ i p. e i (in-under p)) (agree-under false h)
 
-  pub wedge-zero : (v : ℕ → R) (ω : RowSet → R) (S : RowSet) → ((i : ℕ) (T : RowSet) → In (length S) i → length T ≡ length S → v i * ω T ≡ 𝟘) → wedge v ω S ≡ 𝟘
+  pub wedge-zero : (v : ℕ → R) (ω : RowSet → R) (S : RowSet) → ((i : ℕ) (T : RowSet) → In (length S) i → length T ≡ length S → v i * ω T ≡ 𝟘)
+      → wedge K v ω S ≡ 𝟘
   unfolding wedge
   wedge-zero v ω [] h = refl
   wedge-zero v ω (true ∷ S) h =
@@ -74,7 +59,8 @@ module _ (K : CRing) where
   wedge-zero v ω (false ∷ S) h = wedge-zero v (under false ω) S (λ i T p t. h i (false ∷ T) (in-under p) (ap suc t))
 
   -- the entries of a diagonal matrix, a set's rows multiplied
-  pub wedge-diagonal : (c v : ℕ → R) (ω : RowSet → R) (S : RowSet) → wedge v ω S * entryProduct K c S ≡ wedge (λ i. v i * c i) (λ T. ω T * entryProduct K c T) S
+  pub wedge-diagonal : (c v : ℕ → R) (ω : RowSet → R) (S : RowSet)
+      → wedge K v ω S * entryProduct K c S ≡ wedge K (λ i. v i * c i) (λ T. ω T * entryProduct K c T) S
   unfolding wedge entryProduct
   wedge-diagonal c v ω [] = simp ring
   wedge-diagonal c v ω (true ∷ S) =
@@ -89,7 +75,7 @@ module _ (K : CRing) where
       step a d p x y = simp ring
   wedge-diagonal c v ω (false ∷ S) = wedge-diagonal c v (under false ω) S
 
-  pub empty-diagonal : (c : ℕ → R) (S : RowSet) → empty S * entryProduct K c S ≡ empty S
+  pub empty-diagonal : (c : ℕ → R) (S : RowSet) → empty K S * entryProduct K c S ≡ empty K S
   unfolding empty entryProduct
   empty-diagonal c [] = *-one K 𝟙
   empty-diagonal c (true ∷ S) = zero-* K _

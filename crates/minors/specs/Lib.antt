@@ -1,1 +1,2 @@
 pub mod Matrix
+pub mod Determinant

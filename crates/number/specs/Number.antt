@@ -54,7 +54,7 @@ quotientBy w a b = roundBy w (a .m) (b .m) (a .x + bias - b .x)
 
 -- the arithmetic of a direction
 abbrev pub roundedBy : Direction → Arithmetic
-roundedBy w = record { Num = Number; zero = zeroNumber; one = oneNumber; add = sumBy w; mul = productBy w; div = quotientBy w }
+roundedBy w = record { Num = Number; zero = zeroNumber; one = oneNumber; add = sumBy w; mul = productBy w; div = quotientBy w; isZero = λ a. eqb (a .m) 0 }
 
 -- rounded to nearest
 abbrev pub round : ℕ → ℕ → ℕ → Number

@@ -68,7 +68,15 @@ signedQuotient a b = withSign (xor (a .negative) (b .negative)) (quotientOf (a .
 
 -- the arithmetic that lists are carried in
 abbrev pub signedArithmetic : Arithmetic
-signedArithmetic = record { Num = Signed; zero = zeroSigned; one = plain oneNumber; add = signedSum; mul = signedProduct; div = signedQuotient }
+signedArithmetic = record {
+  Num = Signed;
+  zero = zeroSigned;
+  one = plain oneNumber;
+  add = signedSum;
+  mul = signedProduct;
+  div = signedQuotient;
+  isZero = λ a. eqb (a .size .m) 0;
+}
 
 -- a size within r, and zero not negative
 pub record SignedRanged (r : ℕ) (a : Signed) : Type 0 where

@@ -8,6 +8,7 @@ use lib.ListN.{length}
 use Rattle.number.specs.declared.Number.{Number}
 use Rattle.words.specs.Word.{Factors}
 use Rattle.words.specs.Operation.{rowByRow}
+use Rattle.words.proofs.Banded.{stored-banded}
 use Rattle.table.specs.Table.{tableOf, outside}
 use Rattle.stamps.specs.Stamps.{mistimed, builtFactors, stampBound}
 use Rattle.stamps.proofs.Timed.{timed}
@@ -49,7 +50,7 @@ module _ (s : Shelf) (t : ℕ) (stamps : List ℕ) where
   build-fits : verdict ≡ Accepted → (t < 8) × Fits n (tableOf n b)
   build-fits e =
       let a = build-accepted e in
-      (a .0, fits-table n b (timed stamps (a .1) .few) (stamped stamps (a .1) .stored))
+      (a .0, fits-table n b (timed stamps (a .1) .few) (stored-banded n b (stamped stamps (a .1) .stored)))
 
   -- 14 CANNOT OCCUR
   pub build-ranged : firstOf (buildTests s t stamps ++ (when (outside (rowByRow (length stamps) (builtFactors stamps))) 14 ∷ []))

@@ -9,10 +9,11 @@ use lib.Dec.{leb}
 use lib.IntN.{pos}
 use borrow.Author.Tests.{leb-true}
 use Rattle.number.specs.declared.Number.{Number}
-use Rattle.number.specs.Number.{bias, rounded, inRange, Stored, exponentOf}
+use Rattle.number.specs.Number.{bias, rounded, inRange, exponentOf}
 use Rattle.number.proofs.Tests.{both}
 use Rattle.rowset.specs.Mask.{maskCount}
-use Rattle.words.specs.Sources.{Each}
+use Rattle.words.specs.Sources.{Walkable}
+use Rattle.words.proofs.Banded.{banded-walkable}
 use Rattle.words.specs.RowSet.{ofMask}
 use Rattle.words.specs.Word.{word}
 use Rattle.words.specs.Walk.{minor}
@@ -74,9 +75,9 @@ module _ (s : Shelf) (p I J : ℕ) where
 
   -- what the minor of a place asks
   pub minor-workable : (n i j : ℕ) (t : List Number) → n ≡ rowsAt s p → i ≡ I → j ≡ J → t ≡ tableAt s p → Good s → Source s p → Fit (rowsAt s p) I J
-      → ((1 ≤ n) × (n ≤ 8) × Each Stored n (factorsOf t)) × ((i < 2 ^ n) × (j < 2 ^ n) × (maskCount i ≡ maskCount j))
+      → ((1 ≤ n) × (n ≤ 8) × Walkable n (factorsOf t)) × ((i < 2 ^ n) × (j < 2 ^ n) × (maskCount i ≡ maskCount j))
   minor-workable n i j t e f g h good o w =
-      rw (e, f, g, h) ((o .some, good .held p (o .small) .few, good .held p (o .small) .stored), (w .rows, w .columns, w .counts))
+      rw (e, f, g, h) ((o .some, good .held p (o .small) .few, banded-walkable _ _ (good .held p (o .small) .banded)), (w .rows, w .columns, w .counts))
 
 pub in-range-small : (a : Number) → inRange a ≡ true → a .x < 2 ^ 32
 unfolding inRange

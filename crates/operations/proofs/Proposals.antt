@@ -23,6 +23,7 @@ use Rattle.operations.specs.Operations.{resulting, transposeCall}
 use Rattle.operations.specs.Reports.{operatedOutcome}
 use Rattle.operations.specs.Proposed.{turnedDown, proposal, transposeProposal, keptBy, kept, Keepable}
 use Rattle.operations.specs.Promise.{Holds, PromisedBy}
+use Rattle.words.proofs.Banded.{banded-exchanged}
 use Rattle.table.proofs.Table.{table-exchanged}
 use Rattle.places.proofs.Holding.{fits-table, rows-held, factors-held, good-put}
 use Rattle.places.proofs.Verdicts.{after-good, one-accepted}
@@ -95,7 +96,7 @@ module _ (s : Shelf) (p t : ℕ) where
     transpose-fits e =
         let a = one-accepted s p t e in
         let f = good .held p (a .0 .small) in
-        (a .1 .small, fits-table n turned (f .few) (λ i j x y. f .stored j i y x))
+        (a .1 .small, fits-table n turned (f .few) (banded-exchanged _ _ n (factorsAt s p) (f .banded)))
 
     pub transpose-done : (m : ℕ) (u v : List Number) → firstOf (oneSource s p t) ≡ Accepted → m ≡ rowsAt s p → u ≡ tableAt s p
         → v ≡ tableOf 8 (exchanged (factorsOf u))

@@ -1,21 +1,30 @@
 -- The rule's operations on places. Where the tests of the places passed, the rule can be run (`Ready`, `product-ready`, `whole-ready`, `submatrix-ready`) and
 -- demand 3 holds (`ready-demand`); what is accepted can be kept, the shelf stays good, and what was promised holds (`operation-fits`, `operation-good`,
--- `operation-met`). The result by what was found: `operation-turned`, `operation-ranged`.
+-- `operation-met`). The result by what was found: `operation-turned`, `operation-ranged`. A submatrix is singular where its rounded minor is zero
+-- (`singular-tested`), which is how its tests are worked (`chosen-tested`).
 use Prim.Native.Nat.{ℕ, _<_, _≤_}
 use native.Mathlib.Omega.{arith}
-use mathlib.Core.Path.{_≡_, refl, sym, ap, _∙_, subst}
+use mathlib.Core.Path.{_≡_, refl, sym, ap, ap₂, _∙_, subst}
 use mathlib.Core.Bool.{Bool, true, false, cond}
 use mathlib.Core.List.{List}
+use lib.Dec.{eqb}
 use lib.ListN.{length}
+use borrow.Author.Tests.{eqb-false}
 use Rattle.number.specs.declared.Number.{Number}
-use Rattle.number.specs.Number.{rounded, Stored}
+use Rattle.number.specs.Number.{zeroNumber, rounded, value, Ranged, reach, inRange}
 use Rattle.number.proofs.Reach.{in-range-stored}
-use Rattle.words.specs.Operation.{Way, Operation, steps, size, bound, rowByRow, result}
-use Rattle.words.specs.Sources.{Each}
+use Rattle.words.specs.RowSet.{In, RowSet, count, among, rows, ofMask}
+use Rattle.words.specs.Word.{Factors, word}
+use Rattle.words.specs.Walk.{minor}
+use Rattle.words.specs.Operation.{Way, Step, joinedWord, Operation, joined, steps, size, bound, rowByRow, result, eachSteps}
+use Rattle.words.specs.Sources.{Each, Banded, BandedNumbers}
+use Rattle.words.proofs.RowSets.{length-rows}
+use Rattle.words.proofs.Chosen.{among-whole}
 use Rattle.rowset.proofs.Masks.{ofMask-length}
 use Rattle.rowset.proofs.Counts.{mask-count, count-to, countTo-le}
-use Rattle.factors.specs.Demand.{Proper, Demand}
-use Rattle.factors.proofs.Demanded.{demand}
+use Rattle.fraction.specs.Fraction.{Fraction}
+use Rattle.factors.specs.Demand.{Proper, AboveZero, determinantOf, Regular, exactly, Demand}
+use Rattle.factors.proofs.Demanded.{joined-regular, proper-value, asked-zeros, demand}
 use Rattle.table.specs.Table.{tableOf, outside}
 use Rattle.rule.specs.declared.Refactored.{Refactored}
 use Rattle.places.specs.declared.Shelf.{Shelf}
@@ -28,79 +37,126 @@ use Rattle.places.specs.Tests.{unfit, oneSource, twoSources}
 use Rattle.table.proofs.Ranges.{rows-ranged, outside-table}
 use Rattle.places.proofs.Holding.{fits-table}
 use Rattle.verdict.proofs.Verdicts.{first-last, first-passed, when-passed}
-use Rattle.places.proofs.Verdicts.{Fit, one-accepted, two-accepted, sets-accepted}
+use Rattle.places.proofs.Verdicts.{Source, Fit, one-accepted, two-accepted, sets-accepted}
 use Rattle.operations.specs.declared.Proposed.{Proposed}
 use Rattle.operations.specs.declared.Operated.{Operated}
 use Rattle.operations.specs.declared.Bounded.the-variants as answer
-use Rattle.operations.specs.Operations.{factorTest, operationVerdict, operationCall, productAt, takenAt, submatrixAt, submatrixTests}
+use Rattle.operations.specs.Operations.{factorTest, operationVerdict, operationCall, productAt, takenAt, submatrixAt, minorAt}
+use Rattle.operations.specs.Operations.{singular, chosenTests, submatrixTests}
 use Rattle.operations.specs.Reports.{operatedOutcome}
 use Rattle.operations.specs.Proposed.{turnedDown, proposal, proposed, kept, rangedOf, Keepable}
 use Rattle.operations.specs.Promise.{Met, Promised}
 use Rattle.operations.proofs.Proposals.{result-answered, result-good, result-held, result-done}
 
--- sources of n rows that hold stored factors, sets that fit, and a place of the shelf
+-- sources of n rows that hold accepted factors, sets that fit, a matrix that is not singular, and a place of the shelf
 pub record Ready (t n : ℕ) (o : Operation Number) : Type 0 where
   pub small : t < 8
   pub some : 1 ≤ n
   pub few : n ≤ 8
   pub six : length (steps o) ≤ 6
-  pub proper : Proper Stored n o
+  pub proper : Proper (BandedNumbers n) n o
+  pub regular : Regular n (exactly o)
   pub fits : size n o ≤ 8
 
 pub ready-demand : {t n : ℕ} {o : Operation Number} → Ready t n o → Demand n o
-ready-demand {t} {n} {o} w = demand n o (w .some) (w .few) (w .six) (w .proper)
+ready-demand {t} {n} {o} w = demand n o (w .some) (w .few) (w .six) (w .proper) (w .regular)
 
 -- WHAT THE RULE'S CODE HANDS BACK for an operation
 abbrev pub resultOf : ℕ → Operation Number → Refactored
 resultOf n o = record { factors = tableOf (size n o) (result rounded n o); rows = size n o; bound = bound n o }
+
+-- what is not judged to be zero is above it
+above-zero : (x : Fraction) → eqb (x .top) 0 ≡ false → AboveZero x
+above-zero x e = let f : x .top ≡ 0 → ⊥ = eqb-false (x .top) 0 e in omega arith
+
+-- a word joined is not singular, so only a submatrix is tested for it
+whole : (n : ℕ) (L : List (Step Number)) → Proper (BandedNumbers n) n (joined L) → Regular n (exactly (joined L))
+whole n L h = joined-regular n (eachSteps value L) (proper-value n (joined L) h)
 
 -- READY: each operation on the places that its tests accepted
 module _ (s : Shelf) (good : Good s) where
   pub product-ready : (l r t : ℕ) → firstOf (twoSources s l r t) ≡ Accepted → Ready t (rowsAt s l) (productAt s l r)
   product-ready l r t e =
       let a = two-accepted s l r t e in
-      let few = good .held l (a .0 .small) .few in
+      let left = good .held l (a .0 .small) in
+      let right = subst (λ (n : ℕ). BandedNumbers n (factorsAt s r)) (sym (a .3)) (good .held r (a .1 .small) .banded) in
+      let h : Proper (BandedNumbers (rowsAt s l)) (rowsAt s l) (productAt s l r) = record { sources = (left .banded, (right, tt)); fit = omega arith } in
       record {
         small = a .2 .small;
         some = a .0 .some;
-        few = few;
+        few = left .few;
         six = omega arith;
-        proper = record {
-          sources =
-              (good .held l (a .0 .small) .stored, (subst (λ (n : ℕ). Each Stored n (factorsAt s r)) (sym (a .3)) (good .held r (a .1 .small) .stored), tt));
-          fit = omega arith;
-        };
-        fits = few;
+        proper = h;
+        regular = whole _ _ h;
+        fits = left .few;
       }
 
   module _ (p t : ℕ) (e : firstOf (oneSource s p t) ≡ Accepted) where
-    source : (o : Operation Number) → length (steps o) ≤ 6 → Proper Stored (rowsAt s p) o → size (rowsAt s p) o ≤ rowsAt s p → Ready t (rowsAt s p) o
-    source o six h l =
+    source : (o : Operation Number) → length (steps o) ≤ 6 → Proper (BandedNumbers (rowsAt s p)) (rowsAt s p) o → Regular (rowsAt s p) (exactly o)
+        → size (rowsAt s p) o ≤ rowsAt s p → Ready t (rowsAt s p) o
+    source o six h g l =
         let a = one-accepted s p t e in
         let few = good .held p (a .0 .small) .few in
-        record { small = a .1 .small; some = a .0 .some; few = few; six = six; proper = h; fits = omega arith }
+        record { small = a .1 .small; some = a .0 .some; few = few; six = six; proper = h; regular = g; fits = omega arith }
 
-    stored : Each Stored (rowsAt s p) (factorsAt s p)
-    stored = good .held p (one-accepted s p t e .0 .small) .stored
+    pub source-banded : BandedNumbers (rowsAt s p) (factorsAt s p)
+    source-banded = good .held p (one-accepted s p t e .0 .small) .banded
 
-    fit-ready : (I J : ℕ) → Fit (rowsAt s p) I J → Ready t (rowsAt s p) (submatrixAt s p I J)
-    fit-ready I J f =
+    source-few : rowsAt s p ≤ 8
+    source-few = good .held p (one-accepted s p t e .0 .small) .few
+
+    fit-proper : (I J : ℕ) → Fit (rowsAt s p) I J → Proper (BandedNumbers (rowsAt s p)) (rowsAt s p) (submatrixAt s p I J)
+    fit-proper I J f =
         let n = rowsAt s p in
-        let few : n ≤ 8 = good .held p (one-accepted s p t e .0 .small) .few in
-        source (submatrixAt s p I J) (omega arith)
-        (record {
-          sources = (stored, tt);
-          fit = (ofMask-length n I, ofMask-length n J, mask-count n J few (f .columns) ∙ sym (f .counts) ∙ sym (mask-count n I few (f .rows)));
-        })
-        (omega (arith, count-to n I, countTo-le n I))
+        record {
+          sources = (source-banded, tt);
+          fit = (
+            ofMask-length n I,
+            ofMask-length n J,
+            mask-count n J source-few (f .columns) ∙ sym (f .counts) ∙ sym (mask-count n I source-few (f .rows)),
+          );
+        }
+
+    -- SINGULAR as the code tests it, by the rounded minor: it is zero where the exact determinant is
+    pub singular-tested : (I J : ℕ) → Fit (rowsAt s p) I J → eqb (minorAt s p I J .m) 0 ≡ singular (rowsAt s p) (submatrixAt s p I J)
+    unfolding minorAt joinedWord
+    singular-tested I J f =
+        let n = rowsAt s p in
+        let P : RowSet = ofMask n I in
+        let Q : RowSet = ofMask n J in
+        let o = submatrixAt s p I J in
+        let h = fit-proper I J f in
+        let k : count Q ≡ count P = h .fit .2 in
+        ap₂ (λ (X Y : RowSet). eqb (minor rounded (word n (factorsAt s p)) X Y .m) 0) (sym (among-whole P))
+        (sym (ap (λ (m : ℕ). among Q (rows m 1 m)) (sym k) ∙ among-whole Q))
+        ∙ asked-zeros n o (one-accepted s p t e .0 .some) source-few (omega arith) h (rows (count P) 1 (count P)) (rows (count P) 1 (count P))
+        (length-rows (count P) 1 (count P))
+
+    fit-ready : (I J : ℕ) → Fit (rowsAt s p) I J → singular (rowsAt s p) (submatrixAt s p I J) ≡ false → Ready t (rowsAt s p) (submatrixAt s p I J)
+    fit-ready I J f g =
+        source (submatrixAt s p I J) (omega arith) (fit-proper I J f) (above-zero (determinantOf (rowsAt s p) (exactly (submatrixAt s p I J))) g)
+        (omega (arith, count-to (rowsAt s p) I, countTo-le (rowsAt s p) I))
 
   pub whole-ready : (w : Way) (p t : ℕ) → firstOf (oneSource s p t) ≡ Accepted → Ready t (rowsAt s p) (takenAt w s p)
-  whole-ready w p t e = source p t e (takenAt w s p) (omega arith) (record { sources = (stored p t e, tt); fit = omega arith }) (omega arith)
+  whole-ready w p t e =
+      let h : Proper (BandedNumbers (rowsAt s p)) (rowsAt s p) (takenAt w s p) = record { sources = (source-banded p t e, tt); fit = omega arith } in
+      source p t e (takenAt w s p) (omega arith) h (whole _ _ h) (omega arith)
 
   pub submatrix-ready : (p I J t : ℕ) → firstOf (submatrixTests s p I J t) ≡ Accepted → Ready t (rowsAt s p) (submatrixAt s p I J)
   submatrix-ready p I J t e =
-      let a = first-passed (oneSource s p t) (when (unfit (rowsAt s p) I J) 8) e in
-      fit-ready p t (a .0) I J (sets-accepted (rowsAt s p) I J (a .1))
+      let b = first-passed (chosenTests s p I J t) (when (singular (rowsAt s p) (submatrixAt s p I J)) 17) e in
+      let a = first-passed (oneSource s p t) (when (unfit (rowsAt s p) I J) 8) (b .0) in
+      fit-ready p t (a .0) I J (sets-accepted (rowsAt s p) I J (a .1)) (when-passed _ 17 (b .1))
+
+-- a result in range can be stored
+run-stored : (k : ℕ) (b : Factors Number) → Banded (λ a. 0 < a .m) (λ a. a ≡ zeroNumber) k b → Each (Ranged reach) k b
+    → ((i j : ℕ) → In k i → In k j → inRange (b i j) ≡ true) → BandedNumbers k b
+run-stored k b h g r = record {
+  diagonal = λ i x. in-range-stored (g i i x x) (h .diagonal i x) (r i i x x);
+  others = λ i j x y f. in-range-stored (g i j x y) (h .others i j x y f) (r i j x y);
+  down = h .down;
+  right = h .right;
+}
 
 -- WHAT WAS ACCEPTED can be kept, and meets demand 3
 module _ (L : List Verdict) (t n : ℕ) (o : Operation Number) (ready : firstOf L ≡ Accepted → Ready t n o) where
@@ -119,7 +175,7 @@ module _ (L : List Verdict) (t n : ℕ) (o : Operation Number) (ready : firstOf 
       let d = operation-demand (v .0) in (
         w .small,
         fits-table (size n o) (result rounded n o) (w .fits)
-            (λ i j x y. in-range-stored (d .ranged i j x y) (d .positive i j x y) (rows-ranged (size n o) (result rounded n o) (w .fits) (v .1) i j x y)),
+            (run-stored (size n o) (result rounded n o) (d .banded) (d .ranged) (rows-ranged (size n o) (result rounded n o) (w .fits) (v .1))),
       )
 
   pub operation-turned : (w : Refusal) → firstOf L ≡ Refused w → turnedDown w ≡ proposed L n o
@@ -174,9 +230,35 @@ module _ (L : List Verdict) (t n : ℕ) (o : Operation Number) (ready : firstOf 
     operation-done =
         result-done (λ s k. Met s t n o k) s t (size n o) (bound n o) (result rounded n o) (operationVerdict L n o) operation-met
 
--- A SUBMATRIX that was accepted: its place, and sets that fit
+-- THE TESTS OF A SUBMATRIX: those of its places and sets (`chosen-verdict`, `chosen-fit`), and then that it is not singular (`chosen-turned`, `chosen-tested`)
 module _ (s : Shelf) (p I J t : ℕ) where
-  pub submatrix-fit : firstOf (submatrixTests s p I J t) ≡ Accepted → (p < 8) × Fit (rowsAt s p) I J
-  submatrix-fit e =
-      let a = first-passed (oneSource s p t) (when (unfit (rowsAt s p) I J) 8) e in
-      (one-accepted s p t (a .0) .0 .small, sets-accepted (rowsAt s p) I J (a .1))
+  abbrev fit : Verdict
+  fit = when (unfit (rowsAt s p) I J) 8
+
+  pub chosen-verdict : (n : ℕ) (u v : Verdict) → n ≡ rowsAt s p → u ≡ firstOf (oneSource s p t) → v ≡ orElse u (when (unfit n I J) 8)
+      → v ≡ firstOf (chosenTests s p I J t)
+  chosen-verdict n u v e f g =
+      g ∙ ap₂ (λ (w : Verdict) (m : ℕ). orElse w (when (unfit m I J) 8)) f e ∙ sym (first-last (oneSource s p t) fit)
+
+  pub chosen-fit : firstOf (chosenTests s p I J t) ≡ Accepted → Source s p × Fit (rowsAt s p) I J
+  chosen-fit e =
+      let a = first-passed (oneSource s p t) fit e in
+      (one-accepted s p t (a .0) .0, sets-accepted (rowsAt s p) I J (a .1))
+
+  pub submatrix-fit : firstOf (submatrixTests s p I J t) ≡ Accepted → Source s p × Fit (rowsAt s p) I J
+  submatrix-fit e = chosen-fit (first-passed (chosenTests s p I J t) _ e .0)
+
+  by-chosen : (v : Verdict) → firstOf (chosenTests s p I J t) ≡ v
+      → orElse v (when (singular (rowsAt s p) (submatrixAt s p I J)) 17) ≡ firstOf (submatrixTests s p I J t)
+  by-chosen v e =
+      let z = when (singular (rowsAt s p) (submatrixAt s p I J)) 17 in
+      sym (first-last (chosenTests s p I J t) z ∙ ap (λ (w : Verdict). orElse w z) e)
+
+  pub chosen-turned : (w : Refusal) → firstOf (chosenTests s p I J t) ≡ Refused w → Refused w ≡ firstOf (submatrixTests s p I J t)
+  chosen-turned w e = by-chosen (Refused w) e
+
+  pub chosen-tested : Good s → firstOf (chosenTests s p I J t) ≡ Accepted → (z : Bool) → z ≡ eqb (minorAt s p I J .m) 0
+      → when z 17 ≡ firstOf (submatrixTests s p I J t)
+  chosen-tested good e z f =
+      let a = first-passed (oneSource s p t) fit e in
+      ap (λ (x : Bool). when x 17) (f ∙ singular-tested s good p t (a .0) I J (chosen-fit e .1)) ∙ by-chosen Accepted e

@@ -1,6 +1,7 @@
 -- THE RULE RUN FOR AN OPERATION. A joined word has the operation's steps, and two masks its rows and columns (`Sets`: all of them, `all-sets`, or the chosen
 -- ones of a submatrix, `chosen-sets`). Then the rule can be run (`run-proper`), and what it hands back is the operation's result (`run-result`).
 use mathlib.Core.Path.{_≡_, refl, sym, ap, ap₂, _∙_, subst}
+use mathlib.Core.Bool.{Bool, true, false}
 use mathlib.Core.List.{List}
 use Prim.Native.Nat.{ℕ, _^_, _≤_, _<_}
 use native.Mathlib.Omega.{arith}
@@ -12,17 +13,19 @@ use Rattle.rowset.proofs.Counts.{mask-count, mask-run, run-below}
 use Rattle.words.specs.RowSet.{RowSet, rows, count, among, ofMask}
 use Rattle.words.specs.Word.{Factors}
 use Rattle.words.specs.Walk.{minor}
-use Rattle.words.specs.Formula.{justBefore, newFactor}
+use Rattle.words.specs.Formula.{newFactor, Divisible}
 use Rattle.words.specs.Operation.{Step, joinedWord, Operation, joined, submatrix, steps, rowsOf, columnsOf, size, boundOf, askedMinor, result}
-use Rattle.words.specs.Sources.{StoredSteps}
+use Rattle.words.specs.Sources.{BandedNumbers, Walkable, Sources}
+use Rattle.words.proofs.Steps.{sources-weaken}
+use Rattle.words.proofs.Banded.{banded-walkable}
 use Rattle.words.proofs.Chosen.{count-all, among-all}
-use Rattle.words.proofs.Formulas.{newFactor-equal}
+use Rattle.words.proofs.Formulas.{divisible-equal, newFactor-equal}
 use Rattle.walk.specs.declared.Joined.{Joined}
 use Rattle.walk.specs.Lent.{stepsOf, stepAt, numbered, AllSpelled}
 use Rattle.table.specs.Table.{tableOf}
 use Rattle.walk.proofs.Minors.{steps-length}
 use Rattle.rule.specs.declared.Refactored.{Refactored}
-use Rattle.rule.specs.Chosen.{chosenOf, chosenMinor, chosenFactors, Workable}
+use Rattle.rule.specs.Chosen.{chosenOf, chosenMinor, chosenFactors, turnedBy, Workable}
 use Rattle.rule.specs.Result.{workOf}
 use Rattle.table.proofs.Table.{table-same}
 use Rattle.operations.proofs.Made.{Made}
@@ -92,20 +95,24 @@ module _ (t : ℕ) (o : Operation Number) (w : Joined) (s : List ℕ) (p q : ℕ
     rows = sets .rows-below;
     columns = sets .columns-below;
     equal = sets .rows-many ∙ sym (sets .columns-many);
-    stored = subst (StoredSteps n) (sym same) (ready .proper .sources);
-    regular = record {
-      nonzero = λ I J i j e.
-          let x = i ∙ sets .rows-many in
-          let y = j ∙ sets .rows-many in
-          subst (λ (a : Number). 0 < a .m) (sym (asked I J x y)) (ready-demand ready .divisors I J (record { rows = x; columns = y; counts = e }));
-    };
+    walkable = subst (Sources (Walkable n)) (sym same)
+        (sources-weaken (BandedNumbers n) (Walkable n) (banded-walkable n) (steps o) (ready .proper .sources));
+    divisible = λ turned. subst (λ (k : ℕ). Divisible rounded k (turnedBy turned (chosenMinor (chosenOf w p q) s))) (sym (sets .rows-many)) (by turned);
   }
+    where
+      by : (turned : Bool) → Divisible rounded (size n o) (turnedBy turned (chosenMinor (chosenOf w p q) s))
+      by true =
+          divisible-equal rounded (size n o) (λ I J. chosenMinor (chosenOf w p q) s J I) (λ I J. askedMinor rounded n o J I) (λ I J i j. asked J I j i)
+          (ready-demand ready .divisors-above)
+      by false =
+          divisible-equal rounded (size n o) (chosenMinor (chosenOf w p q) s) (askedMinor rounded n o) asked (ready-demand ready .divisors-below)
 
   own-factors : tableOf (maskCount p) (chosenFactors (chosenOf w p q) s) ≡ tableOf (size n o) (result rounded n o)
   unfolding result
   own-factors =
-      ap (λ (k : ℕ). tableOf k (newFactor rounded k (justBefore k) (chosenMinor (chosenOf w p q) s))) (sets .rows-many)
-      ∙ table-same (size n o) _ _ (newFactor-equal rounded (size n o) (chosenMinor (chosenOf w p q) s) (askedMinor rounded n o) (λ I J i j e. asked I J i j))
+      ap (λ (k : ℕ). tableOf k (newFactor rounded k (chosenMinor (chosenOf w p q) s))) (sets .rows-many)
+      ∙ table-same (size n o) _ _ (newFactor-equal rounded (size n o) (chosenMinor (chosenOf w p q) s) (askedMinor rounded n o) asked
+      (ready-demand ready .divisors-below) (ready-demand ready .divisors-above))
 
   own-count : w .count ≡ length (steps o)
   own-count = sym (steps-length (stepAt w s) numbered (w .count) six) ∙ ap length same

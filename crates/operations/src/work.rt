@@ -10,6 +10,7 @@ ghost use Rattle.operations.specs.Proposed.{turnedDown, transposeProposa
 use crate::Bounded;
 use crate::Operated;
 use crate::Proposed;
+use crate::value;
 use places::Shelf;
 use places::judge;
 use rule::Refactored;
@@ -151,7 +152,7 @@ pub fn of_whole(shelf: Shelf, way: Way, source: usize, target: usize) -> Propose
     ranged(rule::work(word, &letters, &sources, b, all, all))
 }
 
-// The tests of a submatrix before its factors are worked.
+// The tests of a submatrix before its factors are worked. Whether it is singular is asked of sets that fit.
 fn submatrix_tests(
     shelf: Shelf,
     source: usize,
@@ -162,13 +163,14 @@ fn submatrix_tests(
     requires { ⌜ Good shelf × (rows < 256) × (columns < 256) ⌝ }
     ensures { λ r. ⌜ r ≡ firstOf (submatrixTests shelf source rows columns target) ⌝ }
 {
+    let n = places::rows_at(shelf, source);
     let mut v = judge::one_source(shelf, source, target);
-    v = test(
-        v,
-        judge::unfit(places::rows_at(shelf, source), rows, columns),
-        8,
-    );
-    v
+    v = test(v, judge::unfit(n, rows, columns), 8);
+    if let Verdict::Refused(why) = v {
+        return Verdict::Refused(why);
+    }
+    let b = places::table_at(shelf, source);
+    test(Verdict::Accepted, value::is_zero(b, n, rows, columns), 17)
 }
 
 // The row and column sets are masks.

@@ -1,155 +1,173 @@
--- The test of a shelf holds of no shelf but good ones (`tested-good`), and of every good one (`good-tested`). Its loops are tests of all numbers below one
--- (`all-fails`, `Seen`).
-use Prim.Native.Nat.{ℕ, suc, _+_, _-_, _*_, _/_, _%_, _^_, _<_, _≤_}
+-- THE TEST OF A SHELF holds of no shelf but good ones (`tested-good`), and of every good one (`good-tested`): at each place it asks of the number in row i and
+-- column j what the factor of row i and column j is to be (`asked-of`), where the pattern is kept from each factor of a line to the next.
+use Prim.Native.Nat.{ℕ, suc, _+_, _-_, _*_, _/_, _%_, _<_, _≤_}
 use native.Mathlib.Nat.{div-add-mod', div-lt-iff-lt-mul, mod-lt}
-use native.Mathlib.Decide.{ℕ-discrete}
+use native.Mathlib.Decide.{ℕ-discrete, decLt}
 use native.Mathlib.Omega.{arith}
-use mathlib.Core.Path.{_≡_, refl, sym, ap, ap₂, subst, _∙_}
-use mathlib.Core.Bool.{Bool, true, false, cond, _&&_, and-eq-true-iff, true≢false}
+use mathlib.Core.Path.{_≡_, refl, sym, ap, subst, _∙_}
+use mathlib.Core.Bool.{true, cond, _&&_, and-eq-true-iff}
 use mathlib.Core.List.{List}
-use lib.Dec.{leb, ltb, eqb}
+use lib.Dec.{leb, eqb}
 use lib.ListN.{length, getD, drop, length-drop}
 use lib.Seq.{length-take-le}
-use borrow.Author.Tests.{leb-true, le-leb, ltb-true, lt-ltb, eqb-true}
-use Rattle.number.specs.declared.Number.{Number}
-use Rattle.number.specs.Number.{bias, zeroNumber, inRange, Stored}
-use Rattle.number.proofs.Tests.{unless, quotient-of, remainder-of}
-use Rattle.words.specs.Word.{Factors}
-use Rattle.words.specs.Sources.{Each}
-use Rattle.table.specs.Table.{absent, factorsOf, padded, tableOf}
-use Rattle.places.specs.declared.Shelf.{Shelf}
-use Rattle.places.specs.Shelf.{rowsAt, tableAt, factorsAt, Good}
-use Rattle.places.specs.Check.{isStored, isZero, sound, fewRows, soundAt, soundNumbers, isGood}
-use Rattle.arrays.specs.Below.{allBelow}
+use borrow.Author.Tests.{leb-true, le-leb, eq-eqb, ne-eqb}
 use Rattle.arrays.proofs.Below.{all-below, all-each}
 use Rattle.arrays.proofs.Filled.{read-any}
-use Rattle.places.proofs.Holding.{number-at}
+use Rattle.number.specs.declared.Number.{Number}
+use Rattle.number.specs.Number.{zeroNumber, Stored}
+use Rattle.number.proofs.Tests.{quotient-of, remainder-of}
+use Rattle.words.specs.Word.{Factors}
+use Rattle.words.specs.RowSet.{In}
+use Rattle.words.specs.Sources.{BandedNumbers}
+use Rattle.words.proofs.Banded.{banded-next, banded-decided, below-zero, above-zero}
+use Rattle.table.specs.Table.{absent, cellOf, factorsOf, padded, tableOf}
 use Rattle.table.proofs.RowByRow.{row-below}
-use Rattle.table.proofs.Table.{within-cases, table-at, table-list}
+use Rattle.table.proofs.Table.{within-cases, table-list, factors-within}
+use Rattle.places.specs.declared.Shelf.{Shelf}
+use Rattle.places.specs.Shelf.{rowsAt, tableAt, factorsAt, Fits, Good}
+use Rattle.places.specs.Check.{isStored, isZero, back, continues, sound, fewRows, soundAt, soundNumbers, isGood}
+use Rattle.places.proofs.Asked.{zero-tested, stored-is, stored-tested, continued-zero, continued-stored, continued-tested, asked, asked-within}
+use Rattle.places.proofs.Asked.{asked-off, sound-asked, back-below, back-above}
+use Rattle.places.proofs.Holding.{number-at}
 
--- A TEST OF ALL NUMBERS BELOW n
-module _ (f : ℕ → Bool) where
-  pub all-fails : (n i : ℕ) → i < n → f i ≡ false → allBelow n f ≡ false
-  all-fails n i h e = unless (allBelow n f) (λ g. true≢false (sym (all-each f n g i h) ∙ e))
+-- THE NUMBERS OF A PLACE
+pub sound-there : (s : Shelf) (p k : ℕ) → k < 64
+    → soundAt s (p * 64 + k) ≡ sound (rowsAt s p) k (getD (s .numbers) (p * 64 + k - back k) absent) (getD (s .numbers) (p * 64 + k) absent)
+sound-there s p k h = rw (quotient-of 64 p k h, remainder-of 64 p k h)
 
-  -- what a loop has seen so far
-  pub record Seen (n k : ℕ) : Type 0 where
-    pub few : k ≤ n
-    pub each : (i : ℕ) → i < k → f i ≡ true
+module _ (s : Shelf) (all : length (s .numbers) ≡ 512) (p : ℕ) (place : p < 8) where
+  abbrev n : ℕ
+  n = rowsAt s p
 
-  pub seen-none : (n : ℕ) → Seen n 0
-  seen-none n = record { few = omega arith; each = λ i h. absurd (omega arith) }
+  abbrev b : Factors Number
+  b = factorsAt s p
 
-  pub seen-more : {n k : ℕ} → Seen n k → k < n → f k ≡ true → Seen n (k + 1)
-  seen-more {n} {k} w h e =
-      record {
-        few = omega arith;
-        each = λ i g.
-            elim (ℕ-discrete i k) [
-              | yes q ↦ rw q e
-              | no q ↦ w .each i (omega arith)
-            ];
-      }
+  -- the number before that of row i and column j in its line
+  abbrev before : ℕ → ℕ → Number
+  before i j = getD (s .numbers) (p * 64 + cellOf i j - back (cellOf i j)) absent
 
-  pub seen-all : {n k : ℕ} → Seen n k → n ≤ k → allBelow n f ≡ true
-  seen-all {n} {k} w h = all-below f n (λ i g. w .each i (omega arith))
-
--- NUMBERS
-zero-is : (a : Number) → isZero a ≡ true → a ≡ zeroNumber
-unfolding isZero
-zero-is a e =
-    let p = and-eq-true-iff (eqb (a .m) 0) (eqb (a .x) bias) .0 e in
-    ap₂ (λ (m x : ℕ). let r : Number = record { m = m; x = x } in r) (eqb-true (a .m) 0 (p .0)) (eqb-true (a .x) bias (p .1))
-
-zero-tested : isZero zeroNumber ≡ true
-unfolding isZero
-zero-tested = refl
-
-stored-is : (a : Number) → isStored a ≡ true → Stored a
-unfolding isStored inRange
-stored-is a e =
-    let p = and-eq-true-iff (leb (2 ^ 31) (a .m)) _ .0 e in
-    let q = and-eq-true-iff (ltb (a .m) (2 ^ 32)) _ .0 (p .1) in
-    let r = and-eq-true-iff (leb bias (a .x + 1000)) _ .0 (q .1) in
-    record {
-      low = leb-true (2 ^ 31) (a .m) (p .0);
-      high = ltb-true (a .m) (2 ^ 32) (q .0);
-      start = leb-true bias (a .x + 1000) (r .0);
-      stop = leb-true (a .x) (bias + 1000) (r .1);
-    }
-
-stored-tested : (a : Number) → Stored a → isStored a ≡ true
-unfolding isStored inRange
-stored-tested a h =
-    rw (le-leb (2 ^ 31) (a .m) (h .low), lt-ltb (a .m) (2 ^ 32) (h .high), le-leb bias (a .x + 1000) (h .start), le-leb (a .x) (bias + 1000) (h .stop))
-
--- what a tested number is: where a factor stands (t), or past the rows
-tested-within : (t : Bool) (a : Number) → cond t (isStored a) (isZero a) ≡ true → a ≡ cond t a zeroNumber
-tested-within true a e = refl
-tested-within false a e = zero-is a e
-
--- the number of row i and column j passes
-within-tested : (n : ℕ) (b : Factors Number) → Each Stored n b → (i j : ℕ) → 1 ≤ i → 1 ≤ j
-    → cond (leb i n && leb j n) (isStored (padded n b i j)) (isZero (padded n b i j)) ≡ true
-within-tested n b s i j h g =
-    within-cases n (λ t. cond t (isStored (cond t (b i j) zeroNumber)) (isZero (cond t (b i j) zeroNumber)) ≡ true) i j h g
-    (λ x y. stored-tested (b i j) (s i j x y)) zero-tested
-
-module _ (s : Shelf) (eight : length (s .sizes) ≡ 8) (all : length (s .numbers) ≡ 512) where
-  table-long : (p : ℕ) → p < 8 → length (tableAt s p) ≡ 64
+  table-long : length (tableAt s p) ≡ 64
   unfolding tableAt
-  table-long p h = length-take-le 64 (drop (p * 64) (s .numbers)) (omega (arith, length-drop (p * 64) (s .numbers)))
+  table-long = length-take-le 64 (drop (p * 64) (s .numbers)) (omega (arith, length-drop (p * 64) (s .numbers)))
 
-  number-of : (p k : ℕ) → p < 8 → k < 64 → getD (s .numbers) (p * 64 + k) absent ≡ getD (tableAt s p) k zeroNumber
-  number-of p k h g = read-any (s .numbers) (p * 64 + k) absent zeroNumber (omega arith) ∙ sym (number-at s p k g)
+  number-of : (i j : ℕ) → In 8 i → In 8 j → getD (s .numbers) (p * 64 + cellOf i j) absent ≡ b i j
+  unfolding factorsOf
+  number-of i j row column =
+      read-any (s .numbers) (p * 64 + cellOf i j) absent zeroNumber (omega arith) ∙ sym (number-at s p (cellOf i j) (omega arith))
 
+  before-below : (i j : ℕ) → In 8 i → In 8 j → j < i → before i j ≡ b (i - 1) j
+  before-below i j row column h =
+      let e : p * 64 + cellOf i j - back (cellOf i j) ≡ p * 64 + cellOf (i - 1) j = omega (arith, back-below i j row column h) in
+      ap (λ (k : ℕ). getD (s .numbers) k absent) e ∙ number-of (i - 1) j (omega arith, omega arith) column
+
+  before-above : (i j : ℕ) → In 8 i → In 8 j → i < j → before i j ≡ b i (j - 1)
+  before-above i j row column h =
+      let e : p * 64 + cellOf i j - back (cellOf i j) ≡ p * 64 + cellOf i (j - 1) = omega (arith, back-above i j row column h) in
+      ap (λ (k : ℕ). getD (s .numbers) k absent) e ∙ number-of i (j - 1) row (omega arith, omega arith)
+
+  asked-of : (i j : ℕ) → In 8 i → In 8 j → soundAt s (p * 64 + cellOf i j) ≡ asked n i j (before i j) (b i j)
+  asked-of i j row column =
+      sound-there s p (cellOf i j) (omega arith)
+      ∙ sound-asked i j row column n (before i j) _
+      ∙ ap (asked n i j (before i j)) (number-of i j row column)
+
+  -- a place of a shelf that passes holds what fits
   module _ (tested : isGood s ≡ true) where
     parts : (fewRows s ≡ true) × (soundNumbers s ≡ true)
     unfolding isGood
     parts = and-eq-true-iff (fewRows s) (soundNumbers s) .0 tested
 
-    sound-of : (p k : ℕ) → p < 8 → k < 64 → sound (rowsAt s p) k (getD (tableAt s p) k zeroNumber) ≡ true
-    unfolding soundNumbers
-    sound-of p k h g =
-        let e : soundAt s (p * 64 + k) ≡ true = all-each (soundAt s) 512 (parts .1) (p * 64 + k) (omega arith) in
-        rw (quotient-of 64 p k g, remainder-of 64 p k g, number-of p k h g) at e
-
-    cell-of : (p i j : ℕ) → p < 8 → i < 8 → j < 8 → (a : Number) → a ≡ getD (tableAt s p) (i * 8 + j) zeroNumber
-        → cond (leb (suc i) (rowsAt s p) && leb (suc j) (rowsAt s p)) (isStored a) (isZero a) ≡ true
-    unfolding sound
-    cell-of p i j h k l a e =
-        let f : sound (rowsAt s p) (i * 8 + j) a ≡ true = rw e (sound-of p (i * 8 + j) h (omega arith)) in
-        rw (quotient-of 8 i j l, remainder-of 8 i j l) at f
-
-    few-of : (p : ℕ) → p < 8 → rowsAt s p ≤ 8
+    few-of : n ≤ 8
     unfolding fewRows
-    few-of p h = leb-true (rowsAt s p) 8 (all-each (λ p. leb (rowsAt s p) 8) 8 (parts .0) p h)
+    few-of = leb-true n 8 (all-each (λ p. leb (rowsAt s p) 8) 8 (parts .0) p place)
 
-    stored-of : (p : ℕ) → p < 8 → Each Stored (rowsAt s p) (factorsAt s p)
-    unfolding factorsOf
-    stored-of p h i j x y =
-        let n = few-of p h in
-        let e : suc (i - 1) ≡ i = omega arith in
-        let f : suc (j - 1) ≡ j = omega arith in
-        let c = cell-of p (i - 1) (j - 1) h (omega arith) (omega arith) (factorsAt s p i j) refl in
-        stored-is (factorsAt s p i j) (rw (e, f, le-leb i (rowsAt s p) (x .1), le-leb j (rowsAt s p) (y .1)) at c)
+    passed : (i j : ℕ) → In 8 i → In 8 j → asked n i j (before i j) (b i j) ≡ true
+    unfolding soundNumbers
+    passed i j row column =
+        sym (asked-of i j row column) ∙ all-each (soundAt s) 512 (parts .1) (p * 64 + cellOf i j) (omega arith)
 
-    rest-is : (p : ℕ) → p < 8 → tableAt s p ≡ tableOf (rowsAt s p) (factorsAt s p)
+    module _ (i j : ℕ) (row : In n i) (column : In n j) where
+      passed-off : (i ≡ j → ⊥) → continues (before i j) (b i j) ≡ true
+      passed-off e =
+          sym (asked-off n i j (before i j) (b i j) (row .1) (column .1) e)
+          ∙ passed i j (row .0, omega (arith, few-of)) (column .0, omega (arith, few-of))
+
+      passed-on : i ≡ j → Stored (b i j)
+      passed-on e =
+          let c = passed i j (row .0, omega (arith, few-of)) (column .0, omega (arith, few-of)) in
+          stored-is (b i j) (rw (le-leb i n (row .1), le-leb j n (column .1), eq-eqb i j e) at c)
+
+      others-of : (b i j ≡ zeroNumber → ⊥) → Stored (b i j)
+      others-of h =
+          elim (ℕ-discrete i j) [
+            | yes e ↦ passed-on e
+            | no e ↦ continued-stored (before i j) (b i j) (passed-off e) h
+          ]
+
+    banded-of : BandedNumbers n b
+    banded-of =
+        banded-next Stored (λ a. a ≡ zeroNumber) n b (λ i x. passed-on i i x x refl) others-of
+        (λ i j low less few z.
+        let e : suc i - 1 ≡ i = omega arith in
+        let row : In n (suc i) = (omega arith, few) in
+        continued-zero _ _ (passed-off (suc i) j row (low, omega arith) (λ f. omega arith))
+        (before-below (suc i) j (omega arith, omega (arith, few-of)) (low, omega (arith, few-of)) (omega arith) ∙ rw e z))
+        (λ i j low less few z.
+        let e : suc j - 1 ≡ j = omega arith in
+        let column : In n (suc j) = (omega arith, few) in
+        continued-zero _ _ (passed-off i (suc j) (low, omega arith) column (λ f. omega arith))
+        (before-above i (suc j) (low, omega (arith, few-of)) (omega arith, omega (arith, few-of)) (omega arith) ∙ rw e z))
+
+    rest-is : tableAt s p ≡ tableOf n b
     unfolding factorsOf
-    rest-is p h =
-        table-list (rowsAt s p) (factorsAt s p) zeroNumber (tableAt s p) (table-long p h)
-        (λ i j k l.
+    rest-is =
+        table-list n b zeroNumber (tableAt s p) table-long
+        (λ i j h g.
         let x : suc i - 1 ≡ i = omega arith in
         let y : suc j - 1 ≡ j = omega arith in
-        let e : factorsAt s p (suc i) (suc j) ≡ getD (tableAt s p) (i * 8 + j) zeroNumber = rw (x, y) in
-        let a = factorsAt s p (suc i) (suc j) in
-        sym e ∙ tested-within (leb (suc i) (rowsAt s p) && leb (suc j) (rowsAt s p)) a (cell-of p i j h k l a e))
+        let e : b (suc i) (suc j) ≡ getD (tableAt s p) (i * 8 + j) zeroNumber = rw (x, y) in
+        sym e
+        ∙ asked-within (leb (suc i) n && leb (suc j) n) _ (b (suc i) (suc j)) (passed (suc i) (suc j) (omega arith, omega arith) (omega arith, omega arith)))
 
-    pub tested-good : Good s
-    tested-good = record { places = eight; numbers = all; held = λ p h. record { few = few-of p h; stored = stored-of p h; rest = rest-is p h } }
+    fits-of : Fits n (tableAt s p)
+    fits-of = record { few = few-of; banded = banded-of; rest = rest-is }
+
+  -- and what fits passes
+  module _ (fits : Fits n (tableAt s p)) (i j : ℕ) (row : In 8 i) (column : In 8 j) where
+    held-there : b i j ≡ padded n b i j
+    held-there = ap (λ (t : List Number). factorsOf t i j) (fits .rest) ∙ factors-within n b i j row column
+
+    line-passes : In n i → In n j → (i ≡ j → ⊥) → continues (before i j) (b i j) ≡ true
+    line-passes x y e =
+        continued-tested (before i j) (b i j) (banded-decided n b (fits .banded) i j x y)
+        (λ z.
+        elim (decLt j i) [
+          | yes h ↦ below-zero n b (fits .banded) i j (column .0) h (x .1) (sym (before-below i j row column h) ∙ z)
+          | no h ↦ above-zero n b (fits .banded) i j (row .0) (omega arith) (y .1) (sym (before-above i j row column (omega arith)) ∙ z)
+        ])
+
+    cell-passes : In n i → In n j → cond (eqb i j) (isStored (b i j)) (continues (before i j) (b i j)) ≡ true
+    cell-passes x y =
+        elim (ℕ-discrete i j) [
+          | yes e ↦
+              ap (λ t. cond t (isStored (b i j)) (continues (before i j) (b i j))) (eq-eqb i j e)
+              ∙ stored-tested (b i j) (subst (λ k. Stored (b i k)) e (fits .banded .diagonal i x))
+          | no e ↦ ap (λ t. cond t (isStored (b i j)) (continues (before i j) (b i j))) (ne-eqb i j e) ∙ line-passes x y e
+        ]
+
+    sound-cell : soundAt s (p * 64 + cellOf i j) ≡ true
+    sound-cell =
+        asked-of i j row column
+        ∙ within-cases n
+        (λ t. b i j ≡ cond t (b i j) zeroNumber → cond t (cond (eqb i j) (isStored (b i j)) (continues (before i j) (b i j))) (isZero (b i j)) ≡ true) i j
+        (row .0) (column .0) (λ x y e. cell-passes x y) (λ e. subst (λ a. isZero a ≡ true) (sym e) zero-tested) held-there
+
+-- THE SHELF
+pub tested-good : (s : Shelf) → length (s .sizes) ≡ 8 → length (s .numbers) ≡ 512 → isGood s ≡ true → Good s
+tested-good s eight all e = record { places = eight; numbers = all; held = λ p h. fits-of s all p h e }
 
 pub good-tested : (s : Shelf) → Good s → isGood s ≡ true
-unfolding isGood fewRows soundNumbers sound
+unfolding isGood fewRows soundNumbers
 good-tested s g =
     and-eq-true-iff (fewRows s) (soundNumbers s) .1 (
       all-below (λ p. leb (rowsAt s p) 8) 8 (λ p h. le-leb (rowsAt s p) 8 (g .held p h .few)),
@@ -157,16 +175,10 @@ good-tested s g =
           (λ k h.
           let p : k / 64 < 8 = div-lt-iff-lt-mul {k = 64} {x = k} {y = 8} (omega arith) .1 (omega arith) in
           let r : k % 64 < 64 = mod-lt k (omega arith) in
-          let n = rowsAt s (k / 64) in
-          let b = factorsAt s (k / 64) in
           let i : k % 64 / 8 < 8 = row-below 8 (k % 64) r in
           let j : k % 64 % 8 < 8 = mod-lt (k % 64) (omega arith) in
-          let e : getD (s .numbers) k absent ≡ padded n b (suc (k % 64 / 8)) (suc (k % 64 % 8)) =
-          ap (λ (x : ℕ). getD (s .numbers) x absent) (sym (div-add-mod' k 64))
-          ∙ number-of s (g .places) (g .numbers) (k / 64) (k % 64) p r
-          ∙ ap (λ (t : List Number). getD t (k % 64) zeroNumber) (g .held (k / 64) p .rest)
-          ∙ ap (λ (x : ℕ). getD (tableOf n b) x zeroNumber) (sym (div-add-mod' (k % 64) 8))
-          ∙ table-at n b zeroNumber (k % 64 / 8) (k % 64 % 8) i j in
-          subst (λ (a : Number). cond (leb (suc (k % 64 / 8)) n && leb (suc (k % 64 % 8)) n) (isStored a) (isZero a) ≡ true) (sym e)
-          (within-tested n b (g .held (k / 64) p .stored) (suc (k % 64 / 8)) (suc (k % 64 % 8)) (omega arith) (omega arith))),
+          let e : k / 64 * 64 + cellOf (suc (k % 64 / 8)) (suc (k % 64 % 8)) ≡ k = omega (arith, div-add-mod' k 64, div-add-mod' (k % 64) 8) in
+          subst (λ (x : ℕ). soundAt s x ≡ true) e
+          (sound-cell s (g .numbers) (k / 64) p (g .held (k / 64) p) (suc (k % 64 / 8)) (suc (k % 64 % 8)) (omega arith, omega arith)
+          (omega arith, omega arith))),
     )

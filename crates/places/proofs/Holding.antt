@@ -13,7 +13,8 @@ use Rattle.number.specs.declared.Number.{Number}
 use Rattle.number.specs.Number.{zeroNumber, Stored}
 use Rattle.words.specs.Word.{Factors}
 use Rattle.words.specs.RowSet.{In}
-use Rattle.words.specs.Sources.{Each}
+use Rattle.words.specs.Sources.{BandedNumbers}
+use Rattle.words.proofs.Banded.{banded-same, stored-banded}
 use Rattle.places.specs.declared.Shelf.{Shelf}
 use Rattle.table.specs.Table.{absent, factorsOf, tableOf}
 use Rattle.places.specs.Shelf.{rowsAt, tableAt, factorsAt, withTable, holding, emptyShelf, Fits, Good}
@@ -98,12 +99,17 @@ shelf-determined s t g h e f =
     ∙ ap (λ (n : ℕ). tableOf n (factorsAt t p)) (e p l)
     ∙ sym (h .held p l .rest))
 
--- WHAT FITS A PLACE: the table of stored factors
-pub fits-table : (n : ℕ) (b : Factors Number) → n ≤ 8 → Each Stored n b → Fits n (tableOf n b)
-fits-table n b few h = record { few = few; stored = λ i j x y. rw (factors-table n b few i j x y) (h i j x y); rest = sym (table-refactored n b few) }
+-- WHAT FITS A PLACE: the table of accepted factors
+pub fits-table : (n : ℕ) (b : Factors Number) → n ≤ 8 → BandedNumbers n b → Fits n (tableOf n b)
+fits-table n b few h =
+    record {
+      few = few;
+      banded = banded-same Stored (λ a. a ≡ zeroNumber) n (λ i j x y. sym (factors-table n b few i j x y)) h;
+      rest = sym (table-refactored n b few);
+    }
 
 pub fits-none : (b : Factors Number) → Fits 0 (tableOf 0 b)
-fits-none b = fits-table 0 b (omega arith) (λ i j x y. absurd (omega arith))
+fits-none b = fits-table 0 b (omega arith) (stored-banded 0 b (λ i j x y. absurd (omega arith)))
 
 -- THE SHELF STAYS GOOD
 module _ (s : Shelf) (g : Good s) (p n : ℕ) (t : List Number) (small : p < 8) (fits : Fits n t) where
@@ -144,7 +150,7 @@ put-held s g p small =
     let f = g .held p small in
     let t = tableOf n (factorsAt s p) in
     let l : length t ≡ 64 = table-length n (factorsAt s p) in
-    let h : Fits n t = fits-table n (factorsAt s p) (f .few) (f .stored) in
+    let h : Fits n t = fits-table n (factorsAt s p) (f .few) (f .banded) in
     same-places (withTable s p n t) s (good-put s g p n t small h) g
     (λ q x.
     elim (ℕ-discrete q p) [

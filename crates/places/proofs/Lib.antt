@@ -1,5 +1,6 @@
 -- Laws that belong to no one function.
 pub mod Holding
 pub mod Verdicts
+pub mod Asked
 pub mod Checking
 pub mod Passing

@@ -7,9 +7,9 @@ use mathlib.Core.List.{List}
 use lib.ListN.{length, getD, take, drop, set, replicate}
 use lib.Seq.{sets}
 use Rattle.number.specs.declared.Number.{Number}
-use Rattle.number.specs.Number.{zeroNumber, Stored}
+use Rattle.number.specs.Number.{zeroNumber}
 use Rattle.words.specs.Word.{Factors}
-use Rattle.words.specs.Sources.{Each}
+use Rattle.words.specs.Sources.{BandedNumbers}
 use Rattle.places.specs.declared.Shelf.{Shelf}
 use Rattle.table.specs.Table.{factorsOf, tableOf}
 
@@ -38,10 +38,10 @@ without s p = holding s p 0 (λ i j. zeroNumber)
 unfoldable pub emptyShelf : Shelf
 emptyShelf = record { numbers = replicate 512 zeroNumber; sizes = replicate 8 0 }
 
--- what a place can hold: at most eight rows, their factors stored numbers, every other number zero
+-- what a place can hold: at most eight rows, their factors accepted (stored, or zero in the pattern), every other number zero
 pub record Fits (n : ℕ) (t : List Number) : Type 0 where
   pub few : n ≤ 8
-  pub stored : Each Stored n (factorsOf t)
+  pub banded : BandedNumbers n (factorsOf t)
   pub rest : t ≡ tableOf n (factorsOf t)
 
 -- eight places, and each holds what fits

@@ -1,5 +1,5 @@
--- THE EXACT FACTORS OF STAMPS in fractions stand for those of the mathematics (factors-stand). So they are positive, multiply out to the matrix of powers, and
--- no other positive fractions do (stamps-factored), for any number of stamps.
+-- THE EXACT FACTORS OF STAMPS in fractions stand for those of the mathematics (factors-stand). So they are positive, multiply out to the matrix of powers, and,
+-- since accepted fractions are given by their matrix (fractions-same), no other accepted ones do (stamps-factored), for any number of stamps.
 use mathlib.Core.Path.{_≡_, refl, sym, ap, _∙_, subst}
 use mathlib.Core.List.{List}
 use Prim.Native.Nat.{ℕ, zero, suc, _-_, _*_, _^_, _≤_, _<_}
@@ -8,13 +8,12 @@ use native.Mathlib.Omega.{arith}
 use lib.ListN.{length}
 use Rattle.fraction.specs.Fraction.{natural, fractionProduct, exact}
 use Rattle.fraction.specs.Rational.{Rational, rationals, rationals-ordered, rational}
-use Rattle.fraction.proofs.Rational.{same-rational, rational-same, rational-product, rational-difference, positive-rational}
-use Rattle.words.specs.Operation.{eachFactor}
+use Rattle.fraction.proofs.Rational.{rational-same, rational-product, rational-difference, positive-rational}
+use Rattle.words.proofs.Banded.{each-banded}
 use Rattle.minors.specs.Matrix.{In, Equal}
-use Rattle.minors.proofs.Factors.{factors-same}
-use Rattle.factors.specs.Demand.{multipliedOut}
+use Rattle.factors.specs.Demand.{AboveZero, IsZero, BandedFractions, multipliedOut}
 use Rattle.factors.proofs.Result.{multiplied-equal}
-use Rattle.factors.proofs.Exact.{ℚ, StandsAbove, stands-product, stands-quotient}
+use Rattle.factors.proofs.Exact.{ℚ, StandsAbove, stands-product, stands-quotient, fractions-same}
 use Rattle.powers.specs.Stamps.{stampAt, powersOf, Rising, exactFactors, StampsFactored}
 use Rattle.powers.proofs.Complete.{power}
 use Rattle.powers.proofs.Related.{stamps-related}
@@ -61,13 +60,12 @@ module _ (L : List ℕ) (rising : Rising L) where
   stamps-factored = record {
     positive = λ i j u v. factors-stand i j u v .1;
     powers = powers;
-    only = λ c p e i j u v.
-        same-rational (c i j) (exactFactors L i j)
-        (factors-same rationals rationals-ordered n (eachFactor rational c) (eachFactor rational (exactFactors L))
-        (λ r s y z. positive-rational (c r s) .0 (p r s y z)) (λ r s y z. positive-rational (exactFactors L r s) .0 (factors-stand r s y z .1))
-        (λ r s y z. e r s y z ∙ sym (powers r s y z)) i j u v);
+    only = λ c p e. fractions-same n c (exactFactors L) p banded (λ r s y z. e r s y z ∙ sym (powers r s y z));
   }
     where
+      banded : BandedFractions n (exactFactors L)
+      banded = each-banded AboveZero IsZero (λ x h e. omega arith) n (exactFactors L) (λ i j u v. factors-stand i j u v .1)
+
       powers : Equal rationals n (multipliedOut n (exactFactors L)) (powersOf L)
       powers i j u v =
           multiplied-equal rationals rationals-ordered n _ _ (λ r s y z. factors-stand r s y z .0) i j u v

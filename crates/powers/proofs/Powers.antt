@@ -14,10 +14,9 @@ use Rattle.fraction.specs.Ring.{CRing, Ordered, arithmetic}
 use Rattle.fraction.proofs.Ring.{ring, *-one, one-*, *-comm}
 use Rattle.fraction.proofs.Ordered.{inv-mul-pos}
 use Rattle.words.specs.RowSet.{In}
-use Rattle.words.specs.Word.{D, Word, word, exchanged}
+use Rattle.words.specs.Word.{D, Word, word, exchanged, transposedWord}
 use Rattle.words.specs.Walk.{carry, carryLetter}
 use Rattle.words.proofs.Walks.{carry-append}
-use Rattle.words.proofs.Words.{transposedWord}
 use Rattle.words.proofs.Stages.{stages, word-stages, word-rows}
 use Rattle.minors.specs.Matrix.{Equal, identity, multiplied}
 use Rattle.minors.proofs.Determinant.{matrixOf}

@@ -10,9 +10,9 @@ use borrow.Author.Tests.{eq-eqb, ne-eqb, le-leb, lt-leb}
 use Rattle.fraction.specs.Arithmetic.{Arithmetic}
 use Rattle.fraction.specs.Ring.{CRing, Ordered, arithmetic}
 use Rattle.words.specs.RowSet.{In}
-use Rattle.words.specs.Word.{Word, exchanged}
+use Rattle.words.specs.Word.{Word, exchanged, transposedWord}
 use Rattle.words.specs.Walk.{carry}
-use Rattle.words.proofs.Words.{transposedWord, transposed-rows}
+use Rattle.words.proofs.Words.{transposed-rows}
 use Rattle.words.proofs.Stages.{stages, stages-rows}
 use Rattle.minors.specs.Matrix.{identity}
 use Rattle.minors.proofs.Determinant.{matrixOf}

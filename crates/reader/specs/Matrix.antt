@@ -1,7 +1,7 @@
 -- Reading a matrix (document 01, "Bytes" and "Turned down for the input"): `matrixOf`, what stands at the start of an input, and
 -- `behindOf`, the bytes behind it. Items are read from the left. Offsets count from the start of the whole input.
-use Prim.Native.Nat.{ℕ, zero, suc, _+_, _-_, _*_, _^_, _≤_, _<_}
-use mathlib.Core.Bool.{cond}
+use Prim.Native.Nat.{ℕ, zero, suc, _+_, _-_, _*_, _/_, _%_, _^_, _≤_, _<_}
+use mathlib.Core.Bool.{not, cond, _&&_}
 use mathlib.Core.List.{List, [], _∷_, _++_}
 use lib.ListN.{length, drop, replicate}
 use lib.Seq.{sets}
@@ -11,6 +11,8 @@ use Rattle.group.specs.declared.Group.the-variants as group
 use Rattle.group.specs.Group.{groupOf}
 use Rattle.number.specs.declared.Number.{Number}
 use Rattle.number.specs.Number.{zeroNumber}
+use Rattle.words.specs.Word.{Factors}
+use Rattle.table.specs.Table.{squareOf}
 use Rattle.reader.specs.declared.ByteItem.{ByteItem}
 use Rattle.reader.specs.declared.ByteItem.the-variants as item
 use Rattle.reader.specs.declared.CodeVerdict.{CodeVerdict}
@@ -32,9 +34,22 @@ itemByGroup s p group.Faulty = item.Fault 3 p
 unfoldable pub itemAt : List ℕ → ℕ → ByteItem
 itemAt s p = itemByGroup s p (groupOf (drop p s))
 
--- 5 and 6: the exponent code of the factor that follows those `before` it, row by row, in a matrix of n rows. No zero factor is taken, wherever it stands.
-abbrev pub judgedCode : ℕ → List Number → ℕ → CodeVerdict
-judgedCode n before code = cond (ltb 2001 code) (Refused 5) (cond (eqb code 0) (Refused 6) Accepted)
+-- the factor just before that of row i and column j in its line: below the diagonal, where lines are columns, the one above it; above the diagonal, where
+-- lines are rows, the one left of it
+abbrev pub justBefore : Factors Number → ℕ → ℕ → Number
+justBefore b i j = cond (ltb j i) (b (i - 1) j) (b i (j - 1))
+
+-- 5, 6 and 16: the exponent code of the factor of row i and column j, behind those in b. 6 is for the diagonal, where every line begins. Off it a zero breaks
+-- the pattern (document 02, (e)) where a nonzero factor stands behind it in its line: the first such one, which has a zero just before it, is 16
+abbrev pub judgedAt : Factors Number → (i j code : ℕ) → CodeVerdict
+judgedAt b i j code =
+    cond (ltb 2001 code) (Refused 5)
+    (cond (eqb i j) (cond (eqb code 0) (Refused 6) Accepted)
+    (cond (not (eqb code 0) && eqb (justBefore b i j .m) 0) (Refused 16) Accepted))
+
+-- the same of the factor that follows those `before` it, row by row, in a matrix of n rows
+unfoldable pub judgedCode : ℕ → List Number → ℕ → CodeVerdict
+judgedCode n before code = judgedAt (squareOf n before) (suc (length before / n)) (suc (length before % n)) code
 
 -- the number with the exponent code c and the rest m of a mantissa
 abbrev pub decoded : ℕ → ℕ → Number
@@ -63,7 +78,7 @@ factorByItem s n before p (item.Fault k o) = factor.Fault k o
 unfoldable pub factorAt : List ℕ → ℕ → List Number → ℕ → ByteFactor
 factorAt s n before p = factorByItem s n before p (itemAt s p)
 
--- A matrix: its rows, its factors row by row, and the offset behind it. Or a fault: document 01's number, and the offset.
+-- A matrix: its rows, its factors row by row, and the offset behind it. Or a fault: the papers' number, and the offset.
 pub data Reading : Type 0 where
   matrix : ℕ → List Number → ℕ → Reading
   fault : ℕ → ℕ → Reading

@@ -2,9 +2,10 @@
 // unless that is 0, the rest of a mantissa. Also the part of a bundle behind its first matrix.
 ghost use mathlib.Core.Path.{_≡_};
 ghost use mathlib.Core.List.{[]};
-ghost use Prim.Native.Nat.{_*_, _^_, _≤_, _<_};
+ghost use Prim.Native.Nat.{suc, _*_, _/_, _%_, _^_, _≤_, _<_};
 ghost use lib.ListN.{length, take};
-ghost use Rattle.reader.specs.Matrix.{Reading, itemAt, ItemInside, mantissaAt, judgedCode, factorAt, FactorInside, factorsFrom};
+ghost use Rattle.table.specs.Table.{squareOf};
+ghost use Rattle.reader.specs.Matrix.{Reading, itemAt, ItemInside, mantissaAt, justBefore, judgedCode, factorAt, FactorInside, factorsFrom};
 ghost use Rattle.reader.specs.Matrix.{parsed, matrixOf, OutcomeInside, behindOf};
 use number::BIAS;
 use number::Number;
@@ -31,7 +32,7 @@ enum ByteFactor {
 pub enum ReadOutcome {
     // A matrix of so many rows, and the offset behind it.
     Matrix { rows: usize, next: usize },
-    // Document 01's number, 2 to 6, and the offset.
+    // The papers' number, 2 to 6 or 16, and the offset.
     Fault { number: u8, offset: usize },
 }
 
@@ -65,15 +66,37 @@ fn item_at(s: &[u8], at: usize) -> ByteItem
     }
 }
 
+// The number just before number k in its line, in a matrix of n rows: below the diagonal the one above it, above the diagonal the one left of it.
+fn just_before(n: usize, numbers: [Number; 64], k: usize) -> Number
+    requires { ⌜ (0 < n) × (k < 64) × (k / n ≡ k % n → ⊥) ⌝ }
+    ensures { λ r. ⌜ r ≡ justBefore (squareOf n (take k numbers)) (suc (k / n)) (suc (k % n)) ⌝ }
+{
+    if k % n < k / n {
+        return numbers[k - n];
+    }
+    numbers[k - 1]
+}
+
 // Judges the exponent code of the factor that follows the first k numbers in a matrix of n rows.
 fn judge(n: usize, numbers: [Number; 64], k: usize, code: u64) -> CodeVerdict
+    requires { ⌜ (0 < n) × (k < 64) ⌝ }
     ensures { λ r. ⌜ r ≡ judgedCode n (take k numbers) code ⌝ }
 {
     if code > 2001 {
         return CodeVerdict::Refused { number: 5 };
     }
+    if k / n == k % n {
+        if code == 0 {
+            return CodeVerdict::Refused { number: 6 };
+        }
+        return CodeVerdict::Accepted;
+    }
     if code == 0 {
-        return CodeVerdict::Refused { number: 6 };
+        return CodeVerdict::Accepted;
+    }
+    let before = just_before(n, numbers, k);
+    if before.m == 0 {
+        return CodeVerdict::Refused { number: 16 };
     }
     CodeVerdict::Accepted
 }
@@ -118,6 +141,7 @@ fn mantissa_at(s: &[u8], at: usize, code: u64) -> ByteFactor
 // The factor at an offset, behind the first k numbers in a matrix of n rows.
 fn factor_at(s: &[u8], at: usize, n: usize, numbers: [Number; 64], k: usize) -> ByteFactor
     requires { ⌜ at ≤ length (now s) ⌝ }
+    requires { ⌜ (0 < n) × (k < 64) ⌝ }
     ensures { λ r. ⌜ r ≡ factorAt (now (s .entry)) n (take k numbers) at ⌝ }
     ensures { λ r. ⌜ FactorInside (length (now (s .entry))) r ⌝ }
 {
@@ -127,10 +151,7 @@ fn factor_at(s: &[u8], at: usize, n: usize, numbers: [Number; 64], k: usize) -> 
             let verdict = judge(n, numbers, k, value);
             match verdict {
                 CodeVerdict::Accepted => mantissa_at(s, next, value),
-                CodeVerdict::Refused { number } => ByteFactor::Fault {
-                    number: number,
-                    offset: at,
-                },
+                CodeVerdict::Refused { number } => ByteFactor::Fault { number, offset: at },
             }
         }
         ByteItem::Fault { number, offset } => ByteFactor::Fault {

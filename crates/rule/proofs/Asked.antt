@@ -1,5 +1,5 @@
 -- The minors that the formulas ask for: at masks that the walk takes (asked-ready), as the definition has them and fit to be multiplied and divided by
--- (asked-answer, chosen-usable); of consecutive rows (run-ready, run-answer).
+-- (asked-answer, chosen-ranged); of consecutive rows (run-ready, run-answer).
 use mathlib.Core.Path.{_≡_, refl, sym, ap, ap₂, _∙_, subst}
 use mathlib.Core.List.{List, []}
 use Prim.Native.Nat.{ℕ, suc, _+_, _-_, _*_, _^_, _≤_, _<_}
@@ -7,7 +7,7 @@ use native.Mathlib.Nat.{mul-le-mul, min-le-left}
 use native.Mathlib.Omega.{arith}
 use lib.ListN.{length, take, length-map, length-take}
 use lib.Pow.{pow-mono}
-use Rattle.number.specs.Number.{rounded}
+use Rattle.number.specs.Number.{rounded, Ranged}
 use Rattle.number.specs.declared.Number.{Number}
 use Rattle.number.proofs.Reach.{ranged-more}
 use Rattle.rowset.specs.Mask.{maskCount, maskAmong, maskRun}
@@ -18,12 +18,12 @@ use Rattle.words.specs.RowSet.{RowSet, count, among, rows, ofMask}
 use Rattle.words.specs.Walk.{minor}
 use Rattle.words.specs.Operation.{joinedWord}
 use Rattle.words.proofs.Chosen.{length-among}
-use Rattle.words.specs.Sources.{StoredSteps}
-use Rattle.words.proofs.Exponents.{steps-walkable, walk-ranged}
+use Rattle.words.specs.Sources.{Walkable, Sources, runReach}
+use Rattle.words.proofs.Exponents.{walk-ranged}
 use Rattle.walk.specs.Lent.{AllSpelled, numbered, stepAt, stepsOf}
 use Rattle.walk.proofs.Minors.{rows-few}
 use Rattle.rule.specs.declared.Chosen.{Chosen}
-use Rattle.rule.specs.Chosen.{sizeOf, chosenRows, chosenColumns, chosenMinor, Workable, Lent, Usable}
+use Rattle.rule.specs.Chosen.{sizeOf, chosenRows, chosenColumns, chosenMinor, Workable, Lent}
 
 module _ (c : Chosen) {f : List ℕ} (P : Workable c f) where
   few-masks : 2 ^ c .word .n ≤ 2 ^ 8
@@ -57,18 +57,14 @@ module _ (c : Chosen) {f : List ℕ} (P : Workable c f) where
   chosen-count : count (chosenRows c) ≡ sizeOf c
   chosen-count = mask-count (c .word .n) (c .rows) (P .few) (P .rows)
 
-  pub chosen-usable : (I J : RowSet) → length I ≡ sizeOf c → length J ≡ sizeOf c → count I ≡ count J → Usable (chosenMinor c f I J)
+  pub chosen-ranged : (I J : RowSet) → length I ≡ sizeOf c → Ranged (runReach 6 8) (chosenMinor c f I J)
   unfolding chosenMinor minor
-  chosen-usable I J li lj e =
+  chosen-ranged I J li =
       let s : length (stepsOf (c .word) f) * (c .word .n * c .word .n) ≤ 6 * (8 * 8) = mul-le-mul steps-few (mul-le-mul (P .few) (P .few)) in
-      record {
-        ranged = ranged-more (omega arith)
-            (walk-ranged (c .word .n) (stepsOf (c .word) f) (steps-walkable (c .word .n) (stepsOf (c .word) f) (P .stored)) (P .some) []
-            (joinedWord (c .word .n) (stepsOf (c .word) f)) refl (omega arith)
-            (among (chosenColumns c) J) (among (chosenRows c) I)
-            (length-among (chosenRows c) I (li ∙ sym chosen-count) ∙ ofMask-length (c .word .n) (c .rows)));
-        nonzero = P .regular .nonzero I J li lj e;
-      }
+      ranged-more (omega arith)
+      (walk-ranged (c .word .n) (stepsOf (c .word) f) (P .walkable) (P .some) [] (joinedWord (c .word .n) (stepsOf (c .word) f)) refl (omega arith)
+      (among (chosenColumns c) J) (among (chosenRows c) I)
+      (length-among (chosenRows c) I (li ∙ sym chosen-count) ∙ ofMask-length (c .word .n) (c .rows)))
 
   pub size-few : sizeOf c ≤ 8
   size-few = omega (arith, P .few, rows-few (c .word .n) (c .rows) (P .few) (P .rows))
@@ -78,24 +74,20 @@ module _ (c : Chosen) {f : List ℕ} (P : Workable c f) where
       (ei : i' ≡ maskAmong (c .rows) i) (ej : j' ≡ maskAmong (c .columns) j) where
     pub asked-ready : {t l : List ℕ} → Lent c t l → ((1 ≤ c .word .n) × (c .word .n ≤ 8) × (c .word .count ≤ 6))
         × (((i' < 2 ^ c .word .n) × (j' < 2 ^ c .word .n) × (maskCount i' ≡ maskCount j'))
-        × (StoredSteps (c .word .n) (stepsOf (c .word) f) × (Tables (c .word .n) t × AllSpelled (c .word) l)))
+        × (Sources (Walkable (c .word .n)) (stepsOf (c .word) f) × (Tables (c .word .n) t × AllSpelled (c .word) l)))
     asked-ready L = (
       (P .some, P .few, P .six),
       (
         (omega (arith, ei, asked-below i .0), omega (arith, ej, asked-below j .1), ap maskCount ei ∙ asked-count i j bi bj e ∙ ap maskCount (sym ej)),
-        (P .stored, (L .tables, L .letters)),
+        (P .walkable, (L .tables, L .letters)),
       ),
     )
 
     pub asked-answer : (r : Number) → r ≡ minor rounded (joinedWord (c .word .n) (stepsOf (c .word) f)) (ofMask (c .word .n) i') (ofMask (c .word .n) j')
-        → (r ≡ chosenMinor c f (ofMask (sizeOf c) i) (ofMask (sizeOf c) j)) × Usable r
+        → (r ≡ chosenMinor c f (ofMask (sizeOf c) i) (ofMask (sizeOf c) j)) × Ranged (runReach 6 8) r
     asked-answer r q =
-        let g : r ≡ chosenMinor c f (ofMask (sizeOf c) i) (ofMask (sizeOf c) j) = q ∙ chosen-minor i j i' j' ei ej in (
-          g,
-          subst Usable (sym g)
-              (chosen-usable (ofMask (sizeOf c) i) (ofMask (sizeOf c) j) (ofMask-length (sizeOf c) i) (ofMask-length (sizeOf c) j)
-              (mask-count (sizeOf c) i size-few bi ∙ e ∙ sym (mask-count (sizeOf c) j size-few bj))),
-        )
+        let g : r ≡ chosenMinor c f (ofMask (sizeOf c) i) (ofMask (sizeOf c) j) = q ∙ chosen-minor i j i' j' ei ej in
+        (g, subst (Ranged (runReach 6 8)) (sym g) (chosen-ranged (ofMask (sizeOf c) i) (ofMask (sizeOf c) j) (ofMask-length (sizeOf c) i)))
 
   -- CONSECUTIVE ROWS a .. b and columns 1 .. m, s and t their masks
   module _ (a b m s t : ℕ) (ha : 1 ≤ a) (lb : b ≤ sizeOf c) (e : b + 1 ≡ a + m) (es : s ≡ maskRun a b) (et : t ≡ maskRun 1 m) where

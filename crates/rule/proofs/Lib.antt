@@ -1,3 +1,4 @@
 pub mod Asked
+pub mod Sets
 pub mod Quotients
 pub mod StepBounds

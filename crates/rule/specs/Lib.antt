@@ -1,2 +1,3 @@
 pub mod Chosen
+pub mod Latest
 pub mod Result

@@ -1,13 +1,17 @@
-// New factors (document 01, "The rounded rule"): each from minors of a joined word, worked afresh, by the formulas; and `work`, which every operation calls.
+// New factors (document 01, "The rounded rule"; with zeros, document 02, (e)): each from minors of a joined word, worked afresh, by the formulas; and `work`,
+// which every operation calls.
 ghost use mathlib.Core.Path.{_≡_};
-ghost use Prim.Native.Nat.{_+_, _^_, _≤_, _<_};
-ghost use Rattle.number.specs.Number.{rounded};
+ghost use mathlib.Core.Bool.{true, false};
+ghost use Prim.Native.Nat.{_+_, _-_, _^_, _≤_, _<_};
+ghost use Rattle.number.specs.Number.{rounded, Ranged};
 ghost use Rattle.rowset.specs.Mask.{maskCount};
 ghost use Rattle.words.specs.RowSet.{ofMask, rows};
-ghost use Rattle.words.specs.Formula.{justBefore, onDiagonal, belowDiagonal};
+ghost use Rattle.words.specs.Formula.{onDiagonal, bandedBelow};
+ghost use Rattle.words.specs.Sources.{runReach};
 ghost use Rattle.walk.specs.Lent.{AllSpelled};
 ghost use Rattle.table.specs.Table.{cellAt, tableOf};
-ghost use Rattle.rule.specs.Chosen.{chosenOf, sizeOf, chosenMinor, chosenFactors, turnedBy, Workable, Lent, Usable};
+ghost use Rattle.rule.specs.Chosen.{chosenOf, sizeOf, chosenMinor, chosenFactors, turnedBy, Workable, Lent};
+ghost use Rattle.rule.specs.Latest.{aloneOf, withRow, Sides, LatestMask};
 ghost use Rattle.rule.specs.Result.{workOf};
 use number::Direction;
 use number::Number;
@@ -43,7 +47,7 @@ impl Chosen {
         requires { ⌜ Workable self (now sources) × (i < 2 ^ sizeOf self) × (j < 2 ^ sizeOf self) × (maskCount i ≡ maskCount j) ⌝ }
         requires { ⌜ Lent self (now tables) (now letters) ⌝ }
         ensures { λ r. ⌜ r ≡ turnedBy turned (chosenMinor self (now (sources .entry))) (ofMask (sizeOf self) i) (ofMask (sizeOf self) j) ⌝ }
-        ensures { λ r. ⌜ Usable r ⌝ }
+        ensures { λ r. ⌜ Ranged (runReach 6 8) r ⌝ }
     {
         let word = self.word;
         if turned {
@@ -79,16 +83,11 @@ impl Chosen {
         requires { ⌜ Workable self (now sources) × (1 ≤ a) × (b ≤ sizeOf self) × (b + 1 ≡ a + m) ⌝ }
         requires { ⌜ Lent self (now tables) (now letters) ⌝ }
         ensures { λ r. ⌜ r ≡ turnedBy turned (chosenMinor self (now (sources .entry))) (rows (sizeOf self) a b) (rows (sizeOf self) 1 m) ⌝ }
-        ensures { λ r. ⌜ Usable r ⌝ }
+        ensures { λ r. ⌜ Ranged (runReach 6 8) r ⌝ }
     {
-        self.minor(
-            tables,
-            letters,
-            sources,
-            rowset::run(a, b),
-            rowset::run(1, m),
-            turned,
-        )
+        let i = rowset::run(a, b);
+        let j = rowset::run(1, m);
+        self.minor(tables, letters, sources, i, j, turned)
     }
 
     fn on_diagonal(
@@ -107,24 +106,95 @@ impl Chosen {
         upper.div(lower, Direction::Nearest)
     }
 
-    // Below the diagonal, j < i; turned, the factor of row j and column i above it.
+    // R: the latest set of j - 1 rows, all before row i, whose minor with the columns 1..j-1 is not zero; turned, of columns. v has the sets whose minors are
+    // not zero.
+    fn latest(
+        self,
+        sources: &[u64; 768],
+        v: &[bool; 256],
+        i: usize,
+        j: usize,
+        turned: bool,
+    ) -> usize
+        requires { ⌜ Workable self (now sources) × Sides self (now sources) turned (now v) × (1 ≤ j) × (j ≤ i) × (i ≤ sizeOf self) ⌝ }
+        ensures { λ r. ⌜ LatestMask (sizeOf self) (turnedBy turned (chosenMinor self (now (sources .entry)))) i j r ⌝ }
+    {
+        if turned {
+            presence::latest(v, self.columns, i, j - 1)
+        } else {
+            presence::latest(v, self.rows, i, j - 1)
+        }
+    }
+
+    // M(R | 1..j-1), s being the mask of R.
+    fn alone(
+        self,
+        tables: &[u8; 1408],
+        letters: &[u16; 342],
+        sources: &[u64; 768],
+        s: usize,
+        i: usize,
+        j: usize,
+        turned: bool,
+    ) -> Number
+        requires { ⌜ Workable self (now sources) × (1 ≤ j) × (j ≤ i) × (i ≤ sizeOf self) ⌝ }
+        requires { ⌜ LatestMask (sizeOf self) (turnedBy turned (chosenMinor self (now sources))) i j s × Lent self (now tables) (now letters) ⌝ }
+        ensures { λ r. ⌜ r ≡ aloneOf (sizeOf self) (turnedBy turned (chosenMinor self (now (sources .entry)))) i j ⌝ }
+        ensures { λ r. ⌜ Ranged (runReach 6 8) r ⌝ }
+    {
+        self.minor(tables, letters, sources, s, rowset::run(1, j - 1), turned)
+    }
+
+    // M(R and i | 1..j), s being the mask of R.
+    fn with_row(
+        self,
+        tables: &[u8; 1408],
+        letters: &[u16; 342],
+        sources: &[u64; 768],
+        s: usize,
+        i: usize,
+        j: usize,
+        turned: bool,
+    ) -> Number
+        requires { ⌜ Workable self (now sources) × (1 ≤ j) × (j ≤ i) × (i ≤ sizeOf self) ⌝ }
+        requires { ⌜ LatestMask (sizeOf self) (turnedBy turned (chosenMinor self (now sources))) i j s × Lent self (now tables) (now letters) ⌝ }
+        ensures { λ r. ⌜ r ≡ withRow (sizeOf self) (turnedBy turned (chosenMinor self (now (sources .entry)))) i j ⌝ }
+        ensures { λ r. ⌜ Ranged (runReach 6 8) r ⌝ }
+    {
+        self.minor(
+            tables,
+            letters,
+            sources,
+            rowset::replaced(s, i, i),
+            rowset::run(1, j),
+            turned,
+        )
+    }
+
+    // Below the diagonal, j < i; turned, the factor of row j and column i above it. All four minors are worked, where it is zero too.
     fn off_diagonal(
         self,
         tables: &[u8; 1408],
         letters: &[u16; 342],
         sources: &[u64; 768],
+        v: &[bool; 256],
         i: usize,
         j: usize,
         turned: bool,
     ) -> Number
         requires { ⌜ Workable self (now sources) × (1 ≤ j) × (j < i) × (i ≤ sizeOf self) ⌝ }
-        requires { ⌜ Lent self (now tables) (now letters) ⌝ }
-        ensures { λ r. ⌜ r ≡ belowDiagonal rounded (sizeOf self) (justBefore (sizeOf self)) (turnedBy turned (chosenMinor self (now (sources .entry)))) i j ⌝ }
+        requires { ⌜ Sides self (now sources) turned (now v) × Lent self (now tables) (now letters) ⌝ }
+        ensures { λ r. ⌜ r ≡ bandedBelow rounded (sizeOf self) (turnedBy turned (chosenMinor self (now (sources .entry)))) i j ⌝ }
     {
-        let corner = self.run_minor(tables, letters, sources, i - j + 1, i, j, turned);
-        let before = self.run_minor(tables, letters, sources, i - j, i - 2, j - 1, turned);
-        let run = self.run_minor(tables, letters, sources, i - j + 1, i - 1, j - 1, turned);
-        let above = self.run_minor(tables, letters, sources, i - j, i - 1, j, turned);
+        let s = self.latest(sources, v, i, j, turned);
+        let t = self.latest(sources, v, i - 1, j, turned);
+        let corner = self.with_row(tables, letters, sources, s, i, j, turned);
+        let before = self.alone(tables, letters, sources, t, i - 1, j, turned);
+        let run = self.alone(tables, letters, sources, s, i, j, turned);
+        let above = self.with_row(tables, letters, sources, t, i - 1, j, turned);
+        if corner.m == 0 {
+            return Number::zero();
+        }
         corner
             .mul(before, Direction::Nearest)
             .div(run.mul(above, Direction::Nearest), Direction::Nearest)
@@ -135,20 +205,22 @@ impl Chosen {
         tables: &[u8; 1408],
         letters: &[u16; 342],
         sources: &[u64; 768],
+        lower: &[bool; 256],
+        upper: &[bool; 256],
         i: usize,
         j: usize,
     ) -> Number
         requires { ⌜ Workable self (now sources) × (1 ≤ i) × (i ≤ sizeOf self) × (1 ≤ j) × (j ≤ sizeOf self) ⌝ }
-        requires { ⌜ Lent self (now tables) (now letters) ⌝ }
+        requires { ⌜ Sides self (now sources) false (now lower) × Sides self (now sources) true (now upper) × Lent self (now tables) (now letters) ⌝ }
         ensures { λ r. ⌜ r ≡ chosenFactors self (now (sources .entry)) i j ⌝ }
     {
         if i == j {
             return self.on_diagonal(tables, letters, sources, i);
         }
         if j < i {
-            return self.off_diagonal(tables, letters, sources, i, j, false);
+            return self.off_diagonal(tables, letters, sources, lower, i, j, false);
         }
-        self.off_diagonal(tables, letters, sources, j, i, true)
+        self.off_diagonal(tables, letters, sources, upper, j, i, true)
     }
 
     // The number at t of the new factors in rows of eight: zero past their k rows and columns.
@@ -157,11 +229,13 @@ impl Chosen {
         tables: &[u8; 1408],
         letters: &[u16; 342],
         sources: &[u64; 768],
+        lower: &[bool; 256],
+        upper: &[bool; 256],
         k: usize,
         t: usize,
     ) -> Number
         requires { ⌜ Workable self (now sources) × (k ≡ sizeOf self) × (t < 64) ⌝ }
-        requires { ⌜ Lent self (now tables) (now letters) ⌝ }
+        requires { ⌜ Sides self (now sources) false (now lower) × Sides self (now sources) true (now upper) × Lent self (now tables) (now letters) ⌝ }
         ensures { λ r. ⌜ r ≡ cellAt k (chosenFactors self (now (sources .entry))) t ⌝ }
     {
         let i = t / 8 + 1;
@@ -172,7 +246,7 @@ impl Chosen {
         if k < j {
             return Number::zero();
         }
-        self.factor(tables, letters, sources, i, j)
+        self.factor(tables, letters, sources, lower, upper, i, j)
     }
 
     // The new factors, zero past their rows and columns, put over the 64 numbers of a table.
@@ -189,9 +263,11 @@ impl Chosen {
         let n = word.n;
         let tables = rowset::lent::tables(n);
         let k = rowset::count(self.rows);
+        let lower = presence::present(word, letters, sources, self.columns);
+        let upper = presence::present_turned(word, letters, sources, self.rows);
         let mut b = table;
         for t in 0..64usize {
-            b[t] = self.cell(&tables, letters, sources, k, t);
+            b[t] = self.cell(&tables, letters, sources, &lower, &upper, k, t);
         }
         b
     }

@@ -7,6 +7,7 @@ use lib.IntN.{ℤ}
 use lib.ListN.{length, take}
 use lib.Seq.{sets}
 use Rattle.number.specs.declared.Number.{Number}
+use Rattle.words.proofs.Banded.{banded-ranged}
 use Rattle.table.specs.Table.{factorsOf}
 use Rattle.lists.specs.Lists.{carryTests, itemsAfterCarry}
 use Rattle.lists.specs.Promise.{NoMoreReversals}
@@ -58,4 +59,4 @@ module _ (s : Shelf) (p : ℕ) (items out : List ℤ) where
       let fits = good .held p (held .small) in
       subst (λ (z : List ℤ). NoMoreReversals items (take (length items) z))
       (ap (λ (v : Verdict). after v out (sets out 0 (carriedAt s p items))) (u .1 ∙ sym h))
-      (carry-steady (rowsAt s p) (factorsAt s p) (held .some) (fits .few) (fits .stored) items out (u .1))
+      (carry-steady (rowsAt s p) (factorsAt s p) (held .some) (fits .few) (banded-ranged _ _ (fits .banded)) items out (u .1))

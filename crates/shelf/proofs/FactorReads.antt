@@ -12,6 +12,7 @@ use borrow.Author.Tests.{le-leb}
 use Rattle.number.specs.declared.Number.{Number}
 use Rattle.number.specs.Number.{zeroNumber, exponentOf}
 use Rattle.words.specs.RowSet.{In}
+use Rattle.words.proofs.Banded.{StoredOrZero, stored, zero, banded-decided}
 use Rattle.table.specs.Table.{absent, cellOf, factorsOf}
 use Rattle.places.specs.declared.Shelf.{Shelf}
 use Rattle.places.specs.Shelf.{rowsAt, tableAt, factorsAt, Good}
@@ -19,6 +20,10 @@ use Rattle.table.proofs.Table.{read-default, table-length}
 use Rattle.verdict.specs.Report.{accepted}
 use Rattle.shelf.specs.Reports.{factorReport}
 use Rattle.shelf.specs.Calls.{factorOrZero, factorCall}
+
+small-exponent : {a : Number} → StoredOrZero a → a .x < 2 ^ 32
+small-exponent (stored s) = omega (arith, s .stop)
+small-exponent (zero e) = rw e (omega arith)
 
 module _ (s : Shelf) (good : Good s) (p : ℕ) where
   -- a place above 7 holds no rows
@@ -46,7 +51,7 @@ module _ (s : Shelf) (good : Good s) (p : ℕ) where
           read-default t (cellOf i j) (omega (arith, factor-below)) ∙ ap (λ (u : List Number). factorsOf u i j) is
 
       pub factor-exponent : getD t ((i - 1) * 8 + (j - 1)) absent .x < 2 ^ 32
-      factor-exponent = rw factor-is (omega (arith, good .held p small .stored i j row column .stop))
+      factor-exponent = rw factor-is (small-exponent (banded-decided (rowsAt s p) (factorsAt s p) (good .held p small .banded) i j row column))
 
     pub factor-done : (a : Number) (e : ℤ) → a ≡ factorsAt s p i j → e ≡ exponentOf a
         → factorReport (record { mantissa = a .m; exponent = e }) ≡ factorCall s p i j

@@ -1,12 +1,11 @@
--- A load: its result by what was found (`load-turned`, `load-read`), the shelf stays good (`load-good`); what was read fits a place (`read-fits`); stored
--- factors as a list (`stored-rows`).
-use Prim.Native.Nat.{ℕ, zero, suc, _+_, _-_, _*_, _/_, _%_, _<_, _≤_}
-use native.Mathlib.Nat.{mod-lt}
+-- A load: its result by what was found (`load-turned`, `load-read`), the shelf stays good (`load-good`); what was read fits a place (`read-fits`); accepted
+-- factors as a list (`banded-rows`).
+use Prim.Native.Nat.{ℕ, _+_, _-_, _*_, _<_, _≤_}
 use native.Mathlib.Omega.{arith}
 use mathlib.Core.Path.{_≡_, refl, sym, ap, subst, _∙_}
 use mathlib.Core.Bool.{Bool, cond}
-use mathlib.Core.List.{List, [], _∷_, _++_}
-use lib.ListN.{length, getD, take, drop, take-append-drop}
+use mathlib.Core.List.{List, _++_}
+use lib.ListN.{length, take, drop, take-append-drop}
 use lib.Seq.{getD-take}
 use borrow.Author.Tests.{lt-ltb, le-ltb}
 use Rattle.group.specs.Group.{Bytes}
@@ -14,11 +13,12 @@ use Rattle.number.specs.declared.Number.{Number}
 use Rattle.number.specs.Number.{zeroNumber, Stored}
 use Rattle.words.specs.Word.{Factors}
 use Rattle.words.specs.Operation.{rowByRow}
-use Rattle.words.specs.Sources.{Each}
+use Rattle.words.specs.Sources.{BandedNumbers}
+use Rattle.words.proofs.Banded.{banded-same}
 use Rattle.words.proofs.RowByRow.{rowByRow-length}
 use Rattle.reader.specs.declared.ReadOutcome.the-variants as outcome
 use Rattle.reader.specs.declared.Parsed.{Parsed}
-use Rattle.writer.specs.Encoding.{encoding, AllStored, Storable}
+use Rattle.writer.specs.Encoding.{encoding, Storable}
 use Rattle.reader.specs.Matrix.{Reading, matrix, fault, matrixOf, parsed}
 use Rattle.reader.proofs.RoundTrip.{matrix-written, matrix-read, accepted}
 use Rattle.places.specs.declared.Shelf.{Shelf}
@@ -33,37 +33,21 @@ use Rattle.places.specs.Outcome.{Outcome}
 use Rattle.places.specs.Tests.{targetTests}
 use Rattle.shelf.specs.Reports.{changedOutcome}
 use Rattle.shelf.specs.Calls.{changing, ofReading, loadTests, readTo, loadCall}
-use Rattle.table.proofs.RowByRow.{row-by-row-get, row-below, square-below}
+use Rattle.table.proofs.RowByRow.{square-below}
 use Rattle.table.proofs.Table.{table-same}
+use Rattle.table.proofs.Square.{square-factors}
 use Rattle.places.proofs.Holding.{fits-table, good-put}
 use Rattle.verdict.proofs.Verdicts.{first-last, first-passed}
 use Rattle.places.proofs.Verdicts.{target-accepted, after-good}
 
--- STORED: of a list, of factors
-all-stored-at : (L : List Number) → AllStored L → (k : ℕ) → k < length L → Stored (getD L k zeroNumber)
-all-stored-at [] h k l = absurd (omega arith)
-all-stored-at (a ∷ L) h zero l = h .0
-all-stored-at (a ∷ L) h (suc k) l = all-stored-at L (h .1) k (omega arith)
-
-all-stored-list : (L : List Number) → ((k : ℕ) → k < length L → Stored (getD L k zeroNumber)) → AllStored L
-all-stored-list [] h = tt
-all-stored-list (a ∷ L) h = (h 0 (omega arith), all-stored-list L (λ k l. h (suc k) (omega arith)))
-
-stored-square : (n : ℕ) (L : List Number) → Storable n L → Each Stored n (squareOf n L)
-unfolding squareOf
-stored-square n L w i j x y =
-    all-stored-at L (w .stored) ((i - 1) * n + (j - 1)) (omega (arith, w .square, square-below n (i - 1) (j - 1) (omega arith) (omega arith)))
-
-pub stored-rows : (n : ℕ) (b : Factors Number) → 0 < n → n ≤ 8 → Each Stored n b → Storable n (rowByRow n b)
-stored-rows n b some few h =
+-- accepted factors, one behind the other, can be stored
+pub banded-rows : (n : ℕ) (b : Factors Number) → 0 < n → n ≤ 8 → BandedNumbers n b → Storable n (rowByRow n b)
+banded-rows n b some few h =
     record {
       some = some;
       few = few;
       square = rowByRow-length n b;
-      stored = all-stored-list (rowByRow n b)
-          (λ k l.
-          let m : k < n * n = omega (arith, rowByRow-length n b) in
-          rw (row-by-row-get zeroNumber n k m b) (h (suc (k / n)) (suc (k % n)) (omega arith, row-below n k m) (omega arith, mod-lt k some)));
+      banded = banded-same Stored (λ a. a ≡ zeroNumber) n (λ i j x y. sym (square-factors n b i j x y)) h;
     }
 
 -- WHAT THE READER ANSWERS: a fault; a matrix, whose factors stand at the start of 64 numbers
@@ -95,7 +79,7 @@ square-taken n numbers =
 pub read-fits : (s : List ℕ) → Bytes s → (n : ℕ) (L : List Number) (q : ℕ) → matrixOf s ≡ matrix n L q → Fits n (tableOf n (squareOf n L))
 read-fits s bs n L q e =
     let w = matrix-read s bs n L q e .storable in
-    fits-table n (squareOf n L) (w .few) (stored-square n L w)
+    fits-table n (squareOf n L) (w .few) (w .banded)
 
 -- THE RESULT, by what was found
 module _ (s : Shelf) (p : ℕ) (bytes : List ℕ) where

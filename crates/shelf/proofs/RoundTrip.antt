@@ -34,12 +34,12 @@ use Rattle.verdict.specs.Report.{accepted}
 use Rattle.verdict.proofs.Verdicts.{first-passed, report-accepted}
 use Rattle.places.proofs.Verdicts.{Source, target-accepted}
 use Rattle.shelf.specs.Calls.{changing, ofReading, loadTests, loadCall, bytesAt}
-use Rattle.shelf.proofs.Loading.{stored-rows, read-fits, load-done}
+use Rattle.shelf.proofs.Loading.{banded-rows, read-fits, load-done}
 
 -- WRITTEN BYTES READ BACK
 module _ (s : Shelf) (good : Good s) (q : ℕ) (held : Source s q) where
   storable : Storable (rowsAt s q) (rowByRow (rowsAt s q) (factorsAt s q))
-  storable = stored-rows (rowsAt s q) (factorsAt s q) (held .some) (good .held q (held .small) .few) (good .held q (held .small) .stored)
+  storable = banded-rows (rowsAt s q) (factorsAt s q) (held .some) (good .held q (held .small) .few) (good .held q (held .small) .banded)
 
   read-back : matrixOf (bytesAt s q) ≡ matrix (rowsAt s q) (rowByRow (rowsAt s q) (factorsAt s q)) (length (bytesAt s q))
   unfolding bytesAt

@@ -29,7 +29,7 @@ abbrev pub changing : Verdict → Shelf → Shelf → Outcome
 changing v old new = outcome (after v old new) (verdictReport v)
 
 -- LOAD
--- 2 to 6: a fault in the matrix, at its offset; 7: bytes behind it
+-- 2 to 6, or 16: a fault in the matrix, at its offset; 7: bytes behind it
 abbrev pub ofReading : List ℕ → Reading → Verdict
 ofReading bytes (matrix n L q) = cond (ltb q (length bytes)) (refusedAt 7 q) Accepted
 ofReading bytes (fault k o) = refusedAt k o

@@ -1,11 +1,14 @@
 -- Document 01's marked examples, P1 to P12, as rows of one table (`markedTable`): P1 to P4 of the arithmetic beneath the calls, the others as calls on a shelf,
--- with what is returned and what is then held.
+-- with what is returned and what is then held. Worked examples of places with zeros (`bandedTable`).
 use Prim.Native.Nat.{ℕ, _+_, _-_, _^_}
+use mathlib.Core.Bool.{cond}
 use mathlib.Core.List.{List, [], _∷_, _++_}
+use lib.Dec.{ltb}
 use lib.IntN.{pos, negsuc}
 use Rattle.number.specs.declared.Number.{Number}
-use Rattle.number.specs.Number.{oneNumber, sumOf, productOf}
+use Rattle.number.specs.Number.{zeroNumber, oneNumber, sumOf, productOf}
 use Rattle.number.specs.Examples.{Row, row, up, down}
+use Rattle.words.specs.Word.{Factors}
 use Rattle.words.specs.Operation.{rowByRow}
 use Rattle.words.specs.Examples.{ones, higher, half, threeHalves, two, fiveHalves, three, large}
 use Rattle.items.specs.Examples.{plusOneItem, minusOneItem, zeroItem}
@@ -14,7 +17,7 @@ use Rattle.verdict.specs.Report.{accepted, refused}
 use Rattle.places.specs.declared.Shelf.{Shelf}
 use Rattle.places.specs.Shelf.{factorsAt, holding, emptyShelf}
 use Rattle.places.specs.Outcome.{Outcome}
-use Rattle.shelf.specs.Run.{product, inverse, converse, submatrix, minor, carry, run}
+use Rattle.shelf.specs.Run.{load, write, product, inverse, converse, submatrix, minor, carry, run}
 
 -- place 0 holds n rows with all factors one
 abbrev onesOf : ℕ → Shelf
@@ -52,4 +55,34 @@ markedTable =
     ∷ row (run (singles large) (inverse 0 7) .report) (refused 14 0)  -- its inverse
     ∷ row (run (onesOf 2) (carry 0 (plusOneItem ++ minusOneItem) lentSeven) .report) (accepted [])  -- P12: the list 1, -1
     ∷ row (run (onesOf 2) (carry 0 (plusOneItem ++ minusOneItem) lentSeven) .items) (zeroItem ++ (minusOneItem ++ (pos 7 ∷ [])))
+    ∷ []
+
+-- PLACES WITH ZEROS (document 02, (e)). One on the diagonal and beside it, zero further off: the matrix 1 1 0, 1 2 1, 0 1 2
+abbrev beside : Factors Number
+beside i j = cond (ltb 1 (i - j + (j - i))) zeroNumber oneNumber
+
+-- three rows of these at place 0
+abbrev banded : Shelf
+banded = holding emptyShelf 0 3 beside
+
+-- the bytes of one, and of these factors
+abbrev one : List ℕ
+one = 202 ∷ 7 ∷ 0 ∷ []
+
+abbrev bandedBytes : List ℕ
+bandedBytes = 3 ∷ (one ++ one ++ (0 ∷ []) ++ one ++ one ++ one ++ (0 ∷ []) ++ one ++ one)
+
+unfoldable pub bandedTable : List Row
+bandedTable =
+    row (run emptyShelf (load 0 bandedBytes) .shelf) banded  -- a zero is the single code 0
+    ∷ row (run banded (write 0 bandedBytes) .bytes) bandedBytes
+    ∷ row (run emptyShelf (load 0 (3 ∷ (one ++ (0 ∷ one)))) .report) (refused 16 5)  -- behind a zero in its row, at its exponent code
+    ∷ row (run emptyShelf (load 0 (3 ∷ 0 ∷ [])) .report) (refused 6 1)  -- a zero on the diagonal
+    ∷ row (run banded (minor 0 1 4) .report) (accepted (pos 0 ∷ pos 0 ∷ []))  -- a minor may be zero: row 1, column 3
+    ∷ row (run banded (submatrix 0 1 4 7) .report) (refused 17 0)  -- and then the submatrix is singular
+    ∷ row (held 2 (run banded (submatrix 0 3 6 7))) (oneNumber ∷ zeroNumber ∷ two ∷ oneNumber ∷ [])  -- 1 0, 2 1: a zero stays one
+    ∷ row (held 3 (run banded (inverse 0 7)))
+    (three ∷ down 2863311531 32 ∷ half ∷ down 2863311531 32 ∷ down 2863311531 32 ∷ zeroNumber ∷ half ∷ zeroNumber ∷ half ∷ [])
+    ∷ row (run banded (carry 0 (plusOneItem ++ zeroItem ++ minusOneItem) (zeroItem ++ zeroItem ++ zeroItem)) .items)
+    (plusOneItem ++ zeroItem ++ (negsuc 0 ∷ pos (2 ^ 31) ∷ negsuc 29 ∷ []))  -- 1, 0, -1 is carried to 1, 0, -2
     ∷ []

@@ -47,8 +47,8 @@ lessNumber L i k = naturalNumber (stampAt L i - stampAt L k)
 abbrev pub stampBound : ℕ
 stampBound = 11
 
--- EACH FACTOR can be stored, its exponent being in range, and is within the bound of the exact one; the exact ones are the only positive ones that multiply out
--- to the matrix of powers.
+-- EACH FACTOR can be stored, its exponent being in range and none being zero, and is within the bound of the exact one; the exact ones are the only accepted
+-- ones that multiply out to the matrix of powers.
 pub record Stamped (L : List ℕ) : Type 0 where
   pub stored : Each Stored (length L) (builtFactors L)
   pub within : (i j : ℕ) → In (length L) i → In (length L) j → Within stampBound (value (builtFactors L i j)) (exactFactors L i j)

@@ -1,7 +1,7 @@
 -- The factors of a matrix of n rows one behind the other, beside its table: out of a table (`packed-more`, `packed-all`, `packed-front`), into one
--- (`square-cell`), and the two ways undone (`square-list`, `square-factors`).
+-- (`square-cell`), which of them is number k (`square-number`), and the two ways undone (`square-list`, `square-factors`).
 use Prim.Native.Nat.{ℕ, suc, _+_, _-_, _*_, _/_, _%_, _<_, _≤_}
-use native.Mathlib.Nat.{mul-le-mul, mod-lt}
+use native.Mathlib.Nat.{mul-le-mul, mod-lt, div-add-mod'}
 use native.Mathlib.Numerals.{add-one}
 use native.Mathlib.Omega.{arith}
 use mathlib.Core.Path.{_≡_, sym, ap, ap₂, _∙_}
@@ -68,6 +68,14 @@ module _ (n : ℕ) (L : List Number) (k : ℕ) where
         let c : k % 8 + 1 - 1 ≡ k % 8 = omega arith in
         read-default L (k / 8 * n + k % 8) (omega (arith, square-cell-below))
         ∙ rw (le-leb (k / 8 + 1) n (omega arith), le-leb (k % 8 + 1) n (omega arith), r, c)
+
+-- number k, counted from 0, by its row and column
+pub square-number : (n : ℕ) (L : List Number) (k : ℕ) → squareOf n L (suc (k / n)) (suc (k % n)) ≡ getD L k zeroNumber
+unfolding squareOf
+square-number n L k =
+    let r : suc (k / n) - 1 ≡ k / n = omega arith in
+    let c : suc (k % n) - 1 ≡ k % n = omega arith in
+    rw (r, c, div-add-mod')
 
 -- THE TWO WAYS UNDONE
 pub square-list : (n : ℕ) (L : List Number) → length L ≡ n * n → rowByRow n (squareOf n L) ≡ L

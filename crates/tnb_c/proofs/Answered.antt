@@ -20,7 +20,8 @@ use Rattle.places.specs.Outcome.{Outcome}
 use Rattle.places.specs.Shelf.{rowsAt, holding, Good}
 use Rattle.places.specs.Tests.{above, empty, full, differ, unfit, targetTests, oneSource, twoSources}
 use Rattle.places.proofs.Checking.{good-tested}
-use Rattle.operations.specs.Operations.{resulting, factorTest, operationVerdict, operationCall, productAt, inverseAt, converseAt, submatrixAt, submatrixTests}
+use Rattle.operations.specs.Operations.{resulting, factorTest, operationVerdict, operationCall, productAt, inverseAt, converseAt, submatrixAt}
+use Rattle.operations.specs.Operations.{singular, chosenTests, submatrixTests}
 use Rattle.operations.specs.Operations.{buildTests, buildCall}
 use Rattle.operations.specs.Promise.{Met, Built}
 use Rattle.operations.proofs.Results.{Ready, product-ready, whole-ready, submatrix-ready, operation-met}
@@ -100,7 +101,8 @@ module _ (s : Shelf) (good : Good s) where
   unfolding run
   submatrix-answered p I J t =
       operation-answered (submatrixTests s p I J t) t _ _ (submatrix-ready s good p I J t)
-      (one-more (oneSource s p t) (unfit (rowsAt s p) I J) 7 (one-numbered s p t)) s good (submatrix p I J t) refl
+      (one-more (chosenTests s p I J t) (singular (rowsAt s p) (submatrixAt s p I J)) 16
+      (one-more (oneSource s p t) (unfit (rowsAt s p) I J) 7 (one-numbered s p t))) s good (submatrix p I J t) refl
 
   -- THE PROMISE OF A BUILD
   pub build-answered : (t : ℕ) (stamps : List ℕ) → BuiltAnswer (answerOf (checked s (build t stamps))) t stamps

@@ -1,4 +1,4 @@
--- The letters of a step's word in the code's terms: rows, factors and entries by their places (letter-pair), E and Et as moves (letter-moved, letter-stored),
+-- The letters of a step's word in the code's terms: rows, factors and entries by their places (letter-pair), E and Et as moves (letter-moved, letter-ranged),
 -- D as a scaling (letter-scaled, entries-stored).
 use mathlib.Core.Path.{_≡_, refl, sym, ap, ap₂, _∙_, subst}
 use mathlib.Core.Bool.{Bool, true, false}
@@ -7,7 +7,7 @@ use Prim.Native.Nat.{ℕ, zero, suc, _+_, _-_, _*_, _≤_, _<_}
 use native.Mathlib.Nat.{not-suc-le-zero}
 use native.Mathlib.Omega.{arith}
 use lib.ListN.{getD, length}
-use Rattle.number.specs.Number.{rounded, zeroNumber, productOf, quotientOf, Stored}
+use Rattle.number.specs.Number.{rounded, zeroNumber, productOf, quotientOf, Ranged, Stored}
 use Rattle.number.specs.declared.Number.{Number}
 use Rattle.words.specs.RowSet.{RowSet}
 use Rattle.words.specs.Word.{Letter, E, Et, D, Dinv, Word}
@@ -16,7 +16,7 @@ use Rattle.words.specs.Operation.{stepWord, joinedWord}
 use Rattle.words.specs.Walk.{State, moved, scaled, act}
 use Rattle.words.proofs.Related.{Matched, Letters}
 use Rattle.words.proofs.Alike.{Alike, alike, letters-joined}
-use Rattle.words.specs.Sources.{StoredStep}
+use Rattle.words.specs.Sources.{Walkable, Source}
 use Rattle.walk.specs.declared.Way.{Way}
 use Rattle.walk.specs.declared.letters.Move.{Move}
 use Rattle.table.specs.Table.{cellOf, factorsOf}
@@ -36,30 +36,33 @@ each-at P [] [] h t l d e = absurd (not-suc-le-zero l)
 each-at P (x ∷ U) (y ∷ X) h zero l d e = h .0
 each-at P (x ∷ U) (y ∷ X) h (suc t) l d e = each-at P U X (h .1) t (omega arith) d e
 
--- a stored factor, and the place where it stands
+-- a factor and the place where it stands: the weight of a letter E or Et, and an entry of D
 abbrev pub At : List Number → Number → ℕ → Type 0
-At b x p = (x ≡ getD b p zeroNumber) × Stored x
+At b x p = (x ≡ getD b p zeroNumber) × Ranged 1000 x
 
-module _ (n : ℕ) (way : Way) (b : List Number) (stored : StoredStep n (stepOf way b)) where
-  placed : Alike (At b) (At b) n (factorsOf b) cellOf
+abbrev pub On : List Number → Number → ℕ → Type 0
+On b x p = x ≡ getD b p zeroNumber
+
+module _ (n : ℕ) (way : Way) (b : List Number) (walkable : Source (Walkable n) (stepOf way b)) where
+  placed : Alike (At b) (On b) n (factorsOf b) cellOf
   unfolding factorsOf
-  placed = record { off = λ i j p q r t e. (refl, stored i j (p, q) (r, t)); on = λ i p q. (refl, stored i i (p, q) (p, q)) }
+  placed = record { off = λ i j p q r t e. (refl, walkable .off i j (p, q) (r, t) e); on = λ i p q. refl }
 
-  spelled : Matched (Letters (At b) (At b) n) (stepWord n (stepOf way b)) (placeWord n way)
+  spelled : Matched (Letters (At b) (On b) n) (stepWord n (stepOf way b)) (placeWord n way)
   unfolding joinedWord placeWord
-  spelled = letters-joined (At b) (At b) n (stepOf way b ∷ []) (words.step (wayOf way) cellOf ∷ []) (alike placed, tt)
+  spelled = letters-joined (At b) (On b) n (stepOf way b ∷ []) (words.step (wayOf way) cellOf ∷ []) (alike placed, tt)
 
   module _ (ln : 1 ≤ n) (hn : n ≤ 8) where
     pub step-length : length (stepWord n (stepOf way b)) ≡ 2 * middle n + 1
     step-length = each-length _ (stepWord n (stepOf way b)) (placeWord n way) spelled ∙ word-length n way ln hn
 
-    pub letter-pair : (t : ℕ) → t < 2 * middle n + 1 → Letters (At b) (At b) n (letterAt n way b t) (getD (placeWord n way) t (D (λ i. 0)))
+    pub letter-pair : (t : ℕ) → t < 2 * middle n + 1 → Letters (At b) (On b) n (letterAt n way b t) (getD (placeWord n way) t (D (λ i. 0)))
     unfolding letterAt
     letter-pair t l = each-at _ (stepWord n (stepOf way b)) (placeWord n way) spelled t (omega (arith, word-length n way ln hn)) _ _
 
 module _ (n : ℕ) (b : List Number) (ω : State rounded) where
   -- E AND Et
-  pub act-move : (y : Letter ℕ) (x : Letter Number) → Letters (At b) (At b) n x y → IsMove y
+  pub act-move : (y : Letter ℕ) (x : Letter Number) → Letters (At b) (On b) n x y → IsMove y
       → act rounded x ω ≡ moved rounded (moveOf y .to) (moveOf y .from) (getD b (moveOf y .at) zeroNumber) ω
   unfolding act
   act-move (E i p) (E j w) h m = ap₂ (λ (k : ℕ) (v : Number). moved rounded k (k - 1) v ω) (h .0) (h .1 .0)
@@ -70,11 +73,11 @@ module _ (n : ℕ) (b : List Number) (ω : State rounded) where
     abbrev entries : ℕ → Number
     entries = entriesOf n (backwards way) b
 
-    entry-is : (e : ℕ → Number) (f : ℕ → ℕ) → ((i : ℕ) → 1 ≤ i → i ≤ n → At b (e i) (f i)) → EntriesAt n way f → (i : ℕ) → 1 ≤ i → i ≤ n → e i ≡ entries i
+    entry-is : (e : ℕ → Number) (f : ℕ → ℕ) → ((i : ℕ) → 1 ≤ i → i ≤ n → On b (e i) (f i)) → EntriesAt n way f → (i : ℕ) → 1 ≤ i → i ≤ n → e i ≡ entries i
     unfolding entriesOf
-    entry-is e f h g i l u = h i l u .0 ∙ ap (λ (p : ℕ). getD b p zeroNumber) (g i l u)
+    entry-is e f h g i l u = h i l u ∙ ap (λ (p : ℕ). getD b p zeroNumber) (g i l u)
 
-    pub act-diagonal : (y : Letter ℕ) (x : Letter Number) → Letters (At b) (At b) n x y → IsDiagonal n way y → (S : RowSet) → length S ≡ n
+    pub act-diagonal : (y : Letter ℕ) (x : Letter Number) → Letters (At b) (On b) n x y → IsDiagonal n way y → (S : RowSet) → length S ≡ n
         → act rounded x ω S ≡ scaled rounded (scaling (divides way)) entries S (ω S)
     unfolding act
     act-diagonal (D f) (D e) h g S z =
@@ -84,39 +87,40 @@ module _ (n : ℕ) (b : List Number) (ω : State rounded) where
         scaled-entries quotientOf e entries S (ω S) (λ i l u. entry-is e f h (g .1) i l (omega (arith, z)))
         ∙ ap (λ (c : Bool). scaled rounded (scaling c) entries S (ω S)) (sym (g .0))
 
--- the factor of a move is stored
-pub move-stored : (n : ℕ) (b : List Number) (y : Letter ℕ) (x : Letter Number) → Letters (At b) (At b) n x y → IsMove y
-    → Stored (getD b (moveOf y .at) zeroNumber)
-move-stored n b (E i p) (E j w) h m = subst Stored (h .1 .0) (h .1 .1)
-move-stored n b (Et i p) (Et j w) h m = subst Stored (h .1 .0) (h .1 .1)
+-- the factor of a move is stored or zero
+pub move-ranged : (n : ℕ) (b : List Number) (y : Letter ℕ) (x : Letter Number) → Letters (At b) (On b) n x y → IsMove y
+    → Ranged 1000 (getD b (moveOf y .at) zeroNumber)
+move-ranged n b (E i p) (E j w) h m = subst (Ranged 1000) (h .1 .0) (h .1 .1)
+move-ranged n b (Et i p) (Et j w) h m = subst (Ranged 1000) (h .1 .0) (h .1 .1)
 
 -- LETTER t OF A STEP
-module _ (n : ℕ) (way : Way) (b : List Number) (stored : StoredStep n (stepOf way b)) (ln : 1 ≤ n) (hn : n ≤ 8) (t : ℕ) (l : t < 2 * middle n + 1) where
+module _ (n : ℕ) (way : Way) (b : List Number) (walkable : Source (Walkable n) (stepOf way b)) (ln : 1 ≤ n) (hn : n ≤ 8) (t : ℕ)
+    (l : t < 2 * middle n + 1) where
   module _ (e : t ≡ middle n → ⊥) (m : Move) (q : m ≡ moveAt n way t) (w : Number) (f : w ≡ getD b (m .at) zeroNumber) where
     pub letter-moved : (ω : State rounded) → act rounded (letterAt n way b t) ω ≡ moved rounded (m .to) (m .from) w ω
     unfolding moveAt
     letter-moved ω =
-        act-move n b ω _ (letterAt n way b t) (letter-pair n way b stored ln hn t l) (letter-move n way ln hn t l e)
+        act-move n b ω _ (letterAt n way b t) (letter-pair n way b walkable ln hn t l) (letter-move n way ln hn t l e)
         ∙ ap (λ (x : Move). moved rounded (x .to) (x .from) (getD b (x .at) zeroNumber) ω) (sym q)
         ∙ ap (λ (x : Number). moved rounded (m .to) (m .from) x ω) (sym f)
 
-    pub letter-stored : Stored w
+    pub letter-ranged : Ranged 1000 w
     unfolding moveAt
-    letter-stored =
-        subst Stored (ap (λ (x : Move). getD b (x .at) zeroNumber) (sym q) ∙ sym f)
-        (move-stored n b _ (letterAt n way b t) (letter-pair n way b stored ln hn t l) (letter-move n way ln hn t l e))
+    letter-ranged =
+        subst (Ranged 1000) (ap (λ (x : Move). getD b (x .at) zeroNumber) (sym q) ∙ sym f)
+        (move-ranged n b _ (letterAt n way b t) (letter-pair n way b walkable ln hn t l) (letter-move n way ln hn t l e))
 
   pub letter-scaled : (k : ℕ) → t ≡ middle n → (ω : State rounded)
       → Agree n k (diagonalOf n way b ω) (act rounded (letterAt n way b t) ω)
   letter-scaled k e ω =
-      let p = letter-pair n way b stored ln hn t l in
+      let p = letter-pair n way b walkable ln hn t l in
       record { same = λ S z c. sym (act-diagonal n b ω way _ (letterAt n way b t) p (letter-diagonal n way ln hn t l e) S z) }
 
--- the entries of D are stored where the factors are
-pub entries-stored : (n : ℕ) (way : Way) (b : List Number) → StoredStep n (stepOf way b) → StoredEntries n (entriesOf n (backwards way) b)
+-- the entries of D are stored
+pub entries-stored : (n : ℕ) (way : Way) (b : List Number) → Source (Walkable n) (stepOf way b) → StoredEntries n (entriesOf n (backwards way) b)
 unfolding factorsOf entriesOf
 entries-stored n way b s = record { stored = by (backwards way) }
   where
     by : (x : Bool) (i : ℕ) → 1 ≤ i → i ≤ n → Stored (getD b (entryPlace n x i) zeroNumber)
-    by true i h l = s (n + 1 - i) (n + 1 - i) (omega arith, omega arith) (omega arith, omega arith)
-    by false i h l = s i i (h, l) (h, l)
+    by true i h l = s .on (n + 1 - i) (omega arith, omega arith)
+    by false i h l = s .on i (h, l)

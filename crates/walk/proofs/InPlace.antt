@@ -9,7 +9,7 @@ use Prim.Native.Nat.{ℕ, _+_, _-_, _^_, _≤_, _<_}
 use native.Mathlib.Omega.{arith}
 use lib.ListN.{getD, set, length}
 use lib.Pow.{pow-mono}
-use Rattle.number.specs.Number.{rounded, sumOf, productOf, Ranged, Stored, reach}
+use Rattle.number.specs.Number.{rounded, sumOf, productOf, Ranged, reach}
 use Rattle.number.specs.Packed.{packOf, unpackOf}
 use Rattle.number.specs.declared.Number.{Number}
 use Rattle.number.proofs.Words.{unpack-pack}
@@ -43,7 +43,7 @@ pub record AtSet (n k a o : ℕ) (w : Number) (u₀ u : List ℕ) (p m j : ℕ) 
   pub read : j ≡ positionOf (changedOf o a m)
   pub low : j < 70
   pub working : Working letterReach n k (stateOf (numbersOf u₀))
-  pub stored : Stored w
+  pub weight : Ranged 1000 w
 
 module _ {n k a o : ℕ} {w : Number} {u₀ u : List ℕ} {p m j : ℕ} (A : AtSet n k a o w u₀ u p m j) where
   small : m < 64
@@ -76,7 +76,7 @@ module _ {n k a o : ℕ} {w : Number} {u₀ u : List ℕ} {p m j : ℕ} (A : AtS
         × Ranged reach (productOf w (getD (numbersOf u) j absent))
     ready =
         move-ready n k a o w (numbersOf u₀) (A .rows) (A .few) (A .some) changed (A .count) (A .swept)
-        i (changedOf o a m) j ei replaced (A .read) (A .working) (A .stored)
+        i (changedOf o a m) j ei replaced (A .read) (A .working) (A .weight)
 
     pub step-ready : Ranged reach (unpackOf (getD u i 0)) × Ranged reach w × Ranged reach (unpackOf (getD u j 0))
         × Ranged reach (productOf w (unpackOf (getD u j 0)))

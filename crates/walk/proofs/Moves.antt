@@ -6,10 +6,10 @@ use mathlib.Core.List.{List}
 use Prim.Native.Nat.{ℕ, _+_, _-_, _^_, _≤_, _<_, min}
 use native.Mathlib.Omega.{arith}
 use lib.ListN.{getD, set}
-use Rattle.number.specs.Number.{rounded, sumOf, productOf, Ranged, Stored, reach}
+use Rattle.number.specs.Number.{rounded, sumOf, productOf, Ranged, reach}
 use Rattle.number.specs.declared.Direction.the-variants.{Nearest}
 use Rattle.number.specs.declared.Number.{Number}
-use Rattle.number.proofs.Reach.{ranged-more, ranged-stored, ranged-product}
+use Rattle.number.proofs.Reach.{ranged-more, ranged-product}
 use Rattle.rowset.specs.Mask.{maskMoves, maskReplaced, maskCount, countBelow, positionOf}
 use Rattle.rowset.proofs.Masks.{mask-moves, mask-replaced, replaced-below}
 use Rattle.rowset.proofs.Moved.{replaced-count, replaced-stays}
@@ -28,12 +28,12 @@ use Rattle.walk.proofs.Sweep.{Swept, below-256, swept-next, swept-all}
 abbrev Ready : Number → Number → Number → Type 0
 Ready x w y = Ranged reach x × Ranged reach w × Ranged reach y × Ranged reach (productOf w y)
 
-move-reach : {x w y : Number} → Ranged letterReach x → Stored w → Ranged letterReach y → Ready x w y
+move-reach : {x w y : Number} → Ranged letterReach x → Ranged 1000 w → Ranged letterReach y → Ready x w y
 move-reach x w y = (
   ranged-more (omega arith) x,
-  ranged-more (omega arith) (ranged-stored w),
+  ranged-more (omega arith) w,
   ranged-more (omega arith) y,
-  ranged-more (omega arith) (ranged-product Nearest (ranged-stored w) y (omega arith)),
+  ranged-more (omega arith) (ranged-product Nearest w y (omega arith)),
 )
 
 module _ (n k a o : ℕ) (w : Number) (v : List Number) where
@@ -122,7 +122,7 @@ module _ (n k a o : ℕ) (w : Number) (v : List Number) where
             unfolding heldAt
             there = ap (λ (x : ℕ). getD u x absent) (ej ∙ ap positionOf el) ∙ read-old
 
-            pub move-ready : Working letterReach n k (stateOf v) → Stored w → Ready (getD u i absent) w (getD u j absent)
+            pub move-ready : Working letterReach n k (stateOf v) → Ranged 1000 w → Ready (getD u i absent) w (getD u j absent)
             move-ready r t =
                 move-reach (subst (Ranged letterReach) (sym here) (held-working v ln r s changed-lt (C .rows))) t
                 (subst (Ranged letterReach) (sym there) (held-working v ln r (maskReplaced a o s) read-lt read-rows))

@@ -23,8 +23,8 @@ use Rattle.words.proofs.Walks.{Rows, All, all-behind}
 use Rattle.words.proofs.Related.{total, letterCost}
 use Rattle.words.proofs.Counts.{total-append, joined-square}
 use Rattle.words.proofs.Steps.{Weights, step-rows, step-weights}
-use Rattle.words.specs.Sources.{StoredStep}
-use Rattle.words.proofs.Exponents.{step-walkable, state-ranged}
+use Rattle.words.specs.Sources.{Walkable, Source}
+use Rattle.words.proofs.Exponents.{state-ranged}
 use Rattle.walk.specs.Held.{Agree, Working, stepReach, letterReach}
 use Rattle.walk.proofs.Held.{agree-refl, agree-trans, working-agree, act-agree}
 
@@ -52,7 +52,7 @@ module _ (k : ℕ) (ω : State rounded) where
       by false t = ranged-zero r
 
 -- THE LETTERS W OF A STEP'S WORD applied, U not yet: each of its n² letters and entries takes the exponents 1035 further at most
-module _ (n k : ℕ) (s : words.Step Number) (stored : StoredStep n s) (some : 1 ≤ n) (ln : n ≤ 8) where
+module _ (n k : ℕ) (s : words.Step Number) (walkable : Source (Walkable n) s) (some : 1 ≤ n) (ln : n ≤ 8) where
   part-cost : (U W : Word Number) → U ++ W ≡ stepWord n s → total (letterCost 1035 (n * 1035)) W ≤ 66240
   unfolding joinedWord
   part-cost U W e =
@@ -70,7 +70,7 @@ module _ (n k : ℕ) (s : words.Step Number) (stored : StoredStep n s) (some : 1
       (record {
         ranged = λ S z c. ranged-more (omega (arith, part-cost U W e))
             (state-ranged n W (all-behind (Weights (Ranged 1000) Stored n) U W
-            (subst (All (Weights (Ranged 1000) Stored n)) (sym e) (step-weights (Ranged 1000) Stored n s (step-walkable n s stored))))
+            (subst (All (Weights (Ranged 1000) Stored n)) (sym e) (step-weights (Ranged 1000) Stored n s walkable)))
             stepReach (only k ω) (only-ranged k ω stepReach n w) (omega (arith, part-cost U W e)) S z);
       })
 

@@ -10,7 +10,7 @@ ghost use Rattle.rowset.specs.Sets.{Neighbours, beginOf, Tables};
 ghost use Rattle.words.specs.RowSet.{ofMask};
 ghost use Rattle.words.specs.Walk.{moved, scaled, act, walk, minor};
 ghost use Rattle.words.specs.Operation.{stepWord, joinedWord};
-ghost use Rattle.words.specs.Sources.{StoredStep, StoredSteps};
+ghost use Rattle.words.specs.Sources.{Walkable, Source, Sources};
 ghost use Rattle.walk.specs.Letters.{middle};
 ghost use Rattle.walk.specs.Packed.{heldBy};
 ghost use Rattle.walk.specs.Held.{Agree, Working, letterReach, stepReach, scaledReach};
@@ -61,7 +61,7 @@ fn moved(
 )
     requires { ⌜ (1 ≤ k) × (k ≤ n) × (n ≤ 8) × Neighbours n a o ⌝ }
     requires { ⌜ (begin ≡ beginOf (k - 1)) × (many ≡ countBelow (k - 1) (2 ^ (n - 2))) × (many < 71) ⌝ }
-    requires { ⌜ Working letterReach n k (heldBy (now u)) × Stored w ⌝ }
+    requires { ⌜ Working letterReach n k (heldBy (now u)) × Ranged 1000 w ⌝ }
     requires { ⌜ (length (now u) ≡ 70) × Tables n (now tables) ⌝ }
     ensures { λ _. ⌜ Agree n k (heldBy (now (u .exit))) (moved rounded a o w (heldBy (now (u .entry)))) ⌝ }
     ensures { λ _. ⌜ length (now (u .exit)) ≡ 70 ⌝ }
@@ -193,7 +193,7 @@ fn act(
 )
     requires { ⌜ (1 ≤ k) × (k ≤ n) × (n ≤ 8) × (c < 6) × (t < 2 * middle n + 1) ⌝ }
     requires { ⌜ (begin ≡ beginOf (k - 1)) × (many ≡ countBelow (k - 1) (2 ^ (n - 2))) × (many < 71) ⌝ }
-    requires { ⌜ Working letterReach n k (heldBy (now u)) × StoredStep n (stepIn way (now factors) c) ⌝ }
+    requires { ⌜ Working letterReach n k (heldBy (now u)) × Source (Walkable n) (stepIn way (now factors) c) ⌝ }
     requires { ⌜ (length (now u) ≡ 70) × Tables n (now tables) × Spelled n way c (now letters) ⌝ }
     ensures { λ _. ⌜ Agree n k (heldBy (now (u .exit))) (act rounded (letterAt n way (tableIn (now (factors .entry)) c) t) (heldBy (now (u .entry)))) ⌝ }
     ensures { λ _. ⌜ length (now (u .exit)) ≡ 70 ⌝ }
@@ -222,7 +222,7 @@ fn walked(
 )
     requires { ⌜ (1 ≤ k) × (k ≤ n) × (n ≤ 8) × (c < 6) ⌝ }
     requires { ⌜ (begin ≡ beginOf (k - 1)) × (many ≡ countBelow (k - 1) (2 ^ (n - 2))) × (many < 71) ⌝ }
-    requires { ⌜ Working stepReach n k (heldBy (now u)) × StoredStep n (stepIn way (now factors) c) ⌝ }
+    requires { ⌜ Working stepReach n k (heldBy (now u)) × Source (Walkable n) (stepIn way (now factors) c) ⌝ }
     requires { ⌜ (length (now u) ≡ 70) × Tables n (now tables) × Spelled n way c (now letters) ⌝ }
     ensures { λ _. ⌜ Agree n k (heldBy (now (u .exit))) (walk rounded (stepWord n (stepIn way (now (factors .entry)) c)) (heldBy (now (u .entry)))) ⌝ }
     ensures { λ _. ⌜ length (now (u .exit)) ≡ 70 ⌝ }
@@ -271,7 +271,7 @@ impl Joined {
     ) -> Number
         requires { ⌜ (1 ≤ self .n) × (self .n ≤ 8) × (self .count ≤ 6) ⌝ }
         requires { ⌜ (i < 2 ^ self .n) × (j < 2 ^ self .n) × (maskCount i ≡ maskCount j) ⌝ }
-        requires { ⌜ StoredSteps (self .n) (stepsOf self (now factors)) ⌝ }
+        requires { ⌜ Sources (Walkable (self .n)) (stepsOf self (now factors)) ⌝ }
         requires { ⌜ Tables (self .n) (now tables) × AllSpelled self (now letters) ⌝ }
         ensures { λ r. ⌜ r ≡ minor rounded (joinedWord (self .n) (stepsOf self (now (factors .entry)))) (ofMask (self .n) i) (ofMask (self .n) j) ⌝ }
     {

@@ -84,3 +84,10 @@ among-all zero [] e = refl
 among-all zero (x ∷ I) e = absurd (omega arith)
 among-all (suc n) [] e = absurd (omega arith)
 among-all (suc n) (x ∷ I) e = ap (λ P. among P (x ∷ I)) (rows-last n 1 (omega arith)) ∙ ap (λ S. x ∷ S) (among-all n I (omega arith))
+
+-- all of the chosen rows
+pub among-whole : (P : RowSet) → among P (rows (count P) 1 (count P)) ≡ P
+unfolding among rows count
+among-whole [] = refl
+among-whole (true ∷ P) = ap (among (true ∷ P)) (rows-last (count P) 1 (omega arith)) ∙ ap (λ S. true ∷ S) (among-whole P)
+among-whole (false ∷ P) = ap (λ S. false ∷ S) (among-whole P)

@@ -1,5 +1,5 @@
--- The worked examples hold (rule-examples), and so do the tables of bounds (bound-examples), by computing; the bounds are the paper's formulas (product-bound,
--- source-bound).
+-- The worked examples hold (rule-examples, zero-examples), and so do the tables of bounds (bound-examples), by computing; the bounds are the paper's formulas
+-- (product-bound, source-bound).
 use mathlib.Core.Path.{_≡_, refl}
 use Prim.Native.Nat.{ℕ, _+_, _-_, _*_}
 use native.Mathlib.Omega.{arith}
@@ -7,18 +7,24 @@ use lib.Ieee.{size}
 use Rattle.number.specs.Examples.{AllHold}
 use Rattle.number.specs.Number.{roundBy, renormalised, sumBy, productBy, quotientBy, inRange}
 use Rattle.number.specs.Signed.{signedRound, signedSum, withSign, signedProduct}
-use Rattle.words.specs.RowSet.{has, put, count, equal, rows, ofMask, among}
+use Rattle.words.specs.RowSet.{has, put, count, allBefore, equal, rows, ofMask, among}
+use Rattle.words.specs.Latest.{some, latest}
 use Rattle.words.specs.Word.{ascending, descending, word, inverseWord, converseWord}
 use Rattle.words.specs.Walk.{oneAt, moved, scaled, act, walk, minor, carryLetter, carry}
-use Rattle.words.specs.Formula.{onDiagonal, belowDiagonal, newFactor}
+use Rattle.words.specs.Formula.{latestBefore, onDiagonal, belowDiagonal, bandedBelow, factorsBy}
 use Rattle.words.specs.Operation.{joinedWord, boundOf, rowByRow, result}
-use Rattle.words.specs.Examples.{ruleTable, boundTable}
+use Rattle.words.specs.Examples.{ruleTable, zeroTable, boundTable}
 
 pub rule-examples : AllHold ruleTable
-unfolding ruleTable has put count equal rows ofMask among ascending descending word inverseWord converseWord joinedWord oneAt moved scaled act walk minor
-    carryLetter carry onDiagonal belowDiagonal newFactor result rowByRow roundBy renormalised sumBy productBy quotientBy signedRound signedSum withSign
-    signedProduct inRange size lib.Ieee.span lib.Ieee.climb mathlib.Core.Bool.xor
+unfolding ruleTable has put count allBefore equal rows ofMask among ascending descending word inverseWord converseWord joinedWord oneAt moved scaled act walk
+    minor carryLetter carry some latest latestBefore onDiagonal belowDiagonal bandedBelow factorsBy result rowByRow roundBy renormalised sumBy productBy
+    quotientBy signedRound signedSum withSign signedProduct inRange size lib.Ieee.span lib.Ieee.climb mathlib.Core.Bool.xor
 rule-examples = (refl, (refl, (refl, (refl, (refl, (refl, (refl, (refl, (refl, (refl, (refl, tt)))))))))))
+
+pub zero-examples : AllHold zeroTable
+unfolding zeroTable has put count allBefore equal rows ofMask ascending descending word oneAt moved scaled act walk minor some latest latestBefore onDiagonal
+    belowDiagonal bandedBelow factorsBy rowByRow roundBy renormalised sumBy productBy quotientBy size lib.Ieee.span lib.Ieee.climb
+zero-examples = (refl, (refl, (refl, tt)))
 
 pub bound-examples : AllHold boundTable
 unfolding boundTable ascending

@@ -1,7 +1,7 @@
 -- HOW FAR THE EXPONENTS OF A RUN REACH, where the sources' factors off the diagonal have exponents from -1000 to 1000 or are zero, and those on it are stored
--- (Walkable; stored sources are so, steps-walkable): every number at hand while the letters of a joined word are applied (walk-ranged), and while the
--- entries of D are (multiplied-ranged, divided-ranged), the products of two minors (product-ranged) and the new factors (quotient-ranged, ratio-ranged).
--- Six sources of eight rows stay within what the operations of numbers take (run-reach).
+-- (Walkable): every number at hand while the letters of a joined word are applied (walk-ranged), and while the entries of D are (multiplied-ranged,
+-- divided-ranged), the products of two minors (product-ranged) and the new factors (quotient-ranged, ratio-ranged). Six sources of eight rows stay within what
+-- the operations of numbers take (run-reach).
 use mathlib.Core.Path.{_≡_, refl, sym, ap, _∙_, subst}
 use mathlib.Core.Bool.{Bool, true, false, cond}
 use mathlib.Core.List.{List, _++_}
@@ -14,28 +14,15 @@ use Rattle.number.specs.declared.Number.{Number}
 use Rattle.number.specs.Number.{bias, reach, zeroNumber, oneNumber, productOf, quotientOf, rounded, Ranged, Stored}
 use Rattle.number.proofs.Reach.{ranged-more, ranged-zero, ranged-one, ranged-stored, ranged-sum, ranged-product, ranged-quotient}
 use Rattle.words.specs.RowSet.{In, RowSet, equal}
-use Rattle.words.specs.Word.{Factors, Word}
+use Rattle.words.specs.Word.{Word}
 use Rattle.words.specs.Walk.{State, oneAt, scaled, walk}
 use Rattle.words.specs.Operation.{Step, joinedWord}
 use Rattle.words.proofs.Walks.{All, all-behind}
-use Rattle.words.specs.Sources.{Each, Weighted, Source, Sources, StoredStep, StoredSteps, runReach}
-use Rattle.words.proofs.Steps.{Weights, each-weighted, source-weaken, sources-weaken, joined-weights}
+use Rattle.words.specs.Sources.{Sources, Walkable, runReach}
+use Rattle.words.proofs.Steps.{Weights, joined-weights}
 use Rattle.words.proofs.Related.{Related, repeated, total, letterCost, scaled-related, after, repeated-measure, after-measure, walk-related}
 use Rattle.words.proofs.Alike.{letters-self}
 use Rattle.words.proofs.Counts.{total-append, joined-square}
-
--- WHAT A WALK ASKS of sources
-abbrev pub Walkable : ℕ → Factors Number → Type 0
-Walkable n = Weighted (Ranged 1000) Stored n
-
-pub stored-walkable : (n : ℕ) (b : Factors Number) → Each Stored n b → Walkable n b
-stored-walkable = each-weighted Stored (Ranged 1000) Stored (λ x s. ranged-stored s) (λ x s. s)
-
-pub step-walkable : (n : ℕ) (s : Step Number) → StoredStep n s → Source (Walkable n) s
-step-walkable n = source-weaken (Each Stored n) (Walkable n) (stored-walkable n)
-
-pub steps-walkable : (n : ℕ) (L : List (Step Number)) → StoredSteps n L → Sources (Walkable n) L
-steps-walkable n = sources-weaken (Each Stored n) (Walkable n) (stored-walkable n)
 
 -- a weight times a number, before the sum
 pub weighed-ranged : {r : ℕ} {w x : Number} → r + 1064 ≤ bias → Ranged 1000 w → Ranged r x → Ranged (r + 1033) (productOf w x)

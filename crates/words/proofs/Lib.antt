@@ -1,4 +1,5 @@
 pub mod RowSets
+pub mod Latest
 pub mod Runs
 pub mod Chosen
 pub mod Walks
@@ -6,6 +7,7 @@ pub mod Agree
 pub mod Words
 pub mod Stages
 pub mod Steps
+pub mod Banded
 pub mod Related
 pub mod Alike
 pub mod Counts

@@ -1,14 +1,14 @@
 -- Laws of row sets: the rows 1 .. n (in-under, in-top); the highest row and the rows under it (has-top, has-under, put-top, put-under, replaced-down,
 -- replaced-up);
--- lengths (length-put, length-replaced, length-rows); the rows of a run (has-rows); sets that are equal (equal-same, equal-true).
-use mathlib.Core.Path.{_≡_, refl, sym, ap, _∙_}
-use mathlib.Core.Bool.{Bool, true, false, cond, _&&_, false≢true}
+-- lengths (length-put, length-replaced, length-rows); sets that are equal (equal-same, equal-true).
+use mathlib.Core.Path.{_≡_, refl, ap, _∙_}
+use mathlib.Core.Bool.{Bool, true, false, cond, false≢true}
 use mathlib.Core.List.{[], _∷_}
 use Prim.Native.Nat.{ℕ, zero, suc, _≤_}
 use native.Mathlib.Omega.{arith}
-use lib.Dec.{eqb, leb}
+use lib.Dec.{eqb}
 use lib.ListN.{length}
-use borrow.Author.Tests.{eq-eqb, ne-eqb, leb-true, leb-false}
+use borrow.Author.Tests.{eq-eqb, ne-eqb}
 use Rattle.words.specs.RowSet.{In, RowSet, has, put, replaced, equal, rows}
 
 -- a row of n is one of n + 1, and so is the highest
@@ -65,22 +65,6 @@ pub length-rows : (n a b : ℕ) → length (rows n a b) ≡ n
 unfolding rows
 length-rows zero a b = refl
 length-rows (suc n) a b = ap suc (length-rows n a b)
-
--- the rows of a run
-pub has-rows : (n i a b : ℕ) → 1 ≤ i → i ≤ n → has i (rows n a b) ≡ leb a i && leb i b
-unfolding rows
-has-rows zero i a b p q = absurd (omega arith)
-has-rows (suc n) i a b p q = by (leb i n) refl (has-rows n i a b p)
-  where
-    by : (t : Bool) → leb i n ≡ t → (i ≤ n → has i (rows n a b) ≡ leb a i && leb i b)
-        → has i ((leb a (suc n) && leb (suc n) b) ∷ rows n a b) ≡ leb a i && leb i b
-    by true e r =
-        let h : i ≤ n = leb-true i n e in
-        has-under i _ (rows n a b) (omega (arith, length-rows n a b)) ∙ r h
-    by false e r =
-        let h : i ≡ suc n = omega (arith, leb-false i n e) in
-        let g : i ≡ suc (length (rows n a b)) = omega (arith, length-rows n a b) in
-        ap (λ k. has k ((leb a (suc n) && leb (suc n) b) ∷ rows n a b)) g ∙ has-top _ (rows n a b) ∙ ap (λ k. leb a k && leb k b) (sym h)
 
 -- sets that are one set
 pub equal-same : (S : RowSet) → equal S S ≡ true

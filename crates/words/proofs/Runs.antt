@@ -40,11 +40,6 @@ rows-beyond zero a b c h g = refl
 rows-beyond (suc n) a b c h g =
     ap₂ (λ y S. (leb a (suc n) && y) ∷ S) (le-leb (suc n) b h ∙ sym (le-leb (suc n) c g)) (rows-beyond n a b c (omega arith) (omega arith))
 
-pub rows-zero : (n b : ℕ) → rows n 0 b ≡ rows n 1 b
-unfolding rows
-rows-zero zero b = refl
-rows-zero (suc n) b = ap₂ (λ x S. (x && leb (suc n) b) ∷ S) (le-leb 0 (suc n) (omega arith) ∙ sym (le-leb 1 (suc n) (omega arith))) (rows-zero n b)
-
 -- the highest row, where it is the run's last
 pub rows-last : (n a : ℕ) → a ≤ suc n → rows (suc n) a (suc n) ≡ true ∷ rows n a n
 rows-last n a h = rows-in n a (suc n) h (omega arith) ∙ ap (λ S. true ∷ S) (rows-beyond n a (suc n) n (omega arith) (omega arith))

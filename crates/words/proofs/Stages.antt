@@ -1,5 +1,5 @@
 -- The word of factors in stages (word-stages): stage k has the letters E of the k highest rows, ascending. What holds of every letter
--- (stage-all, stages-all, word-all; word-rows), and a stage walked from the highest row down (stage-under, stage-false, stages-false).
+-- (stage-all, stages-all, word-all; word-rows), and a stage walked from the highest row down (stage-under, stage-false).
 use mathlib.Core.Path.{_≡_, refl, sym, ap, ap₂, _∙_, subst, fun-ext}
 use mathlib.Core.Bool.{Bool, false, not, _&&_}
 use mathlib.Core.List.{[], _∷_, _++_}
@@ -8,11 +8,11 @@ use native.Mathlib.Omega.{arith}
 use lib.ListN.{length}
 use Rattle.fraction.specs.Arithmetic.{Arithmetic}
 use Rattle.words.specs.RowSet.{RowSet, has}
-use Rattle.words.specs.Word.{Factors, Letter, E, Et, D, Dinv, Word, ascending, descending, forUp, forDown, word, exchanged}
+use Rattle.words.specs.Word.{Factors, Letter, E, Et, D, Word, ascending, descending, forUp, forDown, word, exchanged, transposedLetter, transposedWord}
 use Rattle.words.specs.Walk.{State, moved, movedIf, act, walk}
 use Rattle.words.proofs.RowSets.{has-top}
 use Rattle.words.proofs.Walks.{Rows, All, all-append, under, moved-under, walk-append}
-use Rattle.words.proofs.Words.{ascending-last, transposedLetter, transposedWord, transposed-ascending, transposed-all}
+use Rattle.words.proofs.Words.{ascending-last, transposed-ascending, transposed-all}
 use Rattle.words.proofs.Agree.{Agree, Under, walk-agree, walk-under}
 
 module _ {A : Type 0} where
@@ -115,19 +115,6 @@ module _ {A : Type 0} where
       subst (All P) (sym (word-stages n b)) (all-append P (stages n 1 (n - 1) b) _ (stages-all P n 1 (n - 1) b (omega arith) f)
       (d, transposed-stages-all P n 1 (n - 1) (exchanged b) (omega arith) g))
 
-  -- letters E j alone, with a < j and j ≤ n
-  abbrev pub Raises : ℕ → ℕ → Letter A → Type 0
-  Raises a n (E j w) = (a < j) × (j ≤ n)
-  Raises a n (Et j w) = ⊥
-  Raises a n (D e) = ⊥
-  Raises a n (Dinv e) = ⊥
-
-  pub stage-raises : (n k : ℕ) (b : Factors A) → All (Raises (n - k) n) (stage n k b)
-  stage-raises n k b = stage-all (Raises (n - k) n) n k b (λ i j e p o q. (omega arith, q))
-
-  pub stages-raises : (n k m : ℕ) (b : Factors A) → m ≤ n - k → All (Raises 1 n) (stages n k m b)
-  stages-raises n k m b h = stages-all (Raises 1 n) n k m b h (λ i j p q r. (omega arith, r))
-
   pub stage-rows : (n k : ℕ) (b : Factors A) → k < n → All (Rows n) (stage n k b)
   stage-rows n k b h = stage-all (Rows n) n k b (λ i j e p o q. (omega arith, q))
 
@@ -163,13 +150,3 @@ module _ (K : Arithmetic) where
   pub stage-false : (n k : ℕ) (b : Factors Num) (ω : State K) (S : RowSet) → length S ≡ n
       → walk K (stage (suc n) (suc k) b) ω (false ∷ S) ≡ walk K (stage n k b) (under false ω) S
   stage-false n k b ω S s = stage-under n k b ω false S s ∙ walk-agree K n (stage n k b) _ _ (raise-false n (b (suc n) (suc k)) ω) S s
-
-  pub stages-false : (n k m : ℕ) (b : Factors Num) (ω : State K) (S : RowSet) → length S ≡ n
-      → walk K (stages (suc n) (suc k) m b) ω (false ∷ S) ≡ walk K (stages n k m b) (under false ω) S
-  unfolding stages walk
-  stages-false n k zero b ω S s = refl
-  stages-false n k (suc m) b ω S s =
-      ap (λ η. η (false ∷ S)) (walk-append K (stage (suc n) (suc k) b) (stages (suc n) (suc (suc k)) m b) ω)
-      ∙ stage-false n k b (walk K (stages (suc n) (suc (suc k)) m b) ω) S s
-      ∙ walk-agree K n (stage n k b) _ _ (stages-false n (suc k) m b ω) S s
-      ∙ sym (ap (λ η. η S) (walk-append K (stage n k b) (stages n (suc k) m b) (under false ω)))

@@ -1,11 +1,11 @@
--- Laws of words: loops (ascending-last); the transposed word, reversed with E and Et exchanged (transposedWord, transposed-append, transposed-transposed,
--- transposed-ascending);
--- and what holds of every letter (all-map, transposed-all, inverse-all, converse-all).
+-- Laws of words: loops (ascending-last); the transposed word (transposed-append, transposed-transposed, transposed-ascending); and what holds of every letter
+-- (transposed-all, inverse-all, converse-all).
 use mathlib.Core.Path.{_≡_, refl, sym, ap, ap₂, _∙_}
 use mathlib.Core.List.{List, [], _∷_, _++_, append-nil, append-assoc}
 use Prim.Native.Nat.{ℕ, zero, suc, _+_, _-_}
 use native.Mathlib.Omega.{arith}
 use Rattle.words.specs.Word.{Letter, E, Et, D, Dinv, Word, ascending, descending, inverseLetter, inverseWord, converseLetter, converseWord}
+use Rattle.words.specs.Word.{transposedLetter, transposedWord}
 use Rattle.words.proofs.Walks.{Rows, All, all-append}
 
 module _ {A : Type 0} where
@@ -18,16 +18,6 @@ module _ {A : Type 0} where
       ∙ ap (λ k. f a ++ ascending (suc a) c f ++ f k) e
 
 module _ {A : Type 0} where
-  abbrev pub transposedLetter : Letter A → Letter A
-  transposedLetter (E j w) = Et j w
-  transposedLetter (Et j w) = E j w
-  transposedLetter (D e) = D e
-  transposedLetter (Dinv e) = Dinv e
-
-  unfoldable pub transposedWord : Word A → Word A
-  transposedWord [] = []
-  transposedWord (l ∷ W) = transposedWord W ++ (transposedLetter l ∷ [])
-
   pub transposed-append : (U W : Word A) → transposedWord (U ++ W) ≡ transposedWord W ++ transposedWord U
   unfolding transposedWord
   transposed-append [] W = sym (append-nil (transposedWord W))
@@ -58,10 +48,6 @@ module _ {A : Type 0} where
 
 -- EVERY LETTER: from a property P to a property Q
 module _ {A : Type 0} (P Q : Letter A → Type 0) where
-  pub all-map : ((l : Letter A) → P l → Q l) → (W : Word A) → All P W → All Q W
-  all-map f [] h = tt
-  all-map f (l ∷ W) h = (f l (h .0), all-map f W (h .1))
-
   pub transposed-all : ((l : Letter A) → P l → Q (transposedLetter l)) → (W : Word A) → All P W → All Q (transposedWord W)
   unfolding transposedWord
   transposed-all f [] h = tt

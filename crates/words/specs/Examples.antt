@@ -1,18 +1,18 @@
--- Worked examples of words, walks and formulas (ruleTable), and document 01's two tables of bounds (boundTable). Its marked examples P1 to P12 are one table of
--- calls in crate shelf;
--- the rows here hold the definitions of this crate to the same values.
-use mathlib.Core.Bool.{true, false, cond}
+-- Worked examples of words, walks and formulas (ruleTable), of a source with zeros (zeroTable), and document 01's two tables of bounds (boundTable). Its marked
+-- examples P1 to P12 are one table of calls in crate shelf; the rows here hold the definitions of this crate to the same values.
+use mathlib.Core.Bool.{true, false, cond, _&&_}
 use mathlib.Core.List.{List, [], _∷_}
 use Prim.Native.Nat.{ℕ, _*_, _^_}
 use lib.Dec.{eqb, ltb}
 use Rattle.number.specs.declared.Number.{Number}
-use Rattle.number.specs.Number.{oneNumber, rounded, inRange}
+use Rattle.number.specs.Number.{zeroNumber, oneNumber, rounded, inRange}
 use Rattle.number.specs.declared.signed.Signed.{Signed}
 use Rattle.number.specs.Signed.{plain, zeroSigned, signedArithmetic}
 use Rattle.number.specs.Examples.{Row, row, up, down}
 use Rattle.words.specs.RowSet.{ofMask}
 use Rattle.words.specs.Word.{Factors, word, forUp}
 use Rattle.words.specs.Walk.{minor, carry}
+use Rattle.words.specs.Formula.{latestBefore, newFactor}
 use Rattle.words.specs.Operation.{Operation, product, inverse, converse, submatrix, size, bound, rowByRow, result}
 
 -- the source whose factors are all one
@@ -30,6 +30,10 @@ cornerOf b = submatrix b (ofMask 3 6) (ofMask 3 3)
 -- the operation's factors, row by row
 abbrev factorsOf : ℕ → Operation Number → List Number
 factorsOf n o = rowByRow (size n o) (result rounded n o)
+
+-- four rows of ones but for two zeros, at (3, 2) and (4, 2)
+abbrev pub twoZeros : Factors Number
+twoZeros i j = cond (eqb j 2 && ltb 2 i) zeroNumber oneNumber
 
 -- 1/2, 3/2, 2, 5/2, 3 and 5
 abbrev pub half : Number
@@ -75,6 +79,14 @@ ruleTable =
     ∷ row (inRange (result rounded 1 (inverse (λ i j. large)) 1 1)) false  -- its inverse
     ∷ row (forUp 1 2 (λ i. carry signedArithmetic (word 2 (λ i j. signedOne)) (λ i. cond (eqb i 1) signedOne minusOne) i ∷ []))
     (zeroSigned ∷ minusOne ∷ [])  -- the list 1, -1
+    ∷ []
+
+-- with zeros: R is found for each row by itself, and the factors of a word's own minors are those of the word
+unfoldable pub zeroTable : List Row
+zeroTable =
+    row (latestBefore rounded 4 (minor rounded (word 4 twoZeros)) 4 3) (ofMask 4 5)  -- rows 1 and 3: M(2, 3 | 1, 2) is zero
+    ∷ row (latestBefore rounded 4 (minor rounded (word 4 twoZeros)) 3 3) (ofMask 4 3)  -- rows 1 and 2
+    ∷ row (rowByRow 4 (newFactor rounded 4 (minor rounded (word 4 twoZeros)))) (rowByRow 4 twoZeros)
     ∷ []
 
 -- the bounds returned for n = 1 to 8: of a product, and of one source

@@ -1,4 +1,5 @@
 pub mod RowSet
+pub mod Latest
 pub mod Word
 pub mod Walk
 pub mod Formula

@@ -8,7 +8,7 @@ use Rattle.fraction.specs.Arithmetic.{Arithmetic}
 use Rattle.words.specs.RowSet.{RowSet, count, among}
 use Rattle.words.specs.Word.{Factors, Word, word, inverseWord, converseWord, exchanged, forUp}
 use Rattle.words.specs.Walk.{minor}
-use Rattle.words.specs.Formula.{justBefore, newFactor}
+use Rattle.words.specs.Formula.{newFactor}
 
 -- A source, and the way that its word is taken.
 pub data Way : Type 0 where
@@ -90,7 +90,7 @@ module _ (K : Arithmetic) where
 
   -- the operation's result: the new factors of these minors
   unfoldable pub result : ℕ → Operation Num → Factors Num
-  result n o = newFactor K (size n o) (justBefore (size n o)) (askedMinor n o)
+  result n o = newFactor K (size n o) (askedMinor n o)
 
 -- the same factors, steps and operation in other numbers
 module _ {A B : Type 0} (f : A → B) where

@@ -2,7 +2,7 @@
 use mathlib.Core.Bool.{Bool, true, false, cond, _&&_}
 use mathlib.Core.List.{List, [], _∷_, _++_}
 use Prim.Native.Nat.{ℕ, zero, suc, _-_, _/_, _%_, _^_, _≤_}
-use lib.Dec.{eqb, leb}
+use lib.Dec.{eqb, leb, ltb}
 use lib.ListN.{length, getD}
 
 -- i is one of the rows 1 .. n
@@ -31,6 +31,12 @@ unfoldable pub count : RowSet → ℕ
 count [] = zero
 count (true ∷ S) = suc (count S)
 count (false ∷ S) = count S
+
+-- all rows of S are before row i
+unfoldable pub allBefore : ℕ → RowSet → Bool
+allBefore i [] = true
+allBefore i (true ∷ S) = ltb (suc (length S)) i && allBefore i S
+allBefore i (false ∷ S) = allBefore i S
 
 -- S and T are one set
 unfoldable pub equal : RowSet → RowSet → Bool

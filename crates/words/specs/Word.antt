@@ -67,3 +67,14 @@ module _ {A : Type 0} where
   -- the transpose: b (i, j) and b (j, i) exchanged
   abbrev pub exchanged : Factors A → Factors A
   exchanged b i j = b j i
+
+  -- the word of the transposed matrix: reversed, E and Et exchanged
+  abbrev pub transposedLetter : Letter A → Letter A
+  transposedLetter (E j w) = Et j w
+  transposedLetter (Et j w) = E j w
+  transposedLetter (D e) = D e
+  transposedLetter (Dinv e) = Dinv e
+
+  unfoldable pub transposedWord : Word A → Word A
+  transposedWord [] = []
+  transposedWord (l ∷ W) = transposedWord W ++ (transposedLetter l ∷ [])

@@ -1,5 +1,5 @@
 -- The bytes of a matrix (document 01, "Bytes"): `encoding`, and `encodedLength`, how many they are; and what writing them to lent bytes returns and leaves
--- (`writingReport`, `bytesAfterWriting`).
+-- (`writingReport`, `bytesAfterWriting`); which matrices can be stored (`Storable`).
 use Prim.Native.Nat.{ℕ, _-_, _*_, _^_, _≤_, _<_}
 use mathlib.Core.Path.{_≡_}
 use mathlib.Core.Bool.{cond}
@@ -13,7 +13,9 @@ use Rattle.verdict.specs.Verdict.{when, after}
 use Rattle.verdict.specs.Report.{Report, accepted, refused, reportOf}
 use Rattle.group.specs.Group.{bytesOf}
 use Rattle.number.specs.declared.Number.{Number}
-use Rattle.number.specs.Number.{bias, Stored}
+use Rattle.number.specs.Number.{bias}
+use Rattle.words.specs.Sources.{BandedNumbers}
+use Rattle.table.specs.Table.{squareOf}
 use Rattle.writer.specs.declared.Written.{Written}
 use Rattle.writer.specs.declared.Written.the-variants.{Length, Refused}
 
@@ -65,13 +67,9 @@ abbrev pub writtenReport : Written → Report
 writtenReport (Length k) = accepted (pos k ∷ [])
 writtenReport (Refused w) = refused (w .number) (w .offset)
 
-abbrev pub AllStored : List Number → Type 0
-AllStored [] = Unit {0}
-AllStored (a ∷ L) = Stored a × AllStored L
-
--- a matrix that can be stored: n from 1 to 8, and n² stored factors
+-- a matrix that can be stored: n from 1 to 8, and n² factors, row by row, that are accepted
 pub record Storable (n : ℕ) (L : List Number) : Type 0 where
   pub some : 0 < n
   pub few : n ≤ 8
   pub square : length L ≡ n * n
-  pub stored : AllStored L
+  pub banded : BandedNumbers n (squareOf n L)

@@ -23,7 +23,9 @@ loop-holds : tie.Need-loop-holds Inv-loop μ-loop
 loop-holds c = read-none _ _ _ _ (square-small (c .before .args .n) (c .before .pre .1)) (c .before .pre .2)
 
 factor-at-requires : tie.Need-factor-at-requires Inv-loop μ-loop
-factor-at-requires c κs = c .before .loop .inv .inside
+factor-at-requires c κs =
+    let i = c .before .loop .inv in
+    (i .inside, (c .before .before .before .pre .0, omega (arith, i .room)))
 
 enum-known-got : tie.Need-enum-known-got Inv-loop μ-loop
 enum-known-got c = search needs

@@ -2,6 +2,7 @@
 use mathlib.Core.Path.{_≡_, sym, _∙_}
 use denote.Ref.{now}
 use native.Mathlib.Omega.{arith}
+use Rattle.words.proofs.Banded.{banded-ranged}
 use Rattle.verdict.specs.declared.Verdict.the-variants.{Accepted}
 use Rattle.verdict.specs.Verdict.{firstOf}
 use Rattle.places.specs.Tests.{sourceTests}
@@ -50,8 +51,8 @@ carry-requires : tie.Need-carry-requires
 carry-requires c κs =
     let told = c .before .before .before in
     let o = source told in
-    rw (c .before .before .rows-at .ensures, c .before .table-at .ensures)
-    (o .some, entry told .pre .held _ (o .small) .few, entry told .pre .held _ (o .small) .stored)
+    let fits = entry told .pre .held _ (o .small) in
+    rw (c .before .before .rows-at .ensures, c .before .table-at .ensures) (o .some, fits .few, banded-ranged _ _ (fits .banded))
 
 same-length : tie.Need-same-length
 same-length c = search needs

@@ -13,7 +13,7 @@ use Rattle.walk.specs.Held.{stateOf, Agree}
 use Rattle.walk.specs.Packed.{numbersOf}
 use Rattle.walk.proofs.Held.{agree-trans}
 use Rattle.walk.proofs.Lent.{factor-at}
-use Rattle.walk.proofs.Acts.{letter-moved, letter-stored, letter-scaled, entries-stored}
+use Rattle.walk.proofs.Acts.{letter-moved, letter-ranged, letter-scaled, entries-stored}
 use Rattle.walk.proofs.act.Statement.{statement}
 use Rattle.walk.proofs.act.Tie as tie
 
@@ -79,9 +79,9 @@ moved-requires c κs =
     let a = b .args in
     let p = b .pre .1 .1 in
     let m = letter (c .before) .letter-in in
-    let stored = letter-stored (a .n) (a .way) (table b) (p .0 .1) (search needs) (b .pre .0 .2) (a .t) (b .pre .0 .4)
+    let ranged = letter-ranged (a .n) (a .way) (table b) (p .0 .1) (search needs) (b .pre .0 .2) (a .t) (b .pre .0 .4)
     (apart (letter (c .before) .before)) (m .result) (m .ensures .0) _ (factor (c .before)) in
-    ((b .pre .0 .0, b .pre .0 .1, b .pre .0 .2, m .ensures .1 .rows), (b .pre .1 .0, ((p .0 .0, stored), (p .1 .0, p .1 .1))))
+    ((b .pre .0 .0, b .pre .0 .1, b .pre .0 .2, m .ensures .1 .rows), (b .pre .1 .0, ((p .0 .0, ranged), (p .1 .0, p .1 .1))))
 
 returns-2 : tie.Need-returns-2
 returns-2 c =

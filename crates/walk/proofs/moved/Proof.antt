@@ -62,7 +62,7 @@ at c =
       read = j .ensures .0;
       low = j .ensures .1;
       working = b .pre .1 .1 .0 .0;
-      stored = b .pre .1 .1 .0 .1;
+      weight = b .pre .1 .1 .0 .1;
     }
 
 loop-holds : tie.Need-loop-holds Inv-loop μ-loop

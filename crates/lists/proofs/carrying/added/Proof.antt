@@ -7,7 +7,7 @@ use lib.ListN.{length, getD, set}
 use Rattle.number.specs.Number.{reach}
 use Rattle.number.specs.Signed.{plain, zeroSigned, signedSum, signedProduct, SignedRanged}
 use Rattle.number.specs.declared.signed.Signed.{Signed}
-use Rattle.number.proofs.Reach.{ranged-more, ranged-stored}
+use Rattle.number.proofs.Reach.{ranged-more}
 use Rattle.number.proofs.SignedReach.{signed-ranged-more, signed-ranged-plain}
 use Rattle.items.specs.Items.{vectorOf}
 use Rattle.arrays.proofs.Filled.{read-any}
@@ -53,14 +53,14 @@ product-is c = c .times .ensures ∙ ap (λ (x : Signed). signedProduct x (plain
 times-requires : tie.Need-times-requires
 times-requires c κs =
     let b = c .before .before in
-    (subst (SignedRanged reach) (sym (from-is b)) (signed-ranged-more (omega arith) (b .pre .1 .1)), ranged-more (omega arith) (ranged-stored (b .pre .1 .2)))
+    (subst (SignedRanged reach) (sym (from-is b)) (signed-ranged-more (omega arith) (b .pre .1 .1)), ranged-more (omega arith) (b .pre .1 .2))
 
 add-requires : tie.Need-add-requires
 add-requires c κs =
     let b = c .before .before .before in (
       subst (SignedRanged reach) (sym (to-is b)) (signed-ranged-more (omega arith) (b .pre .1 .0)),
       subst (SignedRanged reach) (sym (product-is c))
-          (signed-ranged-more (omega arith) (product-reach (omega arith) (b .pre .1 .1) (signed-ranged-plain (ranged-stored (b .pre .1 .2))))),
+          (signed-ranged-more (omega arith) (product-reach (omega arith) (b .pre .1 .1) (signed-ranged-plain (b .pre .1 .2)))),
     )
 
 sub-u : tie.Need-sub-u

@@ -8,7 +8,7 @@ use Rattle.number.specs.Number.{Ranged, reach}
 use Rattle.number.specs.Signed.{plain, signedProduct, SignedRanged}
 use Rattle.number.specs.declared.Number.{Number}
 use Rattle.number.specs.declared.signed.Signed.{Signed}
-use Rattle.number.proofs.Reach.{ranged-more, ranged-stored}
+use Rattle.number.proofs.Reach.{ranged-more}
 use Rattle.number.proofs.SignedReach.{signed-ranged-more}
 use Rattle.table.specs.Table.{factorsOf, absent}
 use Rattle.lists.specs.Carrying.{Scaled}
@@ -58,7 +58,7 @@ times-requires c κs =
       subst (SignedRanged reach) (sym (scaled-old (b .loop .inv .1) (omega arith) unset))
           (signed-ranged-more (omega arith) (p .1 .0 .ranged (b .loop .k + 1) (omega arith, omega arith))),
       subst (Ranged reach) (sym (entry c))
-          (ranged-more (omega arith) (ranged-stored (p .1 .1 (b .loop .k + 1) (b .loop .k + 1) (omega arith, omega arith) (omega arith, omega arith)))),
+          (ranged-more (omega arith) (p .1 .1 (b .loop .k + 1) (b .loop .k + 1) (omega arith, omega arith) (omega arith, omega arith))),
     )
 
 mul-u : tie.Need-mul-u Inv-loop μ-loop

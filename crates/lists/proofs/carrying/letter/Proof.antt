@@ -4,16 +4,14 @@ use mathlib.Core.Path.{_≡_, sym, _∙_, subst}
 use mathlib.Core.List.{[], _∷_}
 use native.Mathlib.Omega.{arith}
 use lib.ListN.{length, getD}
-use Rattle.number.specs.Number.{zeroNumber, Stored}
+use Rattle.number.specs.Number.{zeroNumber, Ranged}
 use Rattle.number.specs.Signed.{SignedRanged}
 use Rattle.walk.specs.Letters.{middle}
 use Rattle.table.specs.Table.{factorsOf, absent}
-use Rattle.walk.specs.declared.Way.the-variants.{Plain}
-use Rattle.walk.proofs.Acts.{letter-stored}
 use Rattle.table.proofs.Table.{read-default}
 use Rattle.items.specs.Items.{vectorOf}
 use Rattle.lists.specs.Carrying.{Carries, letterOf, workingReach}
-use Rattle.lists.proofs.Spelled.{carries-moved, carries-scaled}
+use Rattle.lists.proofs.Spelled.{factor-ranged, carries-moved, carries-scaled}
 use Rattle.lists.proofs.carrying.letter.Statement.{statement}
 use Rattle.lists.proofs.carrying.letter.Tie as tie
 
@@ -53,13 +51,13 @@ factor c =
     let e : length b ≡ 64 = search needs in
     read-default b (c .before .move-at .result .at) (omega (arith, c .before .move-at .ensures .1 .place))
 
-stored : (c : tie.After-w) → Stored (getD (c .before .before .before .before .args .t2) (c .before .move-at .result .at) absent)
-stored c =
+ranged : (c : tie.After-w) → Ranged 1000 (getD (c .before .before .before .before .args .t2) (c .before .move-at .result .at) absent)
+ranged c =
     let b = c .before .before .before .before in
     let a = b .args in
     let m = c .before .move-at in
     let p = b .pre .0 in
-    letter-stored (a .n) Plain (a .t2) (b .pre .1 .1) (p .0) (p .1) (a .t) (p .2) (apart (c .before .before)) (m .result) (m .ensures .0) _ (factor c)
+    factor-ranged (a .t2) (a .n) (p .0) (p .1) (a .t) (p .2) (b .pre .1 .1) (apart (c .before .before)) (m .result) (m .ensures .0) _ (factor c)
 
 added-requires : tie.Need-added-requires
 added-requires c κs =
@@ -69,7 +67,7 @@ added-requires c κs =
     let k = c .before .move-at .ensures .1 .rows in
     let to : SignedRanged workingReach (vectorOf (b .args .v) (m .to)) = b .pre .1 .0 .ranged (m .to) (k .to-low, k .to-high) in
     let from : SignedRanged workingReach (vectorOf (b .args .v) (m .from)) = b .pre .1 .0 .ranged (m .from) (k .from-low, k .from-high) in
-    ((omega (arith, k), omega (arith, k), omega (arith, k), omega (arith, k)), ((search), (search), stored c))
+    ((omega (arith, k), omega (arith, k), omega (arith, k), omega (arith, k)), ((search), (search), ranged c))
 
 returns-2 : tie.Need-returns-2
 returns-2 c =

@@ -12,7 +12,7 @@ use Rattle.items.specs.Items.{ItemsRanged}
 use Rattle.items.proofs.Fronts.{items-ranged-more}
 use Rattle.lists.specs.Lists.{signedWord}
 use Rattle.lists.specs.Carrying.{Carries, letterOf, workingReach}
-use Rattle.lists.proofs.LetterReach.{stored-letters, word-reach}
+use Rattle.lists.proofs.LetterReach.{ranged-letters, word-reach}
 use Rattle.lists.proofs.Carried.{carries-start, carries-letter, carries-ranged}
 use Rattle.lists.proofs.Spelled.{signed-length}
 use Rattle.lists.proofs.FirstItems.{carries-list}
@@ -41,7 +41,7 @@ loop-holds c =
     let p = b .pre in
     let e : 2 * c .middle .result + 1 ≡ 2 * middle (a .n) + 1 = ap (λ (k : ℕ). 2 * k + 1) (c .middle .ensures .0) in (
       omega arith,
-      carries-start (a .n) (signedWord (a .n) (factorsOf (a .b))) (stored-letters (a .n) (factorsOf (a .b)) (p .3)) _ (a .v)
+      carries-start (a .n) (signedWord (a .n) (factorsOf (a .b))) (ranged-letters (a .n) (factorsOf (a .b)) (p .3)) _ (a .v)
           (e ∙ sym (signed-length (a .b) (a .n) (p .0) (p .1))) (p .2 .eight),
     )
 
@@ -55,7 +55,7 @@ held c =
     let p = c .before .before .pre in
     let f = word-reach (a .n) (factorsOf (a .b)) (p .0) (p .1) in
     items-ranged-more (omega arith)
-    (carries-ranged (a .n) (signedWord (a .n) (factorsOf (a .b))) (stored-letters (a .n) (factorsOf (a .b)) (p .3))
+    (carries-ranged (a .n) (signedWord (a .n) (factorsOf (a .b))) (ranged-letters (a .n) (factorsOf (a .b)) (p .3))
     (c .loop .t) 1000 (omega arith) (p .2) (c .loop .inv .1))
 
 letter-requires : tie.Need-letter-requires Inv-loop μ-loop
@@ -76,7 +76,7 @@ loop-again c =
     let h : 0 < b .loop .t = c .before .loop-test .taken in
     let e : b .loop .t ≡ b .loop .t - 1 + 1 = omega arith in (
       omega (arith, b .loop .inv .0),
-      carries-letter (a .n) (signedWord (a .n) (factorsOf (a .b))) (stored-letters (a .n) (factorsOf (a .b)) (p .3)) (b .loop .t - 1) (D (λ i. zeroSigned))
+      carries-letter (a .n) (signedWord (a .n) (factorsOf (a .b))) (ranged-letters (a .n) (factorsOf (a .b)) (p .3)) (b .loop .t - 1) (D (λ i. zeroSigned))
           (omega (arith, signed-length (a .b) (a .n) (p .0) (p .1), b .loop .inv .0))
           (subst (λ (k : ℕ). Carries (a .n) (drop k (signedWord (a .n) (factorsOf (a .b)))) (a .v) (b .loop .u)) e (b .loop .inv .1))
           (c .letter .ensures),
@@ -88,7 +88,7 @@ returns c =
     let a = b .before .before .args in
     let p = b .before .before .pre in
     let e : b .loop .t ≡ 0 = omega (arith, c .loop-test .left) in (
-      carries-list (factorsOf (a .b)) (a .v) (b .loop .u) (p .1) (stored-letters (a .n) (factorsOf (a .b)) (p .3))
+      carries-list (factorsOf (a .b)) (a .v) (b .loop .u) (p .1) (ranged-letters (a .n) (factorsOf (a .b)) (p .3))
           (subst (λ (k : ℕ). Carries (a .n) (drop k (signedWord (a .n) (factorsOf (a .b)))) (a .v) (b .loop .u)) e (b .loop .inv .1)),
       items-ranged-more (omega arith) (held b),
     )

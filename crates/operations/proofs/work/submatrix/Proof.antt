@@ -1,10 +1,10 @@
 -- `work::submatrix` meets its contract: the tests, then the word of one plain step, then the rule at the chosen rows and columns.
-use Prim.Native.Nat.{_≤_, _<_}
+use Prim.Native.Nat.{_≤_}
 use native.Mathlib.Omega.{arith}
 use mathlib.Core.Path.{_≡_, sym, _∙_}
 use Rattle.verdict.specs.declared.Verdict.the-variants.{Accepted}
 use Rattle.verdict.specs.Verdict.{firstOf}
-use Rattle.places.proofs.Verdicts.{Fit}
+use Rattle.places.proofs.Verdicts.{Source, Fit}
 use Rattle.places.specs.Shelf.{rowsAt}
 use Rattle.operations.specs.Operations.{submatrixTests, submatrixAt}
 use Rattle.walk.specs.Steps.{stepOf}
@@ -23,7 +23,7 @@ entry c = c .before .before .before
 accepted : (c : tie.After-enum-told) → (let a = entry c .args in firstOf (submatrixTests (a .shelf) (a .source) (a .rows) (a .columns) (a .target)) ≡ Accepted)
 accepted c = sym (c .before .before .submatrix-tests .ensures) ∙ c .enum-told .given .1
 
-fit : (c : tie.After-enum-told) → (let a = entry c .args in (a .source < 8) × Fit (rowsAt (a .shelf) (a .source)) (a .rows) (a .columns))
+fit : (c : tie.After-enum-told) → (let a = entry c .args in Source (a .shelf) (a .source) × Fit (rowsAt (a .shelf) (a .source)) (a .rows) (a .columns))
 fit c = let a = entry c .args in submatrix-fit (a .shelf) (a .source) (a .rows) (a .columns) (a .target) (accepted c)
 
 ready : (c : tie.After-enum-told)
@@ -54,7 +54,7 @@ rows-at-requires : tie.Need-rows-at-requires
 rows-at-requires c κs = search needs
 
 table-at-requires : tie.Need-table-at-requires
-table-at-requires c κs = fit (c .before) .0
+table-at-requires c κs = fit (c .before) .0 .small
 
 no-steps-requires : tie.Need-no-steps-requires
 no-steps-requires c κs = search needs

@@ -7,8 +7,9 @@ use mathlib.Core.Bool.{false≢true}
 use borrow.Author.Tests.{not-true, not-false}
 use Rattle.arrays.proofs.Structs.{length-mapped}
 use Rattle.places.specs.Shelf.{rowsAt}
-use Rattle.places.proofs.Checking.{seen-none, tested-good}
-use Rattle.places.proofs.Passing.{Passed, Gathered, all-passed, rows-failed, place-passed, number-failed, number-passed, gathered-none, gathered-more}
+use Rattle.places.proofs.Checking.{tested-good}
+use Rattle.places.proofs.Passing.{seen-none, Passed, Gathered, all-passed, rows-failed, place-passed, number-failed, number-passed, gathered-none}
+use Rattle.places.proofs.Passing.{gathered-more}
 use borrow.Author.Needs.{needs}
 use Rattle.places.proofs.check.is_good.Statement.{statement}
 use Rattle.places.proofs.check.is_good.Tie as tie
@@ -50,14 +51,27 @@ mul-k-end c = search needs
 loop2-holds : tie.Need-loop2-holds Inv-loop2 μ-loop2 Inv-loop3 μ-loop3 Inv-loop μ-loop
 loop2-holds c = (search needs, c .before .before .loop .inv)
 
+mul-at : tie.Need-mul-at Inv-loop2 μ-loop2 Inv-loop3 μ-loop3 Inv-loop μ-loop
+mul-at c = search needs
+
+add-at : tie.Need-add-at Inv-loop2 μ-loop2 Inv-loop3 μ-loop3 Inv-loop μ-loop
+add-at c = search needs
+
+back-requires : tie.Need-back-requires Inv-loop2 μ-loop2 Inv-loop3 μ-loop3 Inv-loop μ-loop
+back-requires c κs = search needs
+
+sub-before : tie.Need-sub-before Inv-loop2 μ-loop2 Inv-loop3 μ-loop3 Inv-loop μ-loop
+sub-before c = search needs
+
+mul-before : tie.Need-mul-before Inv-loop2 μ-loop2 Inv-loop3 μ-loop3 Inv-loop μ-loop
+mul-before c = search needs
+
+element-copy-out-before :
+    tie.Need-element-copy-out-before Inv-loop2 μ-loop2 Inv-loop3 μ-loop3 Inv-loop μ-loop
+element-copy-out-before c = search needs
+
 mul-a : tie.Need-mul-a Inv-loop2 μ-loop2 Inv-loop3 μ-loop3 Inv-loop μ-loop
 mul-a c = search needs
-
-add-a : tie.Need-add-a Inv-loop2 μ-loop2 Inv-loop3 μ-loop3 Inv-loop μ-loop
-add-a c = search needs
-
-mul-a-2 : tie.Need-mul-a-2 Inv-loop2 μ-loop2 Inv-loop3 μ-loop3 Inv-loop μ-loop
-mul-a-2 c = search needs
 
 element-copy-out-a :
     tie.Need-element-copy-out-a Inv-loop2 μ-loop2 Inv-loop3 μ-loop3 Inv-loop μ-loop
@@ -69,9 +83,11 @@ sound-requires c κs = search needs
 returns-2 : tie.Need-returns-2 Inv-loop2 μ-loop2 Inv-loop3 μ-loop3 Inv-loop μ-loop
 unfolding rowsAt
 returns-2 c =
-    let p = c .before .before .before .before .before .before .before .loop .p in
-    let k = c .before .before .before .before .loop2 .k in
-    (sym (number-failed _ p (search needs) k (search needs) (sym (c .before .sound .ensures) ∙ not-true _ (c .if2 .taken))), λ h. absurd (false≢true h))
+    let b = c .before .before .before .before in
+    let p = b .before .before .before .before .before .loop .p in
+    let k = b .before .before .loop2 .k in
+    let failed = sym (c .before .sound .ensures) ∙ not-true _ (c .if2 .taken) in
+    (sym (number-failed _ p (search needs) k (search needs) _ (b .back .ensures .0) failed), λ h. absurd (false≢true h))
 
 add-k : tie.Need-add-k Inv-loop2 μ-loop2 Inv-loop3 μ-loop3 Inv-loop μ-loop
 add-k c = search needs
@@ -82,8 +98,10 @@ loop2-less c = search needs
 loop2-again : tie.Need-loop2-again Inv-loop2 μ-loop2 Inv-loop3 μ-loop3 Inv-loop μ-loop
 unfolding rowsAt
 loop2-again c =
-    let w = c .before .before .before .before .loop2 .inv .1 in
-    (search needs, number-passed _ _ (search needs) _ (search needs) w (sym (c .before .sound .ensures) ∙ not-false _ (c .if2 .left)))
+    let b = c .before .before .before .before in
+    let w = b .before .before .loop2 .inv .1 in
+    let passed = sym (c .before .sound .ensures) ∙ not-false _ (c .if2 .left) in
+    (search needs, number-passed _ _ (search needs) _ (search needs) _ (b .back .ensures .0) w passed)
 
 mul-k : tie.Need-mul-k Inv-loop2 μ-loop2 Inv-loop3 μ-loop3 Inv-loop μ-loop
 mul-k c = search needs
@@ -91,14 +109,14 @@ mul-k c = search needs
 loop3-holds : tie.Need-loop3-holds Inv-loop2 μ-loop2 Inv-loop3 μ-loop3 Inv-loop μ-loop
 loop3-holds c = (search needs, search needs, gathered-none _ (subst (Passed _ _) (omega arith) (c .before .loop2 .inv .1)))
 
+mul-a-2 : tie.Need-mul-a-2 Inv-loop2 μ-loop2 Inv-loop3 μ-loop3 Inv-loop μ-loop
+mul-a-2 c = search needs
+
+add-a : tie.Need-add-a Inv-loop2 μ-loop2 Inv-loop3 μ-loop3 Inv-loop μ-loop
+add-a c = search needs
+
 mul-a-3 : tie.Need-mul-a-3 Inv-loop2 μ-loop2 Inv-loop3 μ-loop3 Inv-loop μ-loop
 mul-a-3 c = search needs
-
-add-a-2 : tie.Need-add-a-2 Inv-loop2 μ-loop2 Inv-loop3 μ-loop3 Inv-loop μ-loop
-add-a-2 c = search needs
-
-mul-a-4 : tie.Need-mul-a-4 Inv-loop2 μ-loop2 Inv-loop3 μ-loop3 Inv-loop μ-loop
-mul-a-4 c = search needs
 
 element-copy-out-a-2 :
     tie.Need-element-copy-out-a-2 Inv-loop2 μ-loop2 Inv-loop3 μ-loop3 Inv-loop μ-loop
@@ -155,9 +173,13 @@ is-good-spec =
     returns
     mul-k-end
     loop2-holds
+    mul-at
+    add-at
+    back-requires
+    sub-before
+    mul-before
+    element-copy-out-before
     mul-a
-    add-a
-    mul-a-2
     element-copy-out-a
     sound-requires
     returns-2
@@ -166,9 +188,9 @@ is-good-spec =
     loop2-again
     mul-k
     loop3-holds
+    mul-a-2
+    add-a
     mul-a-3
-    add-a-2
-    mul-a-4
     element-copy-out-a-2
     fault-requires
     add-k-2

@@ -1,48 +1,64 @@
 -- `Chosen::factor` meets its contract: on the diagonal, below it, above it.
-use mathlib.Core.Path.{sym, ap, ap₂, _∙_}
+use mathlib.Core.Path.{_≡_, sym, ap, ap₂, _∙_}
 use mathlib.Core.Bool.{Bool}
+use Prim.Native.Nat.{ℕ, _≤_, _<_}
+use native.Mathlib.Decide.{ℕ-discrete}
+use native.Mathlib.Omega.{arith}
 use borrow.Author.Tests.{eq-eqb, ne-eqb, lt-ltb, le-ltb}
 use lib.Dec.{ltb}
+use Rattle.number.specs.declared.Number.{Number}
 use Rattle.number.specs.Number.{rounded}
-use Rattle.words.specs.Formula.{justBefore, factorBy, newFactor}
+use Rattle.words.specs.Formula.{bandedBelow, factorBy, factorsBy}
 use Rattle.rule.specs.Chosen.{sizeOf, chosenMinor}
-use borrow.Author.Needs.{needs}
 use Rattle.rule.proofs.Chosen.factor.Statement.{statement}
 use Rattle.rule.proofs.Chosen.factor.Tie as tie
 
+-- the factor by where it stands
+abbrev placed : tie.Start → Bool → Bool → Number
+placed c on below =
+    let a = c .args in
+    factorBy rounded (sizeOf (a .self)) on below (bandedBelow rounded (sizeOf (a .self))) (chosenMinor (a .self) (a .sources .now)) (a .i) (a .j)
+
+-- neither on the diagonal nor below it
+after : (i j : ℕ) → (i ≡ j → ⊥) → i ≤ j → i < j
+after i j f l = elim (ℕ-discrete i j) [ yes e ↦ absurd (f e) | no e ↦ omega arith ]
+
 on-diagonal-requires : tie.Need-on-diagonal-requires
-on-diagonal-requires c κs = search needs
+on-diagonal-requires c κs = let p = c .before .pre in ((p .0 .0, p .0 .1, p .0 .2), p .1 .2)
 
 returns : tie.Need-returns
-unfolding newFactor
+unfolding factorsBy
 returns c =
-    let a = c .before .before .args in
-    c .on-diagonal .ensures
-    ∙ ap (λ (x : Bool). factorBy rounded (sizeOf (a .self)) x (ltb (a .j) (a .i)) (justBefore (sizeOf (a .self))) (chosenMinor (a .self) (a .sources .now))
-    (a .i) (a .j))
-    (sym (eq-eqb (a .i) (a .j) (c .before .if1 .taken)))
+    let b = c .before .before in
+    let a = b .args in
+    c .on-diagonal .ensures ∙ ap (λ (x : Bool). placed b x (ltb (a .j) (a .i))) (sym (eq-eqb (a .i) (a .j) (c .before .if1 .taken)))
 
 off-diagonal-requires : tie.Need-off-diagonal-requires
-off-diagonal-requires c κs = search needs
+off-diagonal-requires c κs =
+    let p = c .before .before .pre in
+    ((p .0 .0, p .0 .3, omega arith, p .0 .2), (p .1 .0, p .1 .2))
 
 returns-2 : tie.Need-returns-2
-unfolding newFactor
+unfolding factorsBy
 returns-2 c =
-    let a = c .before .before .before .args in
+    let b = c .before .before .before in
+    let a = b .args in
     c .off-diagonal .ensures
-    ∙ ap₂ (λ (x y : Bool). factorBy rounded (sizeOf (a .self)) x y (justBefore (sizeOf (a .self))) (chosenMinor (a .self) (a .sources .now)) (a .i) (a .j))
-    (sym (ne-eqb (a .i) (a .j) (c .before .before .if1 .left))) (sym (lt-ltb (a .j) (a .i) (c .before .if2 .taken)))
+    ∙ ap₂ (placed b) (sym (ne-eqb (a .i) (a .j) (c .before .before .if1 .left))) (sym (lt-ltb (a .j) (a .i) (c .before .if2 .taken)))
 
 off-diagonal-requires-2 : tie.Need-off-diagonal-requires-2
-off-diagonal-requires-2 c κs = search needs
+off-diagonal-requires-2 c κs =
+    let b = c .before .before in
+    let p = b .pre in
+    ((p .0 .0, p .0 .1, after (b .args .i) (b .args .j) (c .before .if1 .left) (c .if2 .left), p .0 .4), (p .1 .1, p .1 .2))
 
 returns-3 : tie.Need-returns-3
-unfolding newFactor
+unfolding factorsBy
 returns-3 c =
-    let a = c .before .before .before .args in
+    let b = c .before .before .before in
+    let a = b .args in
     c .off-diagonal2 .ensures
-    ∙ ap₂ (λ (x y : Bool). factorBy rounded (sizeOf (a .self)) x y (justBefore (sizeOf (a .self))) (chosenMinor (a .self) (a .sources .now)) (a .i) (a .j))
-    (sym (ne-eqb (a .i) (a .j) (c .before .before .if1 .left))) (sym (le-ltb (a .j) (a .i) (c .before .if2 .left)))
+    ∙ ap₂ (placed b) (sym (ne-eqb (a .i) (a .j) (c .before .before .if1 .left))) (sym (le-ltb (a .j) (a .i) (c .before .if2 .left)))
 
 pub factor-spec : {M : Type 1} → statement M
 factor-spec =

@@ -13,10 +13,10 @@ use Rattle.rule.proofs.Chosen.factors.Statement.{statement}
 use Rattle.rule.proofs.Chosen.factors.Tie as tie
 
 abbrev Inv-loop : tie.InvT-loop
-Inv-loop self letters sources n tables k b₀ t₀ b t = Filled zeroNumber (cellAt k (chosenFactors self sources)) 64 t b
+Inv-loop self letters sources n tables k lower upper b₀ t₀ b t = Filled zeroNumber (cellAt k (chosenFactors self sources)) 64 t b
 
 abbrev μ-loop : tie.MeasureT-loop
-μ-loop self letters sources n tables k b₀ t₀ b t = 64 - t
+μ-loop self letters sources n tables k lower upper b₀ t₀ b t = 64 - t
 
 tables-requires : tie.Need-tables-requires Inv-loop μ-loop
 tables-requires c κs = c .before .pre .0 .few
@@ -26,14 +26,25 @@ count-requires c κs =
     let b = c .before .before in
     below-256 (b .args .self .word .n) (b .args .self .rows) (b .pre .0 .few) (b .pre .0 .rows)
 
+-- what the walks in Bools ask
+present-requires : tie.Need-present-requires Inv-loop μ-loop
+present-requires c κs = let p = c .before .before .before .pre in ((p .0 .some, p .0 .few, p .0 .six, p .0 .columns), (p .0 .walkable, p .1))
+
+present-turned-requires : tie.Need-present-turned-requires Inv-loop μ-loop
+present-turned-requires c κs = let p = c .before .before .before .before .pre in ((p .0 .some, p .0 .few, p .0 .six, p .0 .rows), (p .0 .walkable, p .1))
+
 loop-holds : tie.Need-loop-holds Inv-loop μ-loop
 loop-holds c = filled-none zeroNumber _ 64 _ (search needs)
 
 cell-requires : tie.Need-cell-requires Inv-loop μ-loop
 cell-requires c κs =
-    let m = c .before .before .before in
-    let p = m .before .before .before .pre in
-    ((p .0, m .count .ensures .0, omega arith), record { tables = m .before .tables .ensures; letters = p .1 })
+    let l = c .before .before .before .before in
+    let u = l .before in
+    let m = u .before .before in
+    let p = m .before .before .before .pre in (
+      (p .0, m .count .ensures .0, omega arith),
+      (u .before .present .ensures, u .present-turned .ensures, record { tables = m .before .tables .ensures; letters = p .1 }),
+    )
 
 mul-b : tie.Need-mul-b Inv-loop μ-loop
 mul-b c = search needs
@@ -48,13 +59,14 @@ loop-less : tie.Need-loop-less Inv-loop μ-loop
 loop-less c = search needs
 
 loop-again : tie.Need-loop-again Inv-loop μ-loop
-loop-again c = filled-more zeroNumber _ 64 (c .before .before .before .loop .inv) (search needs) _ (c .cell .ensures)
+loop-again c = filled-more zeroNumber _ 64 (c .before .before .before .before .before .loop .inv) (search needs) _ (c .cell .ensures)
 
 returns : tie.Need-returns Inv-loop μ-loop
 returns c =
-    let b = c .before .before .before .before .before in
+    let m = c .before .before .before .before in
+    let b = m .before .before .before in
     table-filled _ _ (c .before .loop .inv) (c .loop-test .left)
-    ∙ ap (λ (k : ℕ). tableOf k (chosenFactors (b .args .self) (b .args .sources .now))) (c .before .before .count .ensures .0)
+    ∙ ap (λ (k : ℕ). tableOf k (chosenFactors (b .args .self) (b .args .sources .now))) (m .count .ensures .0)
 
 pub factors-spec : {M : Type 1} → statement M
 factors-spec =
@@ -64,6 +76,8 @@ factors-spec =
     μ-loop
     tables-requires
     count-requires
+    present-requires
+    present-turned-requires
     loop-holds
     cell-requires
     mul-b

@@ -1,107 +1,131 @@
--- `Chosen::off_diagonal` meets its contract: the sets are the formula's.
+-- `Chosen::off_diagonal` meets its contract: the four minors are the formula's, and nothing is divided before the first one is known not to be zero.
+-- The points on the way have names: `begin` is the function's entry, `worked` where all four minors are worked.
+use borrow.Author.Needs.{needs}
 use mathlib.Core.Path.{sym, subst}
 use Prim.Native.Nat.{_<_}
 use native.Mathlib.Omega.{arith}
 use Rattle.number.specs.Number.{Ranged, reach}
 use Rattle.number.specs.declared.Number.{Number}
+use Rattle.words.specs.RowSet.{RowSet}
 use Rattle.rule.specs.Chosen.{sizeOf, chosenMinor, turnedBy}
-use Rattle.rule.proofs.Quotients.{usable-reach, product-reach, product-nonzero, below-answer}
-use borrow.Author.Needs.{needs}
+use Rattle.rule.proofs.Quotients.{minor-reach, minor-nonzero, product-reach, product-nonzero, banded-zero, corner-nonzero, banded-quotient}
 use Rattle.rule.proofs.Chosen.off_diagonal.Statement.{statement}
 use Rattle.rule.proofs.Chosen.off_diagonal.Tie as tie
 
-sub-run-minor : tie.Need-sub-run-minor
-sub-run-minor c = search needs
+-- both searches done, and the function's entry
+abbrev searched : tie.After-with-row2 → tie.After-latest2
+searched c = c .before .before .before .before
 
-add-run-minor : tie.Need-add-run-minor
-add-run-minor c = search needs
+abbrev begin : tie.After-with-row2 → tie.Start
+begin c = searched c .before .before
 
-run-minor-requires : tie.Need-run-minor-requires
-run-minor-requires c κs = search needs
+abbrev worked : tie.After-struct-known → tie.After-with-row2
+worked c = c .before
 
-sub-run-minor-2 : tie.Need-sub-run-minor-2
-sub-run-minor-2 c = search needs
+-- the minors as the formula below the diagonal has them
+abbrev minors : tie.Start → RowSet → RowSet → Number
+minors c = let a = c .args in turnedBy (a .turned) (chosenMinor (a .self) (a .sources .now))
 
-sub-run-minor-3 : tie.Need-sub-run-minor-3
-sub-run-minor-3 c = search needs
+latest-requires : tie.Need-latest-requires
+latest-requires c κs = let p = c .pre in (p .0 .0, p .1 .0, p .0 .1, omega arith, p .0 .3)
 
-sub-run-minor-4 : tie.Need-sub-run-minor-4
-sub-run-minor-4 c = search needs
+sub-latest : tie.Need-sub-latest
+sub-latest c = search needs
 
-run-minor-requires-2 : tie.Need-run-minor-requires-2
-run-minor-requires-2 c κs = let p = c .before .pre in ((p .0 .0, omega arith, omega arith, omega arith), p .1)
+latest-requires-2 : tie.Need-latest-requires-2
+latest-requires-2 c κs = let p = c .before .pre in (p .0 .0, p .1 .0, p .0 .1, omega arith, omega arith)
 
-sub-run-minor-5 : tie.Need-sub-run-minor-5
-sub-run-minor-5 c = search needs
+with-row-requires : tie.Need-with-row-requires
+with-row-requires c κs =
+    let p = c .before .before .pre in
+    ((p .0 .0, p .0 .1, omega arith, p .0 .3), (c .before .latest .ensures, p .1 .1))
 
-add-run-minor-2 : tie.Need-add-run-minor-2
-add-run-minor-2 c = search needs
+sub-alone : tie.Need-sub-alone
+sub-alone c = search needs
 
-sub-run-minor-6 : tie.Need-sub-run-minor-6
-sub-run-minor-6 c = search needs
+alone-requires : tie.Need-alone-requires
+alone-requires c κs =
+    let p = c .before .before .before .pre in
+    ((p .0 .0, p .0 .1, omega arith, omega arith), (c .before .latest2 .ensures, p .1 .1))
 
-sub-run-minor-7 : tie.Need-sub-run-minor-7
-sub-run-minor-7 c = search needs
+alone-requires-2 : tie.Need-alone-requires-2
+alone-requires-2 c κs =
+    let p = c .before .before .before .before .pre in
+    ((p .0 .0, p .0 .1, omega arith, p .0 .3), (c .before .before .before .latest .ensures, p .1 .1))
 
-run-minor-requires-3 : tie.Need-run-minor-requires-3
-run-minor-requires-3 c κs = let p = c .before .before .pre in ((p .0 .0, omega arith, omega arith, omega arith), p .1)
+sub-with-row : tie.Need-sub-with-row
+sub-with-row c = search needs
 
-sub-run-minor-8 : tie.Need-sub-run-minor-8
-sub-run-minor-8 c = search needs
+with-row-requires-2 : tie.Need-with-row-requires-2
+with-row-requires-2 c κs =
+    let p = c .before .before .before .before .before .pre in
+    ((p .0 .0, p .0 .1, omega arith, omega arith), (c .before .before .before .latest2 .ensures, p .1 .1))
 
-sub-run-minor-9 : tie.Need-sub-run-minor-9
-sub-run-minor-9 c = search needs
-
-run-minor-requires-4 : tie.Need-run-minor-requires-4
-run-minor-requires-4 c κs = let p = c .before .before .before .pre in ((p .0 .0, omega arith, omega arith, omega arith), p .1)
-
-mul-requires : tie.Need-mul-requires
-mul-requires c κs = (usable-reach (c .before .before .before .run-minor .ensures .1), usable-reach (c .before .before .run-minor2 .ensures .1))
-
-mul-requires-2 : tie.Need-mul-requires-2
-mul-requires-2 c κs = (usable-reach (c .before .before .run-minor3 .ensures .1), usable-reach (c .before .run-minor4 .ensures .1))
-
-div-requires : tie.Need-div-requires
-div-requires c κs =
-    let corner = c .before .before .before .before .before .run-minor .ensures .1 in
-    let before = c .before .before .before .before .run-minor2 .ensures .1 in
-    let run = c .before .before .before .run-minor3 .ensures .1 in
-    let above = c .before .before .run-minor4 .ensures .1 in (
-      subst (Ranged reach) (sym (c .before .mul .ensures .0)) (product-reach corner before),
-      subst (Ranged reach) (sym (c .mul2 .ensures .0)) (product-reach run above),
-      subst (λ (x : Number). 0 < x .m) (sym (c .mul2 .ensures .0)) (product-nonzero run above),
-    )
+zero-requires : tie.Need-zero-requires
+zero-requires c κs = search needs
 
 returns : tie.Need-returns
 returns c =
-    let b = c .before .before .before .before .before .before .before in
+    let w = worked (c .before .before) in
+    let b = begin w in
+    let a = b .args in
+    banded-zero (sizeOf (a .self)) (minors b) (a .i) (a .j) (w .before .before .before .with-row .ensures .0) (c .before .if1 .taken) (c .zero .ensures)
+
+mul-requires : tie.Need-mul-requires
+mul-requires c κs =
+    let w = worked (c .before) in
+    (minor-reach (w .before .before .before .with-row .ensures .1), minor-reach (w .before .before .alone .ensures .1))
+
+mul-requires-2 : tie.Need-mul-requires-2
+mul-requires-2 c κs =
+    let w = worked (c .before .before) in
+    (minor-reach (w .before .alone2 .ensures .1), minor-reach (w .with-row2 .ensures .1))
+
+div-requires : tie.Need-div-requires
+div-requires c κs =
+    let e = c .before .before in
+    let w = worked (e .before) in
+    let b = begin w in
     let a = b .args in
     let p = b .pre .0 in
-    below-answer (sizeOf (a .self)) (a .i) (a .j) (turnedBy (a .turned) (chosenMinor (a .self) (a .sources .now))) (p .1) (p .2) (p .3)
-    (c .before .before .before .before .before .before .run-minor .ensures .0) (c .before .before .before .before .before .run-minor2 .ensures .0)
-    (c .before .before .before .before .run-minor3 .ensures .0) (c .before .before .before .run-minor4 .ensures .0)
+    let d = p .0 .divisible (a .turned) in
+    let corner = w .before .before .before .with-row .ensures in
+    let run = w .before .alone2 .ensures in
+    let above = w .with-row2 .ensures in
+    let z = corner-nonzero (sizeOf (a .self)) (minors b) (a .i) (a .j) (corner .0) (e .if1 .left) in (
+      subst (Ranged reach) (sym (c .before .mul .ensures .0)) (product-reach (corner .1) (w .before .before .alone .ensures .1)),
+      subst (Ranged reach) (sym (c .mul2 .ensures .0)) (product-reach (run .1) (above .1)),
+      subst (λ (x : Number). 0 < x .m) (sym (c .mul2 .ensures .0))
+          (product-nonzero _ _ (minor-nonzero (run .0) (d .run (a .i) (a .j) (p .1) (p .2) (p .3)))
+          (minor-nonzero (above .0) (d .before (a .i) (a .j) (p .1) (p .2) (p .3) z))),
+    )
+
+returns-2 : tie.Need-returns-2
+returns-2 c =
+    let e = c .before .before .before in
+    let w = worked (e .before) in
+    let b = begin w in
+    let a = b .args in
+    banded-quotient (sizeOf (a .self)) (minors b) (a .i) (a .j) (w .before .before .before .with-row .ensures .0) (e .if1 .left)
+    (w .before .before .alone .ensures .0) (w .before .alone2 .ensures .0) (w .with-row2 .ensures .0)
     (c .before .before .mul .ensures .0) (c .before .mul2 .ensures .0) (c .div .ensures .0)
 
 pub off-diagonal-spec : {M : Type 1} → statement M
 off-diagonal-spec =
     tie.close
     (tie.spec
-    sub-run-minor
-    add-run-minor
-    run-minor-requires
-    sub-run-minor-2
-    sub-run-minor-3
-    sub-run-minor-4
-    run-minor-requires-2
-    sub-run-minor-5
-    add-run-minor-2
-    sub-run-minor-6
-    sub-run-minor-7
-    run-minor-requires-3
-    sub-run-minor-8
-    sub-run-minor-9
-    run-minor-requires-4
+    latest-requires
+    sub-latest
+    latest-requires-2
+    with-row-requires
+    sub-alone
+    alone-requires
+    alone-requires-2
+    sub-with-row
+    with-row-requires-2
+    zero-requires
+    returns
     mul-requires
     mul-requires-2
     div-requires
-    returns)
+    returns-2)

@@ -1,9 +1,12 @@
--- `Chosen::on_diagonal` meets its contract.
+-- `Chosen::on_diagonal` meets its contract: leading minors are not zero.
+use borrow.Author.Needs.{needs}
 use mathlib.Core.Path.{ap₂, _∙_}
+use mathlib.Core.Bool.{false}
+use Prim.Native.Nat.{_-_}
+use native.Mathlib.Omega.{arith}
 use Rattle.number.specs.Number.{quotientOf}
 use Rattle.words.specs.Formula.{onDiagonal}
-use Rattle.rule.proofs.Quotients.{usable-reach}
-use borrow.Author.Needs.{needs}
+use Rattle.rule.proofs.Quotients.{minor-reach, minor-nonzero}
 use Rattle.rule.proofs.Chosen.on_diagonal.Statement.{statement}
 use Rattle.rule.proofs.Chosen.on_diagonal.Tie as tie
 
@@ -20,7 +23,13 @@ run-minor-requires-2 : tie.Need-run-minor-requires-2
 run-minor-requires-2 c κs = search needs
 
 div-requires : tie.Need-div-requires
-div-requires c κs = let v = c .run-minor2 .ensures .1 in (usable-reach (c .before .run-minor .ensures .1), usable-reach v, v .nonzero)
+div-requires c κs =
+    let b = c .before .before in
+    let lower = c .run-minor2 .ensures in (
+      minor-reach (c .before .run-minor .ensures .1),
+      minor-reach (lower .1),
+      minor-nonzero (lower .0) (b .pre .0 .0 .divisible false .leading (b .args .i - 1) (omega (arith, b .pre .0 .2))),
+    )
 
 returns : tie.Need-returns
 unfolding onDiagonal

@@ -18,7 +18,7 @@ use Rattle.walk.proofs.Held.{working-agree}
 use Rattle.walk.proofs.Packed.{number-at, start-words}
 use Rattle.walk.proofs.Sweep.{below-256}
 use Rattle.walk.proofs.Minors.{joined-start, joined-next, joined-length, joined-none, joined-step, joined-working}
-use Rattle.walk.proofs.Minors.{stored-at, minor-held, minor-none, rows-some, rows-few}
+use Rattle.walk.proofs.Minors.{walkable-at, minor-held, minor-none, rows-some, rows-few}
 use Rattle.walk.proofs.Joined.minor.Statement.{statement}
 use Rattle.walk.proofs.Joined.minor.Tie as tie
 
@@ -138,7 +138,7 @@ walked-requires c κs =
       (
         (counted h .before .begin .ensures, counted h .changes .ensures .0, counted h .changes .ensures .1),
         (
-          (working-agree (h .loop .inv .1) W, stored-at (a .t1 .n) (steps b) _ i _ (p .0) (next-step l)),
+          (working-agree (h .loop .inv .1) W, walkable-at (a .t1 .n) (steps b) _ i _ (p .0) (next-step l)),
           (h .loop .inv .2, p .1 .0, p .1 .1 .step i (omega arith)),
         ),
       ),

@@ -1,0 +1,15 @@
+pub mod Heights
+pub mod Reach
+pub mod Nonzero
+pub mod Lattice
+pub mod Contraction
+pub mod Elimination
+pub mod Reduction
+pub mod Unique
+pub mod Banded
+pub mod Factoring
+pub mod Chosen
+pub mod Patterned
+pub mod Words
+pub mod Theorem
+pub mod Runs

@@ -1,0 +1,11 @@
+pub mod Search
+pub mod Letter
+pub mod Nonzero
+pub mod Turned
+pub mod Spelled
+pub mod Walking
+pub mod Telling
+pub mod Starting
+pub mod AllPresent
+pub mod NoZeros
+pub mod Found

@@ -1,0 +1,3 @@
+pub mod Presence
+pub mod Held
+pub mod Full
