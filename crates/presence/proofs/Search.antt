@@ -3,12 +3,12 @@
 use mathlib.Core.Path.{_≡_, refl, sym, ap, ap₂, _∙_}
 use mathlib.Core.Bool.{Bool, true, false, cond, _&&_, _||_, Bool·beq}
 use mathlib.Core.List.{List, [], _∷_}
-use Prim.Native.Nat.{ℕ, zero, suc, _+_, _-_, _*_, _%_, _^_, _≤_, _<_}
+use Prim.Native.Nat.{ℕ, zero, suc, _+_, _-_, _^_, _≤_, _<_}
 use native.Mathlib.Decide.{ℕ-discrete, decLe}
 use native.Mathlib.Omega.{arith}
 use borrow.Author.Tests.{eq-eqb, ne-eqb, lt-ltb, ltb-true}
 use lib.Dec.{T, eqb, ltb}
-use lib.Pow.{pow-pos, pow-mono, shl-exact}
+use lib.Pow.{pow-pos, pow-mono}
 use lib.ListN.{length}
 use Rattle.rowset.specs.Mask.{maskOf, maskCount, maskAmong}
 use Rattle.rowset.proofs.Finite.{implies, implies-at, beq-eq, all₃, all₃-at}
@@ -100,9 +100,6 @@ before-mask n i s ln li l =
 pub count-few : (p : ℕ) → maskCount p ≤ 8
 unfolding maskCount
 count-few p = countTo-le 8 p
-
-pub shift-exact : (b : ℕ) → b ≤ 8 → 1 * 2 ^ b % 2 ^ 64 ≡ 2 ^ b
-shift-exact b l = let e : 1 * 2 ^ b ≡ 2 ^ b = omega arith in shl-exact 1 b 64 (omega arith) (omega arith) ∙ e
 
 -- THE SEARCH: the mask s is looked at
 abbrev pub passes : List Bool → ℕ → ℕ → ℕ → Bool

@@ -14,6 +14,7 @@ use Rattle.words.specs.Walk.{act, walk}
 use Rattle.words.specs.Operation as words
 use Rattle.words.specs.Operation.{stepWord, joinedWord, eachSteps}
 use Rattle.words.proofs.Words.{transposed-append}
+use Rattle.words.proofs.Steps.{walk-joined}
 use Rattle.words.proofs.Walks.{walk-append}
 use Rattle.words.proofs.Agree as words-agree
 use Rattle.presence.specs.Presence.{presence, nonzero}
@@ -63,12 +64,6 @@ module _ {n : ℕ} (X : Word Bool) (ω : RowSet → Bool) (t : ℕ) (l : t < len
 abbrev pub presentSteps : ℕ → List (words.Step Number) → Word Bool
 presentSteps n L = joinedWord n (eachSteps nonzero L)
 
-walk-joined : (n : ℕ) (s : words.Step Bool) (L : List (words.Step Bool)) (ω : RowSet → Bool)
-    → walk presence (joinedWord n (s ∷ L)) ω ≡ walk presence (stepWord n s) (walk presence (joinedWord n L) ω)
-unfolding joinedWord walk
-walk-joined n s [] ω = refl
-walk-joined n s (t ∷ L) ω = walk-append presence (stepWord n s) (joinedWord n (t ∷ L)) ω
-
 turned-joined : (n : ℕ) (s : words.Step Bool) (L : List (words.Step Bool)) (ω : RowSet → Bool)
     → walk presence (transposedWord (joinedWord n (s ∷ L))) ω
     ≡ walk presence (transposedWord (joinedWord n L)) (walk presence (transposedWord (stepWord n s)) ω)
@@ -92,7 +87,7 @@ module _ {n : ℕ} (L : List (words.Step Number)) (s : words.Step Number) (c : �
       → Agree n θ (walk presence (presentSteps n (drop c L)) ω)
   joined-next p q =
       subst (Agree n θ) (sym (ap (λ (M : List (words.Step Number)). walk presence (presentSteps n M) ω) e
-      ∙ walk-joined n (words.eachStep nonzero s) (eachSteps nonzero (drop (c + 1) L)) ω))
+      ∙ walk-joined presence n (words.eachStep nonzero s) (eachSteps nonzero (drop (c + 1) L)) ω))
       (agree-trans q (walk-agree n (stepWord n (words.eachStep nonzero s)) η (walk presence (presentSteps n (drop (c + 1) L)) ω) p))
 
   pub turned-joined-next : Agree n (walk presence (transposedWord (presentSteps n (drop c L))) η) ω

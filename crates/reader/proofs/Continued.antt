@@ -18,7 +18,7 @@ use Rattle.table.proofs.RowByRow.{row-below, square-below}
 use Rattle.table.proofs.Square.{square-number}
 use Rattle.writer.specs.Encoding.{Storable}
 use Rattle.reader.specs.declared.CodeVerdict.the-variants.{Accepted}
-use Rattle.reader.specs.Matrix.{justBefore, judgedCode}
+use Rattle.reader.specs.Matrix.{beforeInLine, judgedCode}
 use Rattle.reader.proofs.Pattern.{just-above, just-left, Follows, banded-follows, follows-banded, Taken, judged-taken, judged-only, follows-same}
 
 -- the numbers of the factor above that in row q + 1 and column r + 1, and of the one left of it
@@ -45,13 +45,13 @@ module _ (n k : ℕ) where
 
 -- where the factor just before it stands
 module _ (n k : ℕ) (L : List Number) where
-  pub before-below : k % n < k / n → justBefore (squareOf n L) (suc (k / n)) (suc (k % n)) ≡ getD L (k - n) zeroNumber
+  pub before-below : k % n < k / n → beforeInLine (squareOf n L) (suc (k / n)) (suc (k % n)) ≡ getD L (k - n) zeroNumber
   unfolding squareOf
   before-below h =
       just-above (squareOf n L) (suc (k / n)) (suc (k % n)) (omega arith)
       ∙ ap (λ (i : ℕ). getD L i zeroNumber) (less-row (k / n) n (k % n) (omega arith) ∙ ap (λ (x : ℕ). x - n) (div-add-mod' k n))
 
-  pub before-above : k / n < k % n → justBefore (squareOf n L) (suc (k / n)) (suc (k % n)) ≡ getD L (k - 1) zeroNumber
+  pub before-above : k / n < k % n → beforeInLine (squareOf n L) (suc (k / n)) (suc (k % n)) ≡ getD L (k - 1) zeroNumber
   unfolding squareOf
   before-above h =
       just-left (squareOf n L) (suc (k / n)) (suc (k % n)) (omega arith)
@@ -80,7 +80,7 @@ module _ (n : ℕ) where
 
   -- the one just before another is one of those in front
   before-front : 0 < n → (k : ℕ) (L : List Number) → (suc (k / n) ≡ suc (k % n) → ⊥)
-      → justBefore (squareOf n (take k L)) (suc (k / n)) (suc (k % n)) ≡ justBefore (squareOf n L) (suc (k / n)) (suc (k % n))
+      → beforeInLine (squareOf n (take k L)) (suc (k / n)) (suc (k % n)) ≡ beforeInLine (squareOf n L) (suc (k / n)) (suc (k % n))
   before-front some k L off =
       elim (decLt (k % n) (k / n)) [
         | yes h ↦

@@ -17,7 +17,7 @@ use Rattle.words.specs.Sources.{BandedNumbers}
 use Rattle.words.proofs.Banded.{StoredOrZero, stored, zero, stored-nonzero, banded-next, banded-decided, below-zero, above-zero}
 use Rattle.writer.specs.Encoding.{exponentCode}
 use Rattle.reader.specs.declared.CodeVerdict.the-variants.{Accepted, Refused}
-use Rattle.reader.specs.Matrix.{justBefore, judgedAt}
+use Rattle.reader.specs.Matrix.{beforeInLine, judgedAt}
 
 -- a number that is stored or zero, by its mantissa
 by-mantissa : {a : Number} → StoredOrZero a → a .m ≡ 0 → a ≡ zeroNumber
@@ -29,17 +29,17 @@ unless-zero (stored s) h = s
 unless-zero (zero e) h = absurd (h e)
 
 module _ (b : Factors Number) where
-  pub just-above : (i j : ℕ) → j < i → justBefore b i j ≡ b (i - 1) j
+  pub just-above : (i j : ℕ) → j < i → beforeInLine b i j ≡ b (i - 1) j
   just-above i j h = simp (lt-ltb j i h)
 
-  pub just-left : (i j : ℕ) → i < j → justBefore b i j ≡ b i (j - 1)
+  pub just-left : (i j : ℕ) → i < j → beforeInLine b i j ≡ b i (j - 1)
   just-left i j h = simp (le-ltb j i (omega arith))
 
   -- what may stand in row i and column j: a stored number or, off the diagonal, zero; and nothing but zero just behind a zero in its line
   pub record Follows (i j : ℕ) (a : Number) : Type 0 where
     pub decided : StoredOrZero a
     pub on : i ≡ j → Stored a
-    pub off : (i ≡ j → ⊥) → justBefore b i j .m ≡ 0 → a ≡ zeroNumber
+    pub off : (i ≡ j → ⊥) → beforeInLine b i j .m ≡ 0 → a ≡ zeroNumber
 
   -- ACCEPTED FACTORS
   pub banded-follows : (n : ℕ) → BandedNumbers n b → (i j : ℕ) → In n i → In n j → Follows i j (b i j)
@@ -76,7 +76,7 @@ module _ (b : Factors Number) where
     pub record Taken (code : ℕ) : Type 0 where
       pub few : code ≤ 2001
       pub on : i ≡ j → code ≡ 0 → ⊥
-      pub off : (i ≡ j → ⊥) → justBefore b i j .m ≡ 0 → code ≡ 0
+      pub off : (i ≡ j → ⊥) → beforeInLine b i j .m ≡ 0 → code ≡ 0
 
     pub judged-taken : (code : ℕ) → Taken code → judgedAt b i j code ≡ Accepted
     judged-taken code t =
@@ -85,11 +85,11 @@ module _ (b : Factors Number) where
           | no e ↦
               elim (ℕ-discrete code 0) [
                 | yes z ↦ simp (le-ltb 2001 code (t .few), ne-eqb i j e, eq-eqb code 0 z)
-                | no z ↦ simp (le-ltb 2001 code (t .few), ne-eqb i j e, ne-eqb code 0 z, ne-eqb (justBefore b i j .m) 0 (λ w. z (t .off e w)))
+                | no z ↦ simp (le-ltb 2001 code (t .few), ne-eqb i j e, ne-eqb code 0 z, ne-eqb (beforeInLine b i j .m) 0 (λ w. z (t .off e w)))
               ]
         ]
 
-    judged-by : (code : ℕ) (t u v w : Bool) → ltb 2001 code ≡ t → eqb i j ≡ u → eqb code 0 ≡ v → eqb (justBefore b i j .m) 0 ≡ w
+    judged-by : (code : ℕ) (t u v w : Bool) → ltb 2001 code ≡ t → eqb i j ≡ u → eqb code 0 ≡ v → eqb (beforeInLine b i j .m) 0 ≡ w
         → cond t (Refused 5) (cond u (cond v (Refused 6) Accepted) (cond (not v && w) (Refused 16) Accepted)) ≡ Accepted → Taken code
     judged-by code true u v w p q r s f = absurd (suc-ne-zero 0 (cc))
     judged-by code false true true w p q r s f = absurd (suc-ne-zero 0 (cc))
@@ -102,7 +102,7 @@ module _ (b : Factors Number) where
         record { few = ltb-false 2001 code p; on = λ e. absurd (eqb-false i j q e); off = λ h z. absurd (eqb-false _ 0 s z) }
 
     pub judged-only : (code : ℕ) → judgedAt b i j code ≡ Accepted → Taken code
-    judged-only code f = judged-by code (ltb 2001 code) (eqb i j) (eqb code 0) (eqb (justBefore b i j .m) 0) refl refl refl refl f
+    judged-only code f = judged-by code (ltb 2001 code) (eqb i j) (eqb code 0) (eqb (beforeInLine b i j .m) 0) refl refl refl refl f
 
     -- of the numbers that may stand there
     pub stored-taken : (a : Number) → Stored a → Follows i j a → Taken (exponentCode a)
@@ -118,6 +118,6 @@ module _ (b : Factors Number) where
     pub taken-zero : Taken 0 → Follows i j zeroNumber
     taken-zero t = record { decided = zero refl; on = λ e. absurd (t .on e refl); off = λ e z. refl }
 
-pub follows-same : (b c : Factors Number) (i j : ℕ) (a : Number) → ((i ≡ j → ⊥) → justBefore b i j ≡ justBefore c i j) → Follows b i j a → Follows c i j a
+pub follows-same : (b c : Factors Number) (i j : ℕ) (a : Number) → ((i ≡ j → ⊥) → beforeInLine b i j ≡ beforeInLine c i j) → Follows b i j a → Follows c i j a
 follows-same b c i j a same f =
     record { decided = f .decided; on = f .on; off = λ e z. f .off e (ap (λ (x : Number). x .m) (same e) ∙ z) }

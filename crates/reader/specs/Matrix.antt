@@ -36,8 +36,8 @@ itemAt s p = itemByGroup s p (groupOf (drop p s))
 
 -- the factor just before that of row i and column j in its line: below the diagonal, where lines are columns, the one above it; above the diagonal, where
 -- lines are rows, the one left of it
-abbrev pub justBefore : Factors Number → ℕ → ℕ → Number
-justBefore b i j = cond (ltb j i) (b (i - 1) j) (b i (j - 1))
+abbrev pub beforeInLine : Factors Number → ℕ → ℕ → Number
+beforeInLine b i j = cond (ltb j i) (b (i - 1) j) (b i (j - 1))
 
 -- 5, 6 and 16: the exponent code of the factor of row i and column j, behind those in b. 6 is for the diagonal, where every line begins. Off it a zero breaks
 -- the pattern (document 02, (e)) where a nonzero factor stands behind it in its line: the first such one, which has a zero just before it, is 16
@@ -45,7 +45,7 @@ abbrev pub judgedAt : Factors Number → (i j code : ℕ) → CodeVerdict
 judgedAt b i j code =
     cond (ltb 2001 code) (Refused 5)
     (cond (eqb i j) (cond (eqb code 0) (Refused 6) Accepted)
-    (cond (not (eqb code 0) && eqb (justBefore b i j .m) 0) (Refused 16) Accepted))
+    (cond (not (eqb code 0) && eqb (beforeInLine b i j .m) 0) (Refused 16) Accepted))
 
 -- the same of the factor that follows those `before` it, row by row, in a matrix of n rows
 unfoldable pub judgedCode : ℕ → List Number → ℕ → CodeVerdict

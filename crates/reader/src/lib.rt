@@ -5,7 +5,7 @@ ghost use mathlib.Core.List.{[]};
 ghost use Prim.Native.Nat.{suc, _*_, _/_, _%_, _^_, _≤_, _<_};
 ghost use lib.ListN.{length, take};
 ghost use Rattle.table.specs.Table.{squareOf};
-ghost use Rattle.reader.specs.Matrix.{Reading, itemAt, ItemInside, mantissaAt, justBefore, judgedCode, factorAt, FactorInside, factorsFrom};
+ghost use Rattle.reader.specs.Matrix.{Reading, itemAt, ItemInside, mantissaAt, beforeInLine, judgedCode, factorAt, FactorInside, factorsFrom};
 ghost use Rattle.reader.specs.Matrix.{parsed, matrixOf, OutcomeInside, behindOf};
 use number::BIAS;
 use number::Number;
@@ -69,7 +69,7 @@ fn item_at(s: &[u8], at: usize) -> ByteItem
 // The number just before number k in its line, in a matrix of n rows: below the diagonal the one above it, above the diagonal the one left of it.
 fn just_before(n: usize, numbers: [Number; 64], k: usize) -> Number
     requires { ⌜ (0 < n) × (k < 64) × (k / n ≡ k % n → ⊥) ⌝ }
-    ensures { λ r. ⌜ r ≡ justBefore (squareOf n (take k numbers)) (suc (k / n)) (suc (k % n)) ⌝ }
+    ensures { λ r. ⌜ r ≡ beforeInLine (squareOf n (take k numbers)) (suc (k / n)) (suc (k % n)) ⌝ }
 {
     if k % n < k / n {
         return numbers[k - n];

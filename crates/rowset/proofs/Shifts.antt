@@ -75,7 +75,7 @@ unfolding ones-right maskCount countTo maskHas Count.ones Count.onesIn
 ones-count s h = eqb→eq _ _ (all-at 256 ones-right tt s h)
 
 -- CONSECUTIVE ROWS
-shift-exact : (b : ℕ) → b ≤ 8 → shifted b ≡ 2 ^ b
+pub shift-exact : (b : ℕ) → b ≤ 8 → shifted b ≡ 2 ^ b
 shift-exact b l = let e : 1 * 2 ^ b ≡ 2 ^ b = omega arith in shl-exact 1 b 64 (omega arith) (omega arith) ∙ e
 
 module _ (a b : ℕ) (l : a ≤ b) (lb : b ≤ 8) where

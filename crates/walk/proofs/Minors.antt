@@ -26,8 +26,7 @@ use Rattle.words.specs.Word.{Letter, E, Et, D, Dinv, Word}
 use Rattle.words.specs.Walk.{State, oneAt, moved, movedIf, scaled, act, walk, minor}
 use Rattle.words.specs.Operation as words
 use Rattle.words.specs.Operation.{stepWord, joinedWord}
-use Rattle.words.proofs.Walks.{walk-append}
-use Rattle.words.proofs.Steps.{step-rows}
+use Rattle.words.proofs.Steps.{step-rows, walk-joined}
 use Rattle.words.specs.Sources.{Walkable, Source, Sources}
 use Rattle.words.proofs.Exponents.{walk-ranged}
 use Rattle.table.specs.Table.{absent}
@@ -66,17 +65,11 @@ unfolding joinedWord walk
 joined-start n k j m L v ln b ek ev e = rw (ek, ev, e) (start-agree n j ln b)
 
 -- THE STEPS, the last first
-walk-joined : (n : ℕ) (s : words.Step Number) (L : List (words.Step Number)) (ω : State rounded)
-    → walk rounded (joinedWord n (s ∷ L)) ω ≡ walk rounded (stepWord n s) (walk rounded (joinedWord n L) ω)
-unfolding joinedWord walk
-walk-joined n s [] ω = refl
-walk-joined n s (t ∷ L) ω = walk-append rounded (stepWord n s) (joinedWord n (t ∷ L)) ω
-
 pub joined-next : {n k : ℕ} (L : List (words.Step Number)) (s : words.Step Number) (c : ℕ) (ω η θ : State rounded) → n ≤ 8 → drop c L ≡ s ∷ drop (c + 1) L
     → Agree n k η (walk rounded (joinedWord n (drop (c + 1) L)) ω) → Agree n k θ (walk rounded (stepWord n s) η)
     → Agree n k θ (walk rounded (joinedWord n (drop c L)) ω)
 joined-next {n} {k} L s c ω η θ ln e p q =
-    subst (Agree n k θ) (sym (ap (λ (M : List (words.Step Number)). walk rounded (joinedWord n M) ω) e ∙ walk-joined n s (drop (c + 1) L) ω))
+    subst (Agree n k θ) (sym (ap (λ (M : List (words.Step Number)). walk rounded (joinedWord n M) ω) e ∙ walk-joined rounded n s (drop (c + 1) L) ω))
     (agree-trans q (walk-agree ln (stepWord n s) (step-rows n s) η (walk rounded (joinedWord n (drop (c + 1) L)) ω) p))
 
 -- the steps that a list of steps holds, from number c on

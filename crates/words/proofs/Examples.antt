@@ -13,7 +13,7 @@ use Rattle.words.specs.Word.{ascending, descending, word, inverseWord, c
 use Rattle.words.specs.Walk.{oneAt, moved, scaled, act, walk, minor, carryLetter, carry}
 use Rattle.words.specs.Formula.{latestBefore, onDiagonal, belowDiagonal, bandedBelow, factorsBy}
 use Rattle.words.specs.Operation.{joinedWord, boundOf, rowByRow, result}
-use Rattle.words.specs.Examples.{ruleTable, zeroTable, boundTable}
+use Rattle.words.specs.Examples.{ruleTable, twoZerosTable, boundTable}
 
 pub rule-examples : AllHold ruleTable
 unfolding ruleTable has put count allBefore equal rows ofMask among ascending descending word inverseWord converseWord joinedWord oneAt moved scaled act walk
@@ -21,8 +21,8 @@ unfolding ruleTable has put count allBefore equal rows ofMask among ascending de
     quotientBy signedRound signedSum withSign signedProduct inRange size lib.Ieee.span lib.Ieee.climb mathlib.Core.Bool.xor
 rule-examples = (refl, (refl, (refl, (refl, (refl, (refl, (refl, (refl, (refl, (refl, (refl, tt)))))))))))
 
-pub zero-examples : AllHold zeroTable
-unfolding zeroTable has put count allBefore equal rows ofMask ascending descending word oneAt moved scaled act walk minor some latest latestBefore onDiagonal
+pub zero-examples : AllHold twoZerosTable
+unfolding twoZerosTable has put count allBefore equal rows ofMask ascending descending word oneAt moved scaled act walk minor some latest latestBefore onDiagonal
     belowDiagonal bandedBelow factorsBy rowByRow roundBy renormalised sumBy productBy quotientBy size lib.Ieee.span lib.Ieee.climb
 zero-examples = (refl, (refl, (refl, tt)))
 

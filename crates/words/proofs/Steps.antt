@@ -1,15 +1,17 @@
 -- The words of steps: what holds of every letter of a step's word (step-all) and of joined words (joined-all), where the sources' factors have a property
 -- (Sources). So the rows of joined words are among 1 .. n (joined-rows), and their weights have what the factors off the diagonal have, their entries what
--- those on it have (joined-weights).
-use mathlib.Core.Path.{sym}
+-- those on it have (joined-weights). The walk of joined words (walk-joined).
+use mathlib.Core.Path.{_≡_, refl, sym}
 use mathlib.Core.List.{List, [], _∷_}
 use Prim.Native.Nat.{ℕ, _+_, _-_}
 use native.Mathlib.Omega.{arith}
+use Rattle.fraction.specs.Arithmetic.{Arithmetic}
 use Rattle.words.specs.RowSet.{In}
 use Rattle.words.specs.Word.{Factors, Letter, E, Et, D, Dinv, word, exchanged, inverseLetter, converseLetter}
+use Rattle.words.specs.Walk.{State, walk}
 use Rattle.words.specs.Operation.{Step, step, plain, inverted, conversed, transposed, stepWord, joinedWord, eachFactor, eachSteps}
 use Rattle.words.specs.Sources.{Each, Weighted, Source, Sources}
-use Rattle.words.proofs.Walks.{Rows, All, all-append}
+use Rattle.words.proofs.Walks.{Rows, All, all-append, walk-append}
 use Rattle.words.proofs.Words.{inverse-all, converse-all, inverse-row, converse-row}
 use Rattle.words.proofs.Stages.{word-all, word-rows}
 
@@ -98,3 +100,10 @@ module _ {A : Type 0} (P Q : A → Type 0) (n : ℕ) where
 
   pub joined-weights : (L : List (Step A)) → Sources (Weighted P Q n) L → All (Weights P Q n) (joinedWord n L)
   joined-weights = joined-all (Weighted P Q n) (Weights P Q n) n word-weights inverse-weight converse-weight exchanged-weighted
+
+-- the walk of joined steps: the first step's word is walked last
+pub walk-joined : (K : Arithmetic) (n : ℕ) (s : Step (K .Num)) (L : List (Step (K .Num))) (ω : State K)
+    → walk K (joinedWord n (s ∷ L)) ω ≡ walk K (stepWord n s) (walk K (joinedWord n L) ω)
+unfolding joinedWord walk
+walk-joined K n s [] ω = refl
+walk-joined K n s (t ∷ L) ω = walk-append K (stepWord n s) (joinedWord n (t ∷ L)) ω

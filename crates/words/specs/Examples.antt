@@ -1,4 +1,4 @@
--- Worked examples of words, walks and formulas (ruleTable), of a source with zeros (zeroTable), and document 01's two tables of bounds (boundTable). Its marked
+-- Worked examples of words, walks and formulas (ruleTable), of a source with zeros (twoZerosTable), and document 01's two tables of bounds (boundTable). Its marked
 -- examples P1 to P12 are one table of calls in crate shelf; the rows here hold the definitions of this crate to the same values.
 use mathlib.Core.Bool.{true, false, cond, _&&_}
 use mathlib.Core.List.{List, [], _∷_}
@@ -82,8 +82,8 @@ ruleTable =
     ∷ []
 
 -- with zeros: R is found for each row by itself, and the factors of a word's own minors are those of the word
-unfoldable pub zeroTable : List Row
-zeroTable =
+unfoldable pub twoZerosTable : List Row
+twoZerosTable =
     row (latestBefore rounded 4 (minor rounded (word 4 twoZeros)) 4 3) (ofMask 4 5)  -- rows 1 and 3: M(2, 3 | 1, 2) is zero
     ∷ row (latestBefore rounded 4 (minor rounded (word 4 twoZeros)) 3 3) (ofMask 4 3)  -- rows 1 and 2
     ∷ row (rowByRow 4 (newFactor rounded 4 (minor rounded (word 4 twoZeros)))) (rowByRow 4 twoZeros)

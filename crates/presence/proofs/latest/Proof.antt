@@ -7,7 +7,8 @@ use native.Mathlib.Omega.{arith}
 use lib.Pow.{pow-mono, pow-pos}
 use Rattle.rowset.specs.Mask.{maskCount}
 use Rattle.presence.specs.Held.{heldAt}
-use Rattle.presence.proofs.Search.{passes, count-few, shift-exact, passes-held, fails-count, search-next, search-found, search-none}
+use Rattle.rowset.proofs.Shifts.{shift-exact}
+use Rattle.presence.proofs.Search.{passes, count-few, passes-held, fails-count, search-next, search-found, search-none}
 use Rattle.presence.proofs.latest.Statement.{statement}
 use Rattle.presence.proofs.latest.Tie as tie
 

@@ -12,9 +12,8 @@ use lib.Seq.{length-take-le}
 use Rattle.arrays.proofs.Structs.{length-mapped}
 use Rattle.number.specs.declared.Number.{Number}
 use Rattle.table.specs.Table.{squareOf}
-use Rattle.reader.specs.declared.CodeVerdict.{CodeVerdict}
 use Rattle.reader.specs.declared.CodeVerdict.the-variants.{Accepted, Refused}
-use Rattle.reader.specs.Matrix.{justBefore, judgedCode}
+use Rattle.reader.specs.Matrix.{beforeInLine, judgedCode}
 use Rattle.reader.proofs.judge.Statement.{statement}
 use Rattle.reader.proofs.judge.Tie as tie
 
@@ -34,7 +33,7 @@ module _ (n k code : ℕ) (numbers : List Number) (long : length numbers ≡ 64)
     unfolding judgedCode
     off-diagonal-zero z = rw front (simp (le-ltb 2001 code few, apart, eq-eqb code 0 z))
 
-    off-diagonal : (code ≡ 0 → ⊥) → (a : Number) → a ≡ justBefore (squareOf n (take k numbers)) (suc (k / n)) (suc (k % n))
+    off-diagonal : (code ≡ 0 → ⊥) → (a : Number) → a ≡ beforeInLine (squareOf n (take k numbers)) (suc (k / n)) (suc (k % n))
         → judgedCode n (take k numbers) code ≡ cond (eqb (a .m) 0) (Refused 16) Accepted
     unfolding judgedCode
     off-diagonal z a e = rw (e, front) (simp (le-ltb 2001 code few, apart, ne-eqb code 0 z))
