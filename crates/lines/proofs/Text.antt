@@ -5,8 +5,8 @@ use native.Mathlib.Decide.{decLe}
 use native.Mathlib.Omega.{arith}
 use mathlib.Core.Path.{_≡_, refl, sym, _∙_}
 use mathlib.Core.List.{List, [], _∷_, _++_, flatMap}
-use lib.ListN.{length, getD, drop, set, length-append, length-set, drop-of-length-le}
-use lib.Seq.{drop-cons, sets, length-sets}
+use lib.ListN.{length, getD, take, drop, set, length-append, length-set, drop-of-length-le}
+use lib.Seq.{drop-cons, sets, length-sets, sets-eq, length-take-le, take-at}
 use Rattle.arrays.proofs.Runs.{sets-append, sets-out}
 use Rattle.lines.specs.Ascii.{ascii}
 use Rattle.lines.specs.Text.{indexAfter, Puts, pairsText, bytesText}
@@ -37,6 +37,15 @@ puts-behind {a} {b} {out} {at = at} p q =
 pub puts-whole : {out text after : List ℕ} {to : ℕ} → Puts out 0 text after to → length text ≤ length out → (to ≡ length text) × (after ≡ sets out 0 text)
 unfolding indexAfter
 puts-whole p h = (p .index ∙ omega arith, p .bytes)
+
+-- and stands behind what stood before its index
+pub puts-room : {out text after : List ℕ} {at to : ℕ} → Puts out at text after to → at + length text ≤ length out
+    → (to ≡ at + length text) × (take to after ≡ take at out ++ text)
+unfolding indexAfter
+puts-room {out} {text} {after} {at} {to} p h =
+    let e : to ≡ at + length text = p .index ∙ omega arith in
+    let l : length (take at out ++ text) ≡ at + length text = simp (length-append, length-take-le at out (omega arith)) in
+    (e, rw (e, p .bytes, sets-eq text out at h) (take-at (take at out ++ text) (drop (at + length text) out) (at + length text) l))
 
 -- what is left to be put of a text: behind what was put, it completes the text
 pub record Left (out₀ : List ℕ) (at : ℕ) (text out : List ℕ) (to : ℕ) (rest : List ℕ) : Type 0 where

@@ -1,23 +1,15 @@
 -- The words of a line (`wordsOf`).
 use Prim.Native.Nat.{ℕ}
-use mathlib.Core.Bool.{cond}
 use mathlib.Core.List.{List, [], _∷_}
-use lib.Dec.{ltb, eqb}
-use lib.ListN.{length, drop}
-
--- one byte more in front of the first word
-abbrev pub inFront : ℕ → List (List ℕ) → List (List ℕ)
-inFront b [] = []
-inFront b (w ∷ ws) = (b ∷ w) ∷ ws
+use Rattle.lines.specs.Words.{parted, partsAt}
 
 -- a line is parted at each space
-unfoldable pub wordsOf : List ℕ → List (List ℕ)
-wordsOf [] = [] ∷ []
-wordsOf (b ∷ s) = cond (eqb b 32) ([] ∷ wordsOf s) (inFront b (wordsOf s))
+abbrev pub wordsOf : List ℕ → List (List ℕ)
+wordsOf s = parted 32 s
 
 -- the words from an index on, none past the end
 abbrev pub wordsAt : List ℕ → ℕ → List (List ℕ)
-wordsAt s at = cond (ltb (length s) at) [] (wordsOf (drop at s))
+wordsAt s at = partsAt 32 s at
 
 -- the first of some words, empty where there is none, and those behind it
 abbrev pub firstWord : List (List ℕ) → List ℕ

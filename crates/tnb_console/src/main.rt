@@ -1,19 +1,22 @@
-// A console for one shelf: requests on standard input, one to a line, and one line for each on standard output.
+// A console for one shelf: requests on standard input, one to a line, and one line for each on standard output. What is promised here is of bytes that were
+// read and of answers that wait to be written; reading and writing are run.
+ghost use mathlib.Core.Path.{_≡_};
+ghost use mathlib.Core.Bool.{cond};
+ghost use mathlib.Core.List.{[]};
+ghost use Prim.Native.Nat.{_+_, _≤_};
+ghost use lib.ListN.{length, take, drop};
+ghost use Rattle.lines.specs.Words.{before};
 ghost use Rattle.places.specs.Shelf.{Good};
+ghost use Rattle.tnb_console.specs.Session.{afterLine};
+ghost use Rattle.tnb_console.specs.Kept.{sessionOf, placeOf, Ready, Responded, Turned};
 use libc::STDERR_FILENO;
 use libc::STDIN_FILENO;
 use libc::STDOUT_FILENO;
+use replies::LONGEST;
 use shelf::Shelf;
 
-mod answer; // answer.rt: the answer to a line
-mod calls; // calls.rt: the calls, with their answers
-mod items; // items.rt: list items, as they are lent
-
-// A line of more bytes is no request.
-const LONGEST: usize = 4096;
-
 // Answers are written once so many bytes wait. The output has room for the longest answer behind them.
-const ENOUGH: usize = 32768;
+const ENOUGH: usize = 16384;
 
 // What is kept from line to line: the shelf, where the next line starts, how many bytes of answers wait, whether that line is too
 // long and its start thrown away, and whether the answers before could be written.
@@ -26,8 +29,7 @@ struct State {
 }
 
 fn keep(shelf: Shelf, start: usize, waiting: usize, long: bool) -> State
-    requires { ⌜ Good shelf ⌝ }
-    ensures { λ r. ⌜ Good (r .shelf) ⌝ }
+    ensures { λ r. ⌜ (r .shelf ≡ shelf) × (r .start ≡ start) × (r .waiting ≡ waiting) × (r .long ≡ long) ⌝ }
 {
     State {
         shelf,
@@ -39,8 +41,10 @@ fn keep(shelf: Shelf, start: usize, waiting: usize, long: bool) -> State
 }
 
 // Writes what waits, and answers whether it could.
-fn flush(output: &[u8], waiting: usize) -> bool {
-    if io::write_all(STDOUT_FILENO, part(output, 0, waiting)) {
+fn flush(output: &[u8], waiting: usize) -> bool
+    requires { ⌜ waiting ≤ length (now output) ⌝ }
+{
+    if io::write_all(STDOUT_FILENO, &output[0..waiting]) {
         return true;
     }
     io::write_all(STDERR_FILENO, b"tnb_console: cannot write its output\n");
@@ -48,7 +52,10 @@ fn flush(output: &[u8], waiting: usize) -> bool {
 }
 
 // Makes room for an answer, and says where it goes.
-fn room(output: &[u8], waiting: usize) -> usize {
+fn room(output: &[u8], waiting: usize) -> usize
+    requires { ⌜ waiting ≤ length (now output) ⌝ }
+    ensures { λ r. ⌜ r ≡ placeOf waiting ⌝ }
+{
     if waiting < ENOUGH {
         return waiting;
     }
@@ -56,125 +63,57 @@ fn room(output: &[u8], waiting: usize) -> usize {
     0
 }
 
-fn is_long(line: &[u8], long: bool) -> bool {
-    if long {
-        return true;
-    }
-    LONGEST < line.len()
-}
-
-// The end of a line behind its answer.
-fn ended(shelf: Shelf, next: usize, output: &mut [u8], at: usize) -> State
-    requires { ⌜ Good shelf ⌝ }
-    ensures { λ r. ⌜ Good (r .shelf) ⌝ }
-{
-    keep(shelf, next, lines::put(output, at, b"\n"), false)
-}
-
 // Answers a line, which is given without its end; the one behind it starts at `next`.
 fn respond(was: State, line: &[u8], next: usize, output: &mut [u8]) -> State
-    requires { ⌜ Good (was .shelf) ⌝ }
-    ensures { λ r. ⌜ Good (r .shelf) ⌝ }
+    requires { ⌜ Ready was (now output) ⌝ }
+    ensures { λ r. ⌜ Ready r (now (output .exit)) ⌝ }
+    ensures { λ r. ⌜ (sessionOf r (now (output .exit)) ≡ afterLine (sessionOf was (now (output .entry))) (now (line .entry))) × (r .start ≡ next) ⌝ }
 {
     let shelf = was.shelf;
     let at = room(output, was.waiting);
-    if is_long(line, was.long) {
-        let end = answer::bad(output, at);
-        return ended(shelf, next, output, end);
-    }
-    let answered = answer::to_line(shelf, line, output, at);
+    let answered = replies::to_line(shelf, line, was.long, output, at);
     let after = answered.shelf;
-    ended(after, next, output, answered.at)
+    keep(after, next, answered.at, false)
 }
 
 // Where the line that starts at an index ends; the text's length where that is not read yet.
-fn line_end(text: &[u8], start: usize) -> usize {
-    if text.len() < start {
-        return text.len();
-    }
+fn line_end(text: &[u8], start: usize) -> usize
+    requires { ⌜ start ≤ length (now text) ⌝ }
+    ensures { λ r. ⌜ r ≡ start + length (before 10 (drop start (now (text .entry)))) ⌝ }
+    ensures { λ r. ⌜ r ≤ length (now (text .entry)) ⌝ }
+{
     start + lines::before(&text[start..], b'\n')
 }
 
-fn part(text: &[u8], start: usize, end: usize) -> &[u8] {
-    if end <= text.len() {
-        if start <= end {
-            return &text[start..end];
-        }
-    }
-    &text[0..0]
-}
-
-// Answers the lines that end in the text.
+// Answers the lines that end in the text, one after the other.
 fn respond_all(was: State, text: &[u8], output: &mut [u8]) -> State
-    requires { ⌜ Good (was .shelf) ⌝ }
-    ensures { λ r. ⌜ Good (r .shelf) ⌝ }
+    requires { ⌜ Ready was (now output) ⌝ }
+    requires { ⌜ was .start ≤ length (now text) ⌝ }
+    ensures { λ r. ⌜ Ready r (now (output .exit)) ⌝ }
+    ensures { λ r. ⌜ Responded was (now (text .entry)) (now (output .entry)) r (now (output .exit)) ⌝ }
 {
     let mut now = was;
-    let mut turns = text.len();
-    while turns > 0 {
-        let start = now.start;
-        let end = line_end(text, start);
-        if text.len() <= end {
-            return now;
-        }
-        now = respond(now, part(text, start, end), end + 1, output);
-        turns -= 1;
+    let mut start = was.start;
+    let mut end = line_end(text, start);
+    while end < text.len() {
+        now = respond(now, &text[start..end], end + 1, output);
+        start = end + 1;
+        end = line_end(text, start);
     }
     now
 }
 
-// Reads once, behind the first `held` bytes, and answers how many there are then. At the end of input that is no more.
-fn read_more(input: &mut [u8], held: usize) -> usize {
-    if input.len() <= held {
-        return held;
-    }
-    let got = libc::read(STDIN_FILENO, &mut input[held..]);
-    held + io::count(got, &input[held..])
-}
-
-// Whether the line that starts at an index of n bytes, and goes on, is too long.
-fn too_long(start: usize, n: usize) -> bool {
-    if n < start {
-        return false;
-    }
-    LONGEST < n - start
-}
-
-// Moves the bytes from `start` to n to the input's start, and answers how many they are.
-fn move_up(input: &mut [u8], start: usize, n: usize) -> usize {
-    if n < start {
-        return 0;
-    }
-    if input.len() < n {
-        return 0;
-    }
-    let count = n - start;
-    for k in 0..count {
-        input[k] = input[start + k];
-    }
-    count
-}
-
-// The same for what is left of an unfinished line: nothing, where that is too long.
-fn hold(input: &mut [u8], start: usize, n: usize, long: bool) -> usize {
-    if long {
-        return 0;
-    }
-    move_up(input, start, n)
-}
-
-// The lines that end among the first n bytes are answered and written out.
-fn respond_now(was: State, input: &[u8], n: usize, output: &mut [u8]) -> State
-    requires { ⌜ Good (was .shelf) ⌝ }
-    ensures { λ r. ⌜ Good (r .shelf) ⌝ }
+// The lines that end in the text are answered and the answers written.
+fn respond_now(was: State, text: &[u8], output: &mut [u8]) -> State
+    requires { ⌜ Ready was (now output) ⌝ }
+    requires { ⌜ was .start ≡ 0 ⌝ }
+    ensures { λ r. ⌜ Ready r (now (output .exit)) ⌝ }
+    ensures { λ r. ⌜ Turned was (now (text .entry)) (now (output .entry)) r ⌝ }
 {
-    let now = respond_all(was, part(input, 0, n), output);
+    let now = respond_all(was, text, output);
     let shelf = now.shelf;
     let start = now.start;
-    let mut long = now.long;
-    if too_long(start, n) {
-        long = true;
-    }
+    let long = now.long | (LONGEST < text.len() - start);
     let written = flush(output, now.waiting);
     State {
         shelf,
@@ -185,32 +124,67 @@ fn respond_now(was: State, input: &[u8], n: usize, output: &mut [u8]) -> State
     }
 }
 
-// The last line may lack its end.
-fn finish(was: State, input: &[u8], held: usize, output: &mut [u8])
-    requires { ⌜ Good (was .shelf) ⌝ }
+// Reads once, behind the first `held` bytes, and answers how many there are then. At the end of input that is no more.
+fn read_more(input: &mut [u8], held: usize) -> usize
+    requires { ⌜ held ≤ length (now input) ⌝ }
+    ensures { λ r. ⌜ r ≤ length (now (input .exit)) ⌝ }
+    ensures { λ r. ⌜ take held (now (input .exit)) ≡ take held (now (input .entry)) ⌝ }
 {
-    let mut some = was.long;
-    if 0 < held {
-        some = true;
+    let got = libc::read(STDIN_FILENO, &mut input[held..]);
+    held + io::count(got, &input[held..])
+}
+
+// Moves the bytes from `start` to n to the input's start, and answers how many they are.
+fn move_up(input: &mut [u8], start: usize, n: usize) -> usize
+    requires { ⌜ start ≤ n ⌝ }
+    requires { ⌜ n ≤ length (now input) ⌝ }
+    ensures { λ r. ⌜ take r (now (input .exit)) ≡ drop start (take n (now (input .entry))) ⌝ }
+    ensures { λ r. ⌜ r ≤ length (now (input .exit)) ⌝ }
+{
+    let count = n - start;
+    for k in 0..count {
+        input[k] = input[start + k];
     }
-    if some {
-        let now = respond(was, part(input, 0, held), 0, output);
+    count
+}
+
+// The same for what is left of an unfinished line: nothing, where that is too long.
+fn hold(input: &mut [u8], start: usize, n: usize, long: bool) -> usize
+    requires { ⌜ start ≤ n ⌝ }
+    requires { ⌜ n ≤ length (now input) ⌝ }
+    ensures { λ r. ⌜ take r (now (input .exit)) ≡ cond long [] (drop start (take n (now (input .entry)))) ⌝ }
+    ensures { λ r. ⌜ r ≤ length (now (input .exit)) ⌝ }
+{
+    if long {
+        return 0;
+    }
+    move_up(input, start, n)
+}
+
+// The last line may lack its end.
+fn finish(was: State, line: &[u8], output: &mut [u8])
+    requires { ⌜ Ready was (now output) ⌝ }
+{
+    if was.long | (0 < line.len()) {
+        let now = respond(was, line, 0, output);
         flush(output, now.waiting);
     }
 }
 
 // Nothing says that the input ends, so turns are counted down from a number that no run uses up.
-fn serve(input: &mut [u8], output: &mut [u8]) {
+fn serve(input: &mut [u8], output: &mut [u8])
+    requires { ⌜ length (now output) ≡ 65536 ⌝ }
+{
     let mut now = keep(shelf::new(), 0, 0, false);
     let mut held: usize = 0;
     let mut turns = u64::MAX;
     while turns > 0 {
         let n = read_more(input, held);
         if n <= held {
-            finish(now, input, held, output);
+            finish(now, &input[0..held], output);
             return;
         }
-        let done = respond_now(now, input, n, output);
+        let done = respond_now(now, &input[0..n], output);
         if !done.written {
             return;
         }

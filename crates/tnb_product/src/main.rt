@@ -1,5 +1,8 @@
 // Loads left.tnb and right.tnb to places 0 and 1, multiplies them into place 2, and prints n, then row, column, mantissa and exponent of
 // each factor; at the first refusal only that.
+ghost use mathlib.Core.Path.{_≡_};
+ghost use Prim.Native.Nat.{ℕ};
+ghost use lib.ListN.{take};
 ghost use Rattle.lines.specs.Text.{Puts};
 ghost use Rattle.verdict.specs.Report.{verdictReport};
 ghost use Rattle.places.specs.Shelf.{Good};
@@ -66,7 +69,9 @@ fn read_file(path: &[u8], buffer: &mut [u8]) -> usize {
     n
 }
 
-fn first(buffer: &[u8], n: usize) -> &[u8] {
+fn first(buffer: &[u8], n: usize) -> &[u8]
+    ensures { λ r. ⌜ now r ≡ take n (now (buffer .entry)) ⌝ }
+{
     if n <= buffer.len() {
         return &buffer[0..n];
     }
@@ -172,19 +177,22 @@ fn text(left: &[u8], right: &[u8], out: &mut [u8]) -> usize
     put_text(out, left_verdict, right_verdict, product)
 }
 
-// Reads the two files. A load judges less than 4,096 bytes, so a longer file may be cut there.
-fn print(left: &mut [u8], right: &mut [u8], out: &mut [u8]) {
+// Reads the two files, and puts what is printed. A load judges less than 4,096 bytes, so a longer file may be cut there.
+fn put_files(left: &mut [u8], right: &mut [u8], out: &mut [u8]) -> usize
+    ensures { λ r. ⌜ ((a : ℕ) × (b : ℕ) × Puts (now (out .entry)) 0 (programText (take a (now (left .exit))) (take b (now (right .exit))))
+        (now (out .exit)) r) ⌝ }
+{
     let a = read_file(b"left.tnb", left);
     let b = read_file(b"right.tnb", right);
-    let n = text(first(left, a), first(right, b), out);
-    if !io::write_all(STDOUT_FILENO, first(out, n)) {
-        io::write_all(STDERR_FILENO, b"tnb_product: cannot write its output\n");
-    }
+    text(first(left, a), first(right, b), out)
 }
 
 fn main() {
     let mut left = io::buffer();
     let mut right = io::buffer();
     let mut out = io::buffer();
-    print(&mut left, &mut right, &mut out);
+    let n = put_files(&mut left, &mut right, &mut out);
+    if !io::write_all(STDOUT_FILENO, first(&out, n)) {
+        io::write_all(STDERR_FILENO, b"tnb_product: cannot write its output\n");
+    }
 }

@@ -1,0 +1,46 @@
+-- An answer is put whole behind those that wait, since there is room for the longest (`line-answered`).
+use Prim.Native.Nat.{ℕ, _+_, _≤_}
+use native.Mathlib.Omega.{arith}
+use mathlib.Core.Path.{_≡_, refl, sym, ap, _∙_}
+use mathlib.Core.Bool.{Bool, true, false, cond}
+use mathlib.Core.List.{List, [], _++_}
+use lib.Dec.{ltb}
+use lib.ListN.{length, take}
+use lib.Seq.{length-take-le, length-sets}
+use borrow.Author.Tests.{ltb-true}
+use Rattle.lines.proofs.Text.{puts-room}
+use Rattle.places.specs.Shelf.{Good}
+use Rattle.replies.specs.declared.calls.Answered.{Answered}
+use Rattle.replies.specs.Replies.{Replied, replyToLine, longestAnswer}
+use Rattle.replies.proofs.Short.{answer-short}
+use Rattle.tnb_console.specs.declared.State.{State}
+use Rattle.tnb_console.specs.Session.{enough, kept, afterLine}
+use Rattle.tnb_console.specs.Kept.{sessionOf, placeOf, Ready}
+
+module _ {was now : State} {line out after : List ℕ} {r : Answered} (ready : Ready was out)
+    (replied : Replied (replyToLine (was .shelf) (was .long) line) out (placeOf (was .waiting)) after r) where
+  placed : (t : Bool) → ltb (was .waiting) enough ≡ t → take (cond t (was .waiting) 0) out ≡ cond t (take (was .waiting) out) []
+  placed true e = refl
+  placed false e = refl
+
+  kept-placed : take (placeOf (was .waiting)) out ≡ kept (take (was .waiting) out)
+  kept-placed = rw (length-take-le (was .waiting) out (ready .within)) (placed (ltb (was .waiting) enough) refl)
+
+  roomy : (t : Bool) → ltb (was .waiting) enough ≡ t → cond t (was .waiting) 0 + longestAnswer ≤ length out
+  roomy true e = omega (arith, ltb-true _ _ e, ready .whole)
+  roomy false e = omega (arith, ready .whole)
+
+  whole : placeOf (was .waiting) + length (replyToLine (was .shelf) (was .long) line .text) ≤ length out
+  whole = omega (arith, roomy (ltb (was .waiting) enough) refl, answer-short (was .shelf) (ready .good) (was .long) line)
+
+  pub line-answered : now .shelf ≡ r .shelf → now .waiting ≡ r .at → now .long ≡ false → sessionOf now after ≡ afterLine (sessionOf was out) line
+  unfolding afterLine
+  line-answered s w l =
+      let put = puts-room (replied .text) whole in
+      rw (s, w, l, replied .shelf, put .1, kept-placed)
+
+  pub line-within : now .waiting ≡ r .at → (now .waiting ≤ length after) × (length after ≡ 65536)
+  line-within w =
+      let put = puts-room (replied .text) whole in
+      let same : length after ≡ length out = ap length (replied .text .bytes) ∙ length-sets out _ _ in
+      (omega (arith, w, put .0, whole, same), same ∙ ready .whole)
