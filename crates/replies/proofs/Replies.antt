@@ -1,18 +1,20 @@
 -- A reply is given where its text was put and its shelf is handed back (`replied`), and one for an outcome is one for an equal outcome (`told-as`,
--- `bytes-as`).
+-- `bytes-as`). The answer to a line by its length (`answer-overlong`, `answer-asked`).
 use Prim.Native.Nat.{ℕ}
 use mathlib.Core.Path.{_≡_, refl, sym, _∙_}
+use mathlib.Core.Bool.{Bool, true, false}
 use mathlib.Core.List.{List}
 use lib.IntN.{ℤ}
 use Rattle.lines.specs.Text.{Puts}
 use Rattle.verdict.specs.Report.{Report}
 use Rattle.places.specs.declared.Shelf.{Shelf}
 use Rattle.places.specs.Outcome.{Outcome}
-use Rattle.answers.specs.Answers.{reportText, withBytes}
+use Rattle.answers.specs.Answers.{reportText, withBytes, badText}
 use Rattle.shelf.specs.Calls.{writeCall, carryCall}
 use Rattle.shelf.specs.Run.{run, write, carry}
+use Rattle.requests.specs.Requests.{requestOf}
 use Rattle.replies.specs.declared.calls.Answered.{Answered}
-use Rattle.replies.specs.Replies.{Reply, Replied, told, toldBytes, reply}
+use Rattle.replies.specs.Replies.{Reply, Replied, told, toldBytes, reply, replyTo, overlong, answerTo}
 
 module _ {out after : List ℕ} {at : ℕ} {r : Answered} where
   pub replied : {reply : Reply} {s : Shelf} {to : ℕ} →
@@ -35,3 +37,13 @@ write-keeps s p bytes = refl
 pub carry-keeps : (s : Shelf) (p : ℕ) (list items : List ℤ) → run s (carry p list items) .shelf ≡ s
 unfolding run carryCall
 carry-keeps s p list items = refl
+
+-- by its length a line's answer is that of a bad request, or that of what it asks
+module _ (s : Shelf) (long : Bool) (line : List ℕ) where
+  pub answer-overlong : overlong long line ≡ true → answerTo s long line ≡ reply s badText
+  unfolding answerTo
+  answer-overlong e = rw e
+
+  pub answer-asked : overlong long line ≡ false → answerTo s long line ≡ replyTo s (requestOf line)
+  unfolding answerTo
+  answer-asked e = rw e
