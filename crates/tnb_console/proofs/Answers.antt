@@ -17,30 +17,35 @@ use Rattle.tnb_console.specs.declared.State.{State}
 use Rattle.tnb_console.specs.Session.{enough, kept, afterLine}
 use Rattle.tnb_console.specs.Kept.{sessionOf, placeOf, Ready}
 
-module _ {was now : State} {line out after : List ℕ} {r : Answered} (ready : Ready was out)
-    (replied : Replied (replyToLine (was .shelf) (was .long) line) out (placeOf (was .waiting)) after r) where
-  placed : (t : Bool) → ltb (was .waiting) enough ≡ t → take (cond t (was .waiting) 0) out ≡ cond t (take (was .waiting) out) []
-  placed true e = refl
-  placed false e = refl
+-- what waits is kept behind its index, and there is room for the longest answer
+module _ {was : State} {out : List ℕ} (ready : Ready was out) where
+  placed : (t : Bool) → take (cond t (was .waiting) 0) out ≡ cond t (take (was .waiting) out) []
+  placed true = refl
+  placed false = refl
 
   kept-placed : take (placeOf (was .waiting)) out ≡ kept (take (was .waiting) out)
-  kept-placed = rw (length-take-le (was .waiting) out (ready .within)) (placed (ltb (was .waiting) enough) refl)
+  kept-placed = rw (length-take-le (was .waiting) out (ready .within)) (placed (ltb (was .waiting) enough))
 
   roomy : (t : Bool) → ltb (was .waiting) enough ≡ t → cond t (was .waiting) 0 + longestAnswer ≤ length out
-  roomy true e = omega (arith, ltb-true _ _ e, ready .whole)
+  roomy true e = omega (arith, ltb-true (was .waiting) enough e, ready .whole)
   roomy false e = omega (arith, ready .whole)
 
-  whole : placeOf (was .waiting) + length (replyToLine (was .shelf) (was .long) line .text) ≤ length out
-  whole = omega (arith, roomy (ltb (was .waiting) enough) refl, answer-short (was .shelf) (ready .good) (was .long) line)
+  module _ (line : List ℕ) where
+    abbrev answer : List ℕ
+    answer = replyToLine (was .shelf) (was .long) line .text
 
-  pub line-answered : now .shelf ≡ r .shelf → now .waiting ≡ r .at → now .long ≡ false → sessionOf now after ≡ afterLine (sessionOf was out) line
-  unfolding afterLine
-  line-answered s w l =
-      let put = puts-room (replied .text) whole in
-      rw (s, w, l, replied .shelf, put .1, kept-placed)
+    whole : placeOf (was .waiting) + length answer ≤ length out
+    whole = omega (arith, roomy (ltb (was .waiting) enough) refl, answer-short (was .shelf) (ready .good) (was .long) line)
 
-  pub line-within : now .waiting ≡ r .at → (now .waiting ≤ length after) × (length after ≡ 65536)
-  line-within w =
-      let put = puts-room (replied .text) whole in
-      let same : length after ≡ length out = ap length (replied .text .bytes) ∙ length-sets out _ _ in
-      (omega (arith, w, put .0, whole, same), same ∙ ready .whole)
+    module _ {after : List ℕ} {r : Answered} (replied : Replied (replyToLine (was .shelf) (was .long) line) out (placeOf (was .waiting)) after r) (now : State) where
+      pub line-answered : now .shelf ≡ r .shelf → now .waiting ≡ r .at → now .long ≡ false → sessionOf now after ≡ afterLine (sessionOf was out) line
+      unfolding afterLine
+      line-answered s w l =
+          let put = puts-room (replied .text) whole in
+          rw (s, w, l, replied .shelf, put .1, kept-placed)
+
+      pub line-ready : Good (now .shelf) → now .waiting ≡ r .at → Ready now after
+      line-ready g w =
+          let put = puts-room (replied .text) whole in
+          let same : length after ≡ length out = ap length (replied .text .bytes) ∙ length-sets out (placeOf (was .waiting)) answer in
+          record { good = g; whole = same ∙ ready .whole; within = omega (arith, put .0, whole) }

@@ -1,4 +1,6 @@
 -- Laws that belong to no one function.
 pub mod Lines
+pub mod Going
 pub mod Answers
 pub mod Pieces
+pub mod Moves

@@ -76,17 +76,18 @@ last-whole stop (x ∷ a) = by (eqb x stop) refl (parts stop a) (last-whole stop
 whole-front : (stop : ℕ) (u b p : List ℕ) (ps : List (List ℕ)) → parted stop u ≡ u ∷ [] → parted stop b ≡ p ∷ ps → parted stop (u ++ b) ≡ (u ++ p) ∷ ps
 unfolding parted
 whole-front stop [] b p ps h e = e
-whole-front stop (x ∷ u) b p ps h e = by (eqb x stop) refl (parts stop u)
+whole-front stop (x ∷ u) b p ps h e = by (eqb x stop) refl (parts stop u) (λ v. whole-front stop u b p ps v e)
   where
-    by : (t : Bool) → eqb x stop ≡ t → Parts stop u → parted stop (x ∷ (u ++ b)) ≡ (x ∷ (u ++ p)) ∷ ps
-    by true f q =
+    by : (t : Bool) → eqb x stop ≡ t → Parts stop u → (parted stop u ≡ u ∷ [] → parted stop (u ++ b) ≡ (u ++ p) ∷ ps)
+        → parted stop (x ∷ (u ++ b)) ≡ (x ∷ (u ++ p)) ∷ ps
+    by true f q more =
         let g : [] ∷ parted stop u ≡ (x ∷ u) ∷ [] = sym (ap (λ t. cond t ([] ∷ parted stop u) (inFront x (parted stop u))) f) ∙ h in
-        let z : _≡_ {A = ℕ} 0 1 = ap (λ (l : List (List ℕ)). length (lastOf l)) refl in
+        let z : _≡_ {A = ℕ} 0 1 = cc in
         absurd (omega arith)
-    by false f q =
+    by false f q more =
         let g : (x ∷ q .first) ∷ q .others ≡ (x ∷ u) ∷ [] = sym (ap₂ (λ t l. cond t ([] ∷ l) (inFront x l)) f (q .same)) ∙ h in
-        let v : parted stop u ≡ u ∷ [] = q .same ∙ (cc) in
-        rw (f, whole-front stop u b p ps v e)
+        let v : q .first ∷ q .others ≡ u ∷ [] = cc in
+        rw (f, more (q .same ∙ v))
 
 -- ---- what a text leaves, by its parts
 abbrev afterParts : Session → List (List ℕ) → Session
@@ -119,10 +120,14 @@ module _ (d : Session) (u : List ℕ) (over : overlong (d .long) u ≡ true) whe
       by true e = refl
       by false e = lt-ltb 4096 (length (u ++ p)) (omega (arith, length-append u p, ltb-true 4096 (length u) (sym (ap (λ t. t || ltb 4096 (length u)) e) ∙ over)))
 
+  line-cut : (p : List ℕ) → afterLine cut p ≡ afterLine d (u ++ p)
+  unfolding afterLine answerTo
+  line-cut p = rw (still p)
+
   parts-cut : (p : List ℕ) (ps : List (List ℕ)) → afterParts cut (p ∷ ps) ≡ afterParts d ((u ++ p) ∷ ps)
-  unfolding afterLines afterLine allButLast lastOf answerTo
+  unfolding afterLines allButLast lastOf
   parts-cut p [] = rw (still p)
-  parts-cut p (q ∷ qs) = rw (still p)
+  parts-cut p (q ∷ qs) = ap (λ (c : Session). afterParts c (q ∷ qs)) (line-cut p)
 
 -- THE PIECES of a text, one behind the other
 pub pieces : (c : Session) (a b : List ℕ) → afterText (afterText c a) (held c a ++ b) ≡ afterText c (a ++ b)
@@ -135,16 +140,20 @@ pieces c a b = by (overlong (d .long) u) refl ∙ sym (rw (parted-behind 10 a b)
     u : List ℕ
     u = unended a
 
+    neither : (t : Bool) → t || ltb 4096 (length u) ≡ false → t ≡ false
+    neither false f = refl
+    neither true f = f
+
     by : (t : Bool) → overlong (d .long) u ≡ t
         → afterParts (record { shelf = d .shelf; long = t; waiting = d .waiting }) (parted 10 (cond t [] u ++ b)) ≡ afterParts d (parted 10 (u ++ b))
     by true e =
         let p = parts 10 b in
         rw (p .same, whole-front 10 u b (p .first) (p .others) (last-whole 10 a) (p .same)) (parts-cut d u e (p .first) (p .others))
-    by false e = ?
+    by false e = ap (λ (x : Bool). afterParts (record { shelf = d .shelf; long = x; waiting = d .waiting }) (parted 10 (u ++ b))) (sym (neither (d .long) e))
 
 -- NOTHING IS LOST: what was written and what waits, one behind the other, are what waited before and the answers in their order
 pub nothing-lost : (c : Session) (L : List (List ℕ)) → writtenOf c L ++ afterLines c L .waiting ≡ c .waiting ++ answersTo c L
-unfolding writtenOf afterLines answersTo
+unfolding writtenOf afterLines answersTo afterLine
 nothing-lost c [] = sym (append-nil (c .waiting))
 nothing-lost c (line ∷ L) =
     by (ltb (length (c .waiting)) enough) (writtenOf (afterLine c line) L) (afterLines (afterLine c line) L .waiting) (answersTo (afterLine c line) L)

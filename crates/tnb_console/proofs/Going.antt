@@ -1,0 +1,62 @@
+-- The loop over the lines of a text (`Going`): what is left to be answered, on the shelf so far, leads to what the whole text leads to.
+use Prim.Native.Nat.{ℕ, _+_, _-_, _≤_, _<_}
+use native.Mathlib.Omega.{arith}
+use mathlib.Core.Path.{_≡_, refl, sym, ap, _∙_}
+use mathlib.Core.List.{List}
+use lib.ListN.{length, take, drop}
+use Rattle.lines.specs.Words.{before}
+use Rattle.lines.proofs.Words.{take-before}
+use Rattle.tnb_console.specs.declared.State.{State}
+use Rattle.tnb_console.specs.Session.{Session, afterLine, afterLines, linesOf, unended}
+use Rattle.tnb_console.specs.Kept.{sessionOf, Ready, Responded}
+use Rattle.tnb_console.proofs.Lines.{lines-next, unended-next, lines-none, unended-none}
+
+-- the line that starts at an index, and where it ends
+abbrev pub EndsAt : List ℕ → (start end : ℕ) → Type 0
+EndsAt text start end = end ≡ start + length (before 10 (drop start text))
+
+pub line-lent : (text : List ℕ) (start end : ℕ) → EndsAt text start end → take (end - start) (drop start text) ≡ before 10 (drop start text)
+line-lent text start end e =
+    let n : end - start ≡ length (before 10 (drop start text)) = omega arith in
+    rw n (take-before 10 (drop start text))
+
+pub record Going (was : State) (text out : List ℕ) (now : State) (after : List ℕ) (start end : ℕ) : Type 0 where
+  pub ready : Ready now after
+  pub same : now .start ≡ start
+  pub within : start ≤ length text
+  pub session : afterLines (sessionOf now after) (linesOf (drop start text)) ≡ afterLines (sessionOf was out) (linesOf (drop (was .start) text))
+  pub rest : unended (drop start text) ≡ unended (drop (was .start) text)
+  pub ends : EndsAt text start end
+
+pub going-first : {was : State} {text out : List ℕ} {end : ℕ} → Ready was out → was .start ≤ length text → EndsAt text (was .start) end
+    → Going was text out was out (was .start) end
+going-first ready within ends = record { ready = ready; same = refl; within = within; session = refl; rest = refl; ends = ends }
+
+module _ {was : State} {text out : List ℕ} {now : State} {after : List ℕ} {start end : ℕ} (g : Going was text out now after start end) where
+  pub going-next : {now′ : State} {after′ : List ℕ} {end′ : ℕ} → end < length text → Ready now′ after′
+      → sessionOf now′ after′ ≡ afterLine (sessionOf now after) (take (end - start) (drop start text)) → now′ .start ≡ end + 1 → EndsAt text (end + 1) end′
+      → Going was text out now′ after′ (end + 1) end′
+  going-next {now′} {after′} h ready e s ends =
+      let l : start + length (before 10 (drop start text)) < length text = omega (arith, g .ends) in
+      let n : start + length (before 10 (drop start text)) + 1 ≡ end + 1 = omega (arith, g .ends) in
+      let answered : sessionOf now′ after′ ≡ afterLine (sessionOf now after) (before 10 (drop start text)) =
+      e ∙ ap (afterLine (sessionOf now after)) (line-lent text start end (g .ends)) in
+      record {
+        ready = ready;
+        same = s;
+        within = omega arith;
+        session =
+            ap (λ (c : Session). afterLines c (linesOf (drop (end + 1) text))) answered
+            ∙ sym (rw n at (lines-next text start (g .within) l (sessionOf now after))) ∙ g .session;
+        rest = sym (rw n at (unended-next text start (g .within) l)) ∙ g .rest;
+        ends = ends;
+      }
+
+  pub going-last : length text ≤ end → Responded was text out now after
+  going-last h =
+      let l : length text ≤ start + length (before 10 (drop start text)) = omega (arith, g .ends) in
+      record {
+        session = sym (lines-none text start (g .within) l (sessionOf now after)) ∙ g .session;
+        rest = rw (g .same) (sym (unended-none text start (g .within) l) ∙ g .rest);
+        within = rw (g .same) (g .within);
+      }
