@@ -3,3 +3,4 @@ pub mod Reports
 pub mod Turns
 pub mod Lists
 pub mod Places
+pub mod Lengths

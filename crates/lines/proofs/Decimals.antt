@@ -1,5 +1,5 @@
 -- A DECIMAL NUMBER IN FRONT OF A TEXT that goes on with no numeral: number and text are read off in only one way (`decimal-front`), since the numerals end at
--- the first other byte and equal numerals spell equal numbers. How many numerals a number has at most (`decimal-short`).
+-- the first other byte and equal numerals spell equal numbers. How many numerals a number has at most (`decimal-short`, and `decimal-within` whatever it is).
 use Prim.Native.Nat.{ℕ, zero, suc, _+_, _*_, _/_, _%_, _^_, _≤_, _<_}
 use native.Mathlib.Nat.{pow-succ'}
 use native.Mathlib.Omega.{arith}
@@ -10,7 +10,7 @@ use lib.Dec.{ltb}
 use lib.ListN.{length, length-append}
 use borrow.Author.Tests.{lt-ltb}
 use Rattle.lines.specs.Decimal.{isNumeral, allNumerals, valueFrom}
-use Rattle.lines.specs.Text.{decimalIn, decimal}
+use Rattle.lines.specs.Text.{decimalIn, decimal, signedText}
 use Rattle.lines.proofs.ReadBack.{spells-decimal}
 
 -- no numeral stands in front
@@ -43,7 +43,7 @@ decimal-front m n a b f g e =
     let r = numerals-front (decimal m) (decimal n) (p .numerals) (q .numerals) f g e in
     (sym (p .value) ∙ ap (valueFrom 0) (r .0) ∙ q .value, r .1)
 
-short-step : (j n : ℕ) (s : List ℕ) (t : Bool) → length s ≤ suc j → length (cond t ((48 + n) ∷ []) (s ++ ((48 + n % 10) ∷ []))) ≤ suc (suc j)
+short-step : (j n : ℕ) (s : List ℕ) (t : Bool) → length s ≤ j → length (cond t ((48 + n) ∷ []) (s ++ ((48 + n % 10) ∷ []))) ≤ suc j
 short-step j n s true h = omega arith
 short-step j n s false h = simp length-append (omega arith)
 
@@ -54,4 +54,14 @@ decimal-short j zero n h = omega arith
 decimal-short zero (suc k) n h = rw (lt-ltb n 10 h) (omega arith)
 decimal-short (suc j) (suc k) n h =
     let u : n < 10 * 10 ^ suc j = rw pow-succ' at h in
-    short-step j n (decimalIn k (n / 10)) (ltb n 10) (decimal-short j k (n / 10) (omega arith))
+    short-step (suc j) n (decimalIn k (n / 10)) (ltb n 10) (decimal-short j k (n / 10) (omega arith))
+
+-- and any number at most as many as there is room for
+pub decimal-within : (k n : ℕ) → length (decimalIn k n) ≤ k
+unfolding decimalIn
+decimal-within zero n = omega arith
+decimal-within (suc k) n = short-step k n (decimalIn k (n / 10)) (ltb n 10) (decimal-within k (n / 10))
+
+pub signed-short : (negative : Bool) (n : ℕ) → length (signedText negative n) ≤ 21
+signed-short true n = omega (arith, decimal-within 20 n)
+signed-short false n = omega (arith, decimal-within 20 n)

@@ -1,15 +1,17 @@
--- Text put one piece behind the other (`puts-behind`, and in a loop `Left`), a byte at a time (`Put`), and an element of a list at a time (`Spelt`).
-use Prim.Native.Nat.{ℕ, _+_, _-_, _≤_, _<_, min}
+-- Text put one piece behind the other (`puts-behind`, and in a loop `Left`), a byte at a time (`Put`), and an element of a list at a time (`Spelt`). How long
+-- texts are at most (`spaced-short`, `bytes-short`).
+use Prim.Native.Nat.{ℕ, suc, _+_, _-_, _*_, _≤_, _<_, min}
 use native.Mathlib.Numerals.{add-one}
 use native.Mathlib.Decide.{decLe}
 use native.Mathlib.Omega.{arith}
 use mathlib.Core.Path.{_≡_, refl, sym, _∙_}
+use mathlib.Core.Bool.{Bool, true, false, cond}
 use mathlib.Core.List.{List, [], _∷_, _++_, flatMap}
 use lib.ListN.{length, getD, take, drop, set, length-append, length-set, drop-of-length-le}
 use lib.Seq.{drop-cons, sets, length-sets, sets-eq, length-take-le, take-at}
 use Rattle.arrays.proofs.Runs.{sets-append, sets-out}
 use Rattle.lines.specs.Ascii.{ascii}
-use Rattle.lines.specs.Text.{indexAfter, Puts, pairsText, bytesText}
+use Rattle.lines.specs.Text.{indexAfter, Puts, spaced, pairText, pairsText, bytesText}
 
 module _ (a b out : List ℕ) (at : ℕ) where
   sets-behind : sets (sets out at a) (indexAfter out at a) b ≡ sets out at (a ++ b)
@@ -127,3 +129,22 @@ module _ {A : Type 0} (text : A → List ℕ) where
 
     pub spelt-more : (d : A) (h : i < length L) {out′ : List ℕ} {to′ : ℕ} → Puts out to (text (getD L i d)) out′ to′ → Spelt out₀ at L out′ to′ (i + 1)
     spelt-more d h q = record { within = omega arith; left = left-behind (rw (texts-at d L i h) at (p .left)) q }
+
+-- ---- how long texts are
+-- what holds of both of two holds of the one that a test chooses
+pub cond-cases : {A : Type 0} (P : A → Type 0) (t : Bool) {a b : A} → (t ≡ true → P a) → (t ≡ false → P b) → P (cond t a b)
+cond-cases P true f g = f refl
+cond-cases P false f g = g refl
+
+-- the texts of a list's elements, none of which has more than b bytes
+texts-short : {A : Type 0} (text : A → List ℕ) (b : ℕ) → ((x : A) → length (text x) ≤ b) → (L : List A) → length (flatMap text L) ≤ b * length L
+unfolding flatMap
+texts-short text b h [] = omega arith
+texts-short text b h (x ∷ L) = simp length-append (omega (arith, h x, texts-short text b h L))
+
+pub spaced-short : {A : Type 0} (text : A → List ℕ) (b : ℕ) → ((x : A) → length (text x) ≤ b) → (L : List A) → length (spaced text L) ≤ suc b * length L
+spaced-short text b h = texts-short (λ x. ascii " " ++ text x) (suc b) (λ x. omega (arith, h x))
+
+pub bytes-short : (s : List ℕ) → length (bytesText s) ≤ 2 * length s + 1
+bytes-short [] = omega arith
+bytes-short (b ∷ s) = omega (arith, texts-short pairText 2 (λ x. omega arith) (b ∷ s))

@@ -14,7 +14,7 @@ take-replicate zero m a h = refl
 take-replicate (suc n) zero a h = absurd (omega arith)
 take-replicate (suc n) (suc m) a h = ap (λ l. a ∷ l) (take-replicate n m a (omega arith))
 
-length-items : (n : ℕ) → length (lentItems n) ≡ n * 3
+pub length-items : (n : ℕ) → length (lentItems n) ≡ n * 3
 unfolding lentItems
 length-items zero = refl
 length-items (suc n) =

@@ -94,3 +94,7 @@ answerTo s long line = cond (overlong long line) (reply s badText) (replyTo s (r
 -- THE REPLY TO A LINE: the answer, and the end of its line
 abbrev pub replyToLine : Shelf → (long : Bool) → List ℕ → Reply
 replyToLine s long line = reply (answerTo s long line .shelf) (answerTo s long line .text ++ ascii "\n")
+
+-- no answer has more bytes, its end counted
+abbrev pub longestAnswer : ℕ
+longestAnswer = 34000

@@ -1,5 +1,6 @@
--- What stands behind a request's numbers: nothing (`nothing-left`), bytes (`bytes-read`), two items (`two-read`); the request by its parts (`request-is`).
-use Prim.Native.Nat.{ℕ, _*_, _/_, _≤_, _<_}
+-- What stands behind a request's numbers: nothing (`nothing-left`), bytes (`bytes-read`), two items (`two-read`); the request by its parts (`request-is`); and
+-- how many bytes it has at most (`request-bytes`).
+use Prim.Native.Nat.{ℕ, _-_, _*_, _/_, _^_, _≤_, _<_}
 use native.Mathlib.Nat.{zero-add}
 use native.Mathlib.Omega.{arith}
 use mathlib.Core.Path.{_≡_, refl, sym, ap, _∙_}
@@ -15,13 +16,17 @@ use Rattle.number.proofs.Tests.{both}
 use Rattle.lines.specs.declared.reading.ReadBytes.the-variants as bytes
 use Rattle.lines.specs.Words.{wordAt, nextWord}
 use Rattle.lines.specs.Hexadecimal.{hexadecimal, spelledBytes, bytesRead, bytesInto}
+use Rattle.lines.proofs.Text.{cond-cases}
 use Rattle.requests.specs.declared.commands.Command.{Command}
 use Rattle.requests.specs.declared.commands.Form.{Form}
+use Rattle.requests.specs.declared.commands.Tail.{Tail}
+use Rattle.requests.specs.declared.commands.Tail.the-variants.{None, Bytes, Items, Two, Stamps, Places}
 use Rattle.requests.specs.declared.request.Request.{Request}
 use Rattle.requests.specs.Words.{wordsOf, wordsAt, firstWord, wordsBehind}
 use Rattle.requests.specs.Commands.{formOf}
 use Rattle.requests.specs.Items.{spelledItems}
-use Rattle.requests.specs.Requests.{Asked, Values, askedAlone, askedBytes, askedItems, asked, bad, letterNumbers, requestOf}
+use Rattle.requests.specs.Wholes.{spelledWholes}
+use Rattle.requests.specs.Requests.{Asked, Values, askedAlone, askedBytes, askedItems, askedWholes, asked, bad, letterNumbers, requestOf}
 use Rattle.requests.specs.Requests.{withNothing, withBytes, withList, withItems, withTwo, withTail}
 use Rattle.requests.proofs.Listed.{Counted, take-sets}
 use Rattle.requests.proofs.Triples.{items-counted}
@@ -153,3 +158,35 @@ module _ (line : List ℕ) (form : Form) (next : ℕ) (o : Option Values) where
       let first : firstWord (wordsOf line) ≡ wordAt line 0 = ap firstWord (sym (words-all line)) ∙ first-word line 0 in
       let behind : wordsBehind (wordsOf line) ≡ wordsAt line (nextWord line 0) = ap wordsBehind (sym (words-all line)) ∙ words-behind line 0 in
       rw (eo, en, ef, first, behind)
+
+-- only a word in hexadecimal gives a request bytes, and at most 2048
+abbrev FewBytes : Asked → Type 0
+FewBytes a = length (a .bytes) ≤ 2048
+
+list-few : {A : Type 0} (ask : List A → Asked) → ((l : List A) → FewBytes (ask l)) → (o : Option (List A)) → FewBytes (withList ask o)
+list-few ask h (some l) = h l
+list-few ask h none = omega arith
+
+words-few : (command : Command) (t : Tail) (values : List ℕ) (ws : List (List ℕ)) → FewBytes (withTail command t (some (record { values = values; left = ws })))
+words-few command None values [] = omega arith
+words-few command None values (w ∷ ws) = omega arith
+words-few command Bytes values [] = omega arith
+words-few command Bytes values (w ∷ []) =
+    cond-cases FewBytes (hexadecimal w && not (ltb 2048 (length w / 2)))
+    (λ e. omega (arith, small (length w / 2) (hexadecimal w) e, length-bytes w)) (λ e. omega arith)
+words-few command Bytes values (w ∷ v ∷ ws) = omega arith
+words-few command Items values ws = list-few (askedItems command values) (λ l. omega arith) (spelledItems 16 ws)
+words-few command Two values [] = omega arith
+words-few command Two values (w ∷ []) = omega arith
+words-few command Two values (w ∷ v ∷ []) = list-few (askedItems command values) (λ l. omega arith) (spelledItems 16 (w ∷ v ∷ []))
+words-few command Two values (w ∷ v ∷ u ∷ ws) = omega arith
+words-few command Stamps values ws = list-few (askedWholes command values) (λ l. omega arith) (spelledWholes (2 ^ 64 - 1) 16 ws)
+words-few command Places values ws = list-few (askedWholes command values) (λ l. omega arith) (spelledWholes (2 ^ 32 - 1) 16 ws)
+
+tail-few : (command : Command) (t : Tail) (o : Option Values) → FewBytes (withTail command t o)
+tail-few command t none = omega arith
+tail-few command t (some v) = words-few command t (v .values) (v .left)
+
+pub request-bytes : (line : List ℕ) → length (requestOf line .bytes) ≤ 2048
+unfolding requestOf
+request-bytes line = let f = formOf (firstWord (wordsOf line)) in tail-few (f .command) (f .tail) (letterNumbers (f .letters) (wordsBehind (wordsOf line)))

@@ -5,5 +5,6 @@ pub mod Writing
 pub mod Carrying
 pub mod FactorReads
 pub mod Sequences
+pub mod Returns
 pub mod RoundTrip
 pub mod Examples
