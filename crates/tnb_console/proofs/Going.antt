@@ -1,14 +1,16 @@
 -- The loop over the lines of a text (`Going`): what is left to be answered, on the shelf so far, leads to what the whole text leads to.
 use Prim.Native.Nat.{ℕ, _+_, _-_, _≤_, _<_}
 use native.Mathlib.Omega.{arith}
-use mathlib.Core.Path.{_≡_, refl, sym, ap, _∙_}
+use mathlib.Core.Path.{_≡_, refl, sym, ap, ap₂, _∙_}
+use mathlib.Core.Bool.{Bool, _||_}
 use mathlib.Core.List.{List}
-use lib.ListN.{length, take, drop}
+use lib.Dec.{ltb}
+use lib.ListN.{length, take, drop, length-drop}
 use Rattle.lines.specs.Words.{before}
 use Rattle.lines.proofs.Words.{take-before}
 use Rattle.tnb_console.specs.declared.State.{State}
-use Rattle.tnb_console.specs.Session.{Session, afterLine, afterLines, linesOf, unended}
-use Rattle.tnb_console.specs.Kept.{sessionOf, Ready, Responded}
+use Rattle.tnb_console.specs.Session.{Session, afterLine, afterLines, linesOf, unended, afterText}
+use Rattle.tnb_console.specs.Kept.{sessionOf, Ready, Responded, Turned}
 use Rattle.tnb_console.proofs.Lines.{lines-next, unended-next, lines-none, unended-none}
 
 -- the line that starts at an index, and where it ends
@@ -60,3 +62,19 @@ module _ {was : State} {text out : List ℕ} {now : State} {after : List ℕ} {s
         rest = rw (g .same) (sym (unended-none text start (g .within) l) ∙ g .rest);
         within = rw (g .same) (g .within);
       }
+
+-- all of it answered and written
+pub turned : {was : State} {text out : List ℕ} {now : State} {after : List ℕ} → Responded was text out now after → was .start ≡ 0 → (st : State)
+    → st .shelf ≡ now .shelf → st .long ≡ now .long || ltb 4096 (length text - now .start) → st .waiting ≡ 0 → st .start ≡ now .start → Turned was text out st
+unfolding afterText
+turned {was} {text} {out} {now} r z st s l w n =
+    let session = rw z at (r .session) in
+    let rest : drop (now .start) text ≡ unended text = rw z at (r .rest) in
+    let long : length text - now .start ≡ length (unended text) = sym (length-drop (now .start) text) ∙ ap length rest in
+    record {
+      shelf = s ∙ ap (λ (c : Session). c .shelf) session;
+      long = l ∙ ap₂ (λ (t : Bool) (k : ℕ). t || ltb 4096 k) (ap (λ (c : Session). c .long) session) long;
+      written = w;
+      rest = rw n rest;
+      within = rw n (r .within);
+    }

@@ -1,10 +1,8 @@
+-- `tnb_console::read_more` meets its contract: what is held stays as it was.
+use borrow.Rule.Slice.PartMut.{take-put}
 use borrow.Author.Needs.{needs}
 use Rattle.tnb_console.proofs.read_more.Statement.{statement}
 use Rattle.tnb_console.proofs.read_more.Tie as tie
-use Rattle.tnb_console.proofs.read_more.Reads as reads
-use Rattle.tnb_console.proofs.read_more.Lts as lts
-use Rattle.io.proofs.count.Reads as count-reads
-use Rattle.libc.proofs.read.Reads as read-reads
 
 -- src/main.rt:133:40
 sub-read : tie.Need-sub-read
@@ -48,7 +46,7 @@ same-length c = search needs
 
 -- src/main.rt:128:1
 returns : tie.Need-returns
-returns c = ?
+returns c = (search needs, take-put _ _ _ _ (search needs))
 
 pub read-more-spec : {M : Type 1} → statement M
 read-more-spec =

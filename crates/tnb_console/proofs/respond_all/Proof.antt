@@ -16,7 +16,9 @@ line-end-requires : tie.Need-line-end-requires Inv-loop μ-loop
 line-end-requires c κs = search needs
 
 loop-holds : tie.Need-loop-holds Inv-loop μ-loop
-loop-holds c = ?
+loop-holds c =
+    let start = c .before .before .before in
+    going-first (start .pre .0) (start .pre .1) (c .line-end .ensures .0)
 
 sub-respond : tie.Need-sub-respond Inv-loop μ-loop
 sub-respond c = search needs
@@ -43,13 +45,17 @@ loop-less : tie.Need-loop-less Inv-loop μ-loop
 loop-less c = search needs
 
 loop-again : tie.Need-loop-again Inv-loop μ-loop
-loop-again c = ?
+loop-again c =
+    let answered = c .before .before .before in
+    let turn = answered .before .before .before in
+    let done = answered .respond .ensures in
+    going-next (turn .before .loop .inv) (turn .loop-test .taken) (done .0) (done .1 .0) (done .1 .1) (c .line-end2 .ensures .0)
 
 same-length : tie.Need-same-length Inv-loop μ-loop
 same-length c = search needs
 
 returns : tie.Need-returns Inv-loop μ-loop
-returns c = ?
+returns c = (c .before .loop .inv .ready, going-last (c .before .loop .inv) (c .loop-test .left))
 
 pub respond-all-spec : {M : Type 1} → statement M
 respond-all-spec =
