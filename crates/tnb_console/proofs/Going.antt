@@ -1,13 +1,17 @@
--- The loop over the lines of a text (`Going`): what is left to be answered, on the shelf so far, leads to what the whole text leads to.
+-- The loop over the lines of a text (`Going`): what is left to be answered, on the shelf so far, leads to what the whole text leads to. A text answered and
+-- written (`turned`), of which no more is held than a line may have (`held-short`).
 use Prim.Native.Nat.{ℕ, _+_, _-_, _≤_, _<_}
 use native.Mathlib.Omega.{arith}
 use mathlib.Core.Path.{_≡_, refl, sym, ap, ap₂, _∙_}
-use mathlib.Core.Bool.{Bool, _||_}
-use mathlib.Core.List.{List}
+use mathlib.Core.Bool.{Bool, true, false, cond, _||_, false≢true}
+use mathlib.Core.List.{List, []}
 use lib.Dec.{ltb}
 use lib.ListN.{length, take, drop, length-drop}
+use lib.Seq.{length-take-le}
+use borrow.Author.Tests.{ltb-false}
 use Rattle.lines.specs.Words.{before}
 use Rattle.lines.proofs.Words.{take-before}
+use Rattle.places.specs.Shelf.{Good}
 use Rattle.tnb_console.specs.declared.State.{State}
 use Rattle.tnb_console.specs.Session.{Session, afterLine, afterLines, linesOf, unended, afterText}
 use Rattle.tnb_console.specs.Kept.{sessionOf, Ready, Responded, Turned}
@@ -78,3 +82,21 @@ turned {was} {text} {out} {now} r z st s l w n =
       rest = rw n rest;
       within = rw n (r .within);
     }
+
+-- where no answer waits
+pub kept-ready : {st : State} {out : List ℕ} → Good (st .shelf) → st .waiting ≡ 0 → length out ≡ 65536 → Ready st out
+kept-ready g w l = record { good = g; whole = l; within = omega arith }
+
+-- what is held of a line is never longer than a line may be
+pub held-short : {was : State} {text out : List ℕ} {st : State} → Turned was text out st → (held : ℕ) (input : List ℕ)
+    → take held input ≡ cond (st .long) [] (drop (st .start) text) → held ≤ length input → held ≤ 4096
+unfolding afterText
+held-short {was} {text} {out} {st} t held input e h = by (st .long) refl (sym (length-take-le held input h) ∙ ap length e)
+  where
+    short : (b : Bool) → b || ltb 4096 (length (unended text)) ≡ false → length (unended text) ≤ 4096
+    short true f = absurd (false≢true (sym f))
+    short false f = ltb-false 4096 (length (unended text)) f
+
+    by : (b : Bool) → st .long ≡ b → held ≡ length (cond b [] (drop (st .start) text)) → held ≤ 4096
+    by true f g = omega arith
+    by false f g = omega (arith, ap length (t .rest), short (afterLines (sessionOf was out) (linesOf text) .long) (sym (t .long) ∙ f))

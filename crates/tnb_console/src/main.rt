@@ -3,7 +3,7 @@
 ghost use mathlib.Core.Path.{_≡_};
 ghost use mathlib.Core.Bool.{cond};
 ghost use mathlib.Core.List.{[]};
-ghost use Prim.Native.Nat.{_+_, _≤_};
+ghost use Prim.Native.Nat.{_+_, _≤_, _<_};
 ghost use lib.ListN.{length, take, drop};
 ghost use Rattle.lines.specs.Words.{before};
 ghost use Rattle.places.specs.Shelf.{Good};
@@ -126,7 +126,7 @@ fn respond_now(was: State, text: &[u8], output: &mut [u8]) -> State
 
 // Reads once, behind the first `held` bytes, and answers how many there are then. At the end of input that is no more.
 fn read_more(input: &mut [u8], held: usize) -> usize
-    requires { ⌜ held ≤ length (now input) ⌝ }
+    requires { ⌜ held < length (now input) ⌝ }
     ensures { λ r. ⌜ r ≤ length (now (input .exit)) ⌝ }
     ensures { λ r. ⌜ take held (now (input .exit)) ≡ take held (now (input .entry)) ⌝ }
 {
@@ -173,7 +173,7 @@ fn finish(was: State, line: &[u8], output: &mut [u8])
 
 // Nothing says that the input ends, so turns are counted down from a number that no run uses up.
 fn serve(input: &mut [u8], output: &mut [u8])
-    requires { ⌜ length (now output) ≡ 65536 ⌝ }
+    requires { ⌜ (length (now input) ≡ 65536) × (length (now output) ≡ 65536) ⌝ }
 {
     let mut now = keep(shelf::new(), 0, 0, false);
     let mut held: usize = 0;

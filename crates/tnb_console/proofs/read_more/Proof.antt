@@ -1,4 +1,7 @@
 -- `tnb_console::read_more` meets its contract: what is held stays as it was.
+use Prim.Native.Nat.{_-_, _≤_}
+use lib.ListN.{length}
+use denote.Ref.{now}
 use borrow.Rule.Slice.PartMut.{take-put}
 use borrow.Author.Needs.{needs}
 use Rattle.tnb_console.proofs.read_more.Statement.{statement}
@@ -46,7 +49,11 @@ same-length c = search needs
 
 -- src/main.rt:128:1
 returns : tie.Need-returns
-returns c = (search needs, take-put _ _ _ _ (search needs))
+returns c =
+    let read = c .before .before .before .before .before in
+    let a = read .before .before .before .args in
+    let fits : a .held ≤ length (now (a .input)) = search needs in
+    (search needs, take-put (a .held) (length (now (a .input)) - a .held) (now (a .input)) (read .read .last .1 .0) fits)
 
 pub read-more-spec : {M : Type 1} → statement M
 read-more-spec =

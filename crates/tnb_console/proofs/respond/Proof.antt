@@ -23,9 +23,10 @@ returns c =
     let placed = answered .before .before in
     let start = placed .before .before .before .before .before in
     let replied = rw (placed .room .ensures) at (answered .to-line .ensures .1) in
-    let kept = c .keep .ensures in
-    (line-ready (start .pre) (now (start .args .line)) replied (c .keep .result) (rw (kept .0) (answered .to-line .ensures .0)) (kept .2),
-      (line-answered (start .pre) (now (start .args .line)) replied (c .keep .result) (kept .0) (kept .2) (kept .3), kept .1))
+    let kept = c .keep .ensures in (
+      line-ready (start .pre) (now (start .args .line)) replied (c .keep .result) (rw (kept .0) (answered .to-line .ensures .0)) (kept .2),
+      (line-answered (start .pre) (now (start .args .line)) replied (c .keep .result) (kept .0) (kept .2) (kept .3), kept .1),
+    )
 
 pub respond-spec : {M : Type 1} → statement M
 respond-spec =
