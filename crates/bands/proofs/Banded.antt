@@ -134,8 +134,8 @@ module _ (K : CRing) (O : Ordered K) (n : ℕ) (M : Matrix K) where
           subst Pos (sym (diagonal-value i p)) (pos-mul _ _ (leading-positive i (p .1)) (inv-pos _ (leading-positive (i - 1) (omega (arith, p .1)))))
 
       -- AND KEEP THE RULE FOR ZEROS
-      pub rule-kept : Kept K O n g (λ i. v i i)
-      rule-kept = record { below = below; under = under; on = diagonal-positive }
+      pub rule-kept : Kept K O n g
+      rule-kept = record { below = below; under = under }
         where
           by-positive : (i j : ℕ) → 1 ≤ j → j < i → i ≤ n → Pos (v i j) → Pos (g i j)
           by-positive i j o l p z = subst Pos (sym (by-rule i j o l p .positive z)) (pos-mul _ _ z (inv-pos _ (before-positive i j o l p z)))

@@ -1,6 +1,6 @@
--- ONE CHOICE: factors that are positive or zero, keep the rule for zeros and have a positive diagonal (Kept) are determined by a matrix that they reduce
--- (kept-unique, diagonal-unique). The proof takes no minors: the pivots of the elimination are positive or zero, and under a pivot that is zero all factors
--- are.
+-- ONE CHOICE: where factors that are positive or zero and keep the rule for zeros (Kept) reduce a matrix to a positive diagonal, no others that keep it reduce
+-- the matrix, to whatever diagonal (kept-unique, diagonal-unique). The proof takes no minors: column after column the first pivot is the diagonal's factor,
+-- so both have the positive one; the pivots below it are positive or zero, and under a pivot that is zero all factors are.
 use mathlib.Core.Path.{_≡_, sym, ap, ap₂, _∙_, subst}
 use Prim.Native.Nat.{ℕ, zero, suc, _-_, _≤_, _<_, _+_ as _+ℕ_}
 use native.Mathlib.Decide.{ℕ-discrete}
@@ -20,11 +20,10 @@ module _ (K : CRing) (O : Ordered K) (n : ℕ) where
 
   infixl 65 _+_
   infixl 70 _*_
-  -- below the diagonal positive or zero, and zero under a zero; on it positive
-  pub record Kept (g : ℕ → ℕ → R) (d : ℕ → R) : Type 0 where
+  -- below the diagonal positive or zero, and zero under a zero
+  pub record Kept (g : ℕ → ℕ → R) : Type 0 where
     pub below : (i j : ℕ) → 1 ≤ j → j < i → i ≤ n → NonNegative K O (g i j)
     pub under : (i j : ℕ) → 1 ≤ j → j < i → i < n → g i j ≡ 𝟘 → g (suc i) j ≡ 𝟘
-    pub on : (i : ℕ) → In n i → Pos (d i)
 
   module _ (g : ℕ → ℕ → R) (d : ℕ → R) (M : Matrix K) (red : Reduces K O n g d M) where
     -- what is killed once stays killed
@@ -53,27 +52,28 @@ module _ (K : CRing) (O : Ordered K) (n : ℕ) where
         subst (λ c. left K n g (λ r. M r (suc j)) i c ≡ g i (suc j) * left K n g (λ r. M r (suc j)) (i - 1) c) (sym e)
         (difference-zero K _ _ (sym (left-next K n g (λ r. M r (suc j)) i j) ∙ early (i - suc (suc j)) i (suc j) (suc j) (omega arith) o (omega arith) p))
 
-    module _ (kept : Kept g d) where
-      pub pivot-nonnegative : (f j : ℕ) → 1 ≤ j → f +ℕ j ≤ n → NonNegative K O (pivot (f +ℕ j) j)
-      pivot-nonnegative zero j o p =
+    -- IN A COLUMN whose factor on the diagonal is positive
+    module _ (kept : Kept g) (j : ℕ) (o : 1 ≤ j) (on : Pos (d j)) where
+      pub pivot-nonnegative : (f : ℕ) → f +ℕ j ≤ n → NonNegative K O (pivot (f +ℕ j) j)
+      pivot-nonnegative zero p =
           let e : 0 +ℕ j ≡ j = omega arith in
-          positive (subst Pos (sym (ap (λ i. pivot i j) e ∙ pivot-last j (o, omega arith))) (kept .on j (o, omega arith)))
-      pivot-nonnegative (suc f) j o p =
+          positive (subst Pos (sym (ap (λ i. pivot i j) e ∙ pivot-last j (o, omega arith))) on)
+      pivot-nonnegative (suc f) p =
           let e : suc f +ℕ j - 1 ≡ f +ℕ j = omega arith in
           subst (NonNegative K O) (sym (pivot-step (suc f +ℕ j) j o (omega arith) p ∙ ap (λ i. g (suc f +ℕ j) j * pivot i j) e))
-          (nonnegative-mul K O _ _ (kept .below (suc f +ℕ j) j o (omega arith) p) (pivot-nonnegative f j o (omega arith)))
+          (nonnegative-mul K O _ _ (kept .below (suc f +ℕ j) j o (omega arith) p) (pivot-nonnegative f (omega arith)))
 
       -- where a pivot is zero, the factors under it are
-      pub pivot-zero : (f j : ℕ) → 1 ≤ j → suc f +ℕ j ≤ n → pivot (f +ℕ j) j ≡ 𝟘 → g (suc f +ℕ j) j ≡ 𝟘
-      pivot-zero zero j o p z =
+      pub pivot-zero : (f : ℕ) → suc f +ℕ j ≤ n → pivot (f +ℕ j) j ≡ 𝟘 → g (suc f +ℕ j) j ≡ 𝟘
+      pivot-zero zero p z =
           let e : 0 +ℕ j ≡ j = omega arith in
-          absurd (pos-nonzero K O (d j) (kept .on j (o, omega arith)) (sym (ap (λ i. pivot i j) e ∙ pivot-last j (o, omega arith)) ∙ z))
-      pivot-zero (suc f) j o p z =
+          absurd (pos-nonzero K O (d j) on (sym (ap (λ i. pivot i j) e ∙ pivot-last j (o, omega arith)) ∙ z))
+      pivot-zero (suc f) p z =
           let e : suc f +ℕ j - 1 ≡ f +ℕ j = omega arith in
           let w : suc (suc f +ℕ j) ≡ suc (suc f) +ℕ j = omega arith in
           ap (λ i. g i j) (sym w)
           ∙ kept .under (suc f +ℕ j) j o (omega arith) (omega arith)
-          (by (pivot-nonnegative f j o (omega arith)) (kept .below (suc f +ℕ j) j o (omega arith) (omega arith)) (pivot-zero f j o (omega arith))
+          (by (pivot-nonnegative f (omega arith)) (kept .below (suc f +ℕ j) j o (omega arith) (omega arith)) (pivot-zero f (omega arith))
           (sym (pivot-step (suc f +ℕ j) j o (omega arith) (omega arith) ∙ ap (λ i. g (suc f +ℕ j) j * pivot i j) e) ∙ z))
         where
           by : NonNegative K O (pivot (f +ℕ j) j) → NonNegative K O (g (suc f +ℕ j) j) → (pivot (f +ℕ j) j ≡ 𝟘 → g (suc f +ℕ j) j ≡ 𝟘)
@@ -82,7 +82,9 @@ module _ (K : CRing) (O : Ordered K) (n : ℕ) where
           by (positive u) (null v) ih y = v
           by (positive u) (positive v) ih y = absurd (pos-nonzero K O _ (pos-mul _ _ v u) y)
 
-  module _ (g h : ℕ → ℕ → R) (d e : ℕ → R) (M : Matrix K) (rg : Reduces K O n g d M) (rh : Reduces K O n h e M) (kg : Kept g d) (kh : Kept h e) where
+  -- TWO that keep the rule and reduce one matrix, the second to a positive diagonal
+  module _ (g h : ℕ → ℕ → R) (d e : ℕ → R) (M : Matrix K) (rg : Reduces K O n g d M) (rh : Reduces K O n h e M) (kg : Kept g) (kh : Kept h)
+      (on : (i : ℕ) → In n i → Pos (e i)) where
     -- the columns before j agree
     abbrev Agreed : ℕ → Type 0
     Agreed j = (k q : ℕ) → 1 ≤ q → q < j → q < k → k ≤ n → g k q ≡ h k q
@@ -91,22 +93,30 @@ module _ (K : CRing) (O : Ordered K) (n : ℕ) where
     pivots-equal j o a i l p =
         sum-equal K n _ _ (λ r q. ap (λ x. x * M r j) (eliminated-equal K g h (j - 1) i (omega arith) (λ k c u v w y. a k c u (omega arith) w (omega arith)) r))
 
+    -- so the first have its factor on the diagonal, which is positive
+    first-equal : (j : ℕ) → In n j → Agreed j → d j ≡ e j
+    first-equal j p a = sym (pivot-last g d M rg j p) ∙ pivots-equal j (p .0) a j (omega arith) (p .1) ∙ pivot-last h e M rh j p
+
     column-equal : (j : ℕ) → 1 ≤ j → Agreed j → (f : ℕ) → suc f +ℕ j ≤ n → g (suc f +ℕ j) j ≡ h (suc f +ℕ j) j
-    column-equal j o a f p = by (pivot-nonnegative g d M rg kg f j o (omega arith))
+    column-equal j o a f p = by (pivot-nonnegative h e M rh kh j o (on j x) f (omega arith))
       where
+        x : In n j
+        x = (o, omega arith)
+
         same : pivot g d M rg (f +ℕ j) j ≡ pivot h e M rh (f +ℕ j) j
         same = pivots-equal j o a (f +ℕ j) (omega arith) (omega arith)
 
         z : suc f +ℕ j - 1 ≡ f +ℕ j
         z = omega arith
 
-        by : NonNegative K O (pivot g d M rg (f +ℕ j) j) → g (suc f +ℕ j) j ≡ h (suc f +ℕ j) j
-        by (null u) = pivot-zero g d M rg kg f j o p u ∙ sym (pivot-zero h e M rh kh f j o p (sym same ∙ u))
-        by (positive u) = pos-cancel K O (pivot g d M rg (f +ℕ j) j) _ _ u
-            (sym (pivot-step g d M rg (suc f +ℕ j) j o (omega arith) p ∙ ap (λ i. g (suc f +ℕ j) j * pivot g d M rg i j) z)
+        by : NonNegative K O (pivot h e M rh (f +ℕ j) j) → g (suc f +ℕ j) j ≡ h (suc f +ℕ j) j
+        by (null u) =
+            pivot-zero g d M rg kg j o (subst Pos (sym (first-equal j x a)) (on j x)) f p (same ∙ u) ∙ sym (pivot-zero h e M rh kh j o (on j x) f p u)
+        by (positive u) = pos-cancel K O (pivot h e M rh (f +ℕ j) j) _ _ u
+            (ap (λ y. g (suc f +ℕ j) j * y) (sym same)
+            ∙ sym (pivot-step g d M rg (suc f +ℕ j) j o (omega arith) p ∙ ap (λ i. g (suc f +ℕ j) j * pivot g d M rg i j) z)
             ∙ pivots-equal j o a (suc f +ℕ j) (omega arith) p
-            ∙ pivot-step h e M rh (suc f +ℕ j) j o (omega arith) p ∙ ap (λ i. h (suc f +ℕ j) j * pivot h e M rh i j) z
-            ∙ ap (λ x. h (suc f +ℕ j) j * x) (sym same))
+            ∙ pivot-step h e M rh (suc f +ℕ j) j o (omega arith) p ∙ ap (λ i. h (suc f +ℕ j) j * pivot h e M rh i j) z)
 
     agreed : (j : ℕ) → Agreed j
     agreed zero k q o l m p = absurd (omega arith)
@@ -123,4 +133,4 @@ module _ (K : CRing) (O : Ordered K) (n : ℕ) where
 
     -- AND ON IT
     pub diagonal-unique : (i : ℕ) → In n i → d i ≡ e i
-    diagonal-unique i p = sym (pivot-last g d M rg i p) ∙ pivots-equal i (p .0) (agreed i) i (omega arith) (p .1) ∙ pivot-last h e M rh i p
+    diagonal-unique i p = first-equal i p (agreed i)

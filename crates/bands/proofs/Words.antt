@@ -1,6 +1,6 @@
 -- THE FACTOR THEOREM WITH ZEROS FOR WORDS: of any word with weights positive or zero and positive diagonals, and of any rows and columns of it that are not
 -- singular, document 02's new factors are accepted (chosen-banded), multiply out to the chosen entries of the word's matrix (banded-multiplied), and are the
--- only such ones (banded-unique); no divisor of their formulas is zero (banded-divisible).
+-- only ones that do and keep the rule for zeros (banded-unique); no divisor of their formulas is zero (banded-divisible).
 use mathlib.Core.Path.{_≡_, refl, sym, ap, ap₂, _∙_, subst}
 use mathlib.Core.Bool.{Bool, true}
 use Prim.Native.Nat.{ℕ, _-_, _≤_, _<_}
@@ -22,7 +22,7 @@ use Rattle.minors.proofs.Determinant.{determinant, determinant-equal}
 use Rattle.minors.proofs.Transpose.{minor-transposed}
 use Rattle.minors.proofs.Multiply.{wordMatrix-transposed}
 use Rattle.minors.proofs.Nonnegative.{KeepsSign}
-use Rattle.bands.specs.Factored.{BandedOver}
+use Rattle.bands.specs.Factored.{KeepsRuleOver, BandedOver}
 use Rattle.bands.proofs.Heights.{above}
 use Rattle.bands.proofs.Lattice.{Highest}
 use Rattle.bands.proofs.Nonzero.{positive-present, present-positive}
@@ -201,8 +201,8 @@ module _ (K : CRing) (O : Ordered K) (N : ℕ) (W : Word (K .R)) (inside : All (
   pub banded-multiplied : Equal K k (multiplied K O k newFactors) A
   banded-multiplied = factors-multiplied K O k A Z Z′ C C′ highest highest′ newFactors below above-it on on′
 
-  -- AND NO OTHER ACCEPTED ONES DO
-  pub banded-unique : (c : Factors R) → BandedOver K O k c → Equal K k (multiplied K O k c) A → (i j : ℕ) → In k i → In k j → c i j ≡ newFactors i j
+  -- AND NO OTHERS DO that keep the rule for zeros
+  pub banded-unique : (c : Factors R) → KeepsRuleOver K O k c → Equal K k (multiplied K O k c) A → (i j : ℕ) → In k i → In k j → c i j ≡ newFactors i j
   banded-unique = factors-unique K O k A Z Z′ C C′ highest highest′ newFactors below above-it on on′
 
   -- NO DIVISOR IS ZERO

@@ -1,7 +1,7 @@
 -- THE EXACT RUN in fractions beside the rational numbers: each fraction of the run stands for the number of the mathematics (result-rational), and is zero
 -- where that is. So no divisor is zero (exact-below, exact-above), its factors are positive or zero in the pattern (exact-banded), multiply out
--- (exact-multiplied), and are the only such ones (exact-only), since accepted fractions are given by their matrix (fractions-same). Every operation but a
--- submatrix is regular (joined-regular).
+-- (exact-multiplied), and are the only ones that do and keep the rule for zeros (exact-only), since these are given by a matrix that accepted fractions
+-- multiply out to (fractions-same).
 use mathlib.Core.Path.{_≡_, refl, sym, ap, ap₂, _∙_, subst}
 use mathlib.Core.Bool.{false}
 use mathlib.Core.List.{List}
@@ -26,13 +26,13 @@ use Rattle.words.proofs.RowSets.{length-rows}
 use Rattle.words.proofs.Operations.{length-rowsOf, size-each, steps-each, fit-each, asked-each}
 use Rattle.words.proofs.Related.{Related, minor-related}
 use Rattle.words.proofs.Steps.{sources-map, sources-weaken}
-use Rattle.words.proofs.Banded.{banded-like}
+use Rattle.words.proofs.Banded.{Like, rule-like, banded-like}
 use Rattle.words.proofs.Alike.{letters-joined, alike-each}
 use Rattle.words.proofs.Formulas.{divisible-related, newFactor-related}
 use Rattle.minors.specs.Matrix.{In, Equal}
-use Rattle.bands.specs.Factored.{BandedOver, MatrixFactored}
+use Rattle.bands.specs.Factored.{MatrixFactored}
 use Rattle.bands.proofs.Factoring.{tables-unique}
-use Rattle.factors.specs.Demand.{Proper, AboveZero, IsZero, BandedFractions, multipliedOut, determinantOf, Regular}
+use Rattle.factors.specs.Demand.{Proper, AboveZero, IsZero, FractionsKeepRule, BandedFractions, multipliedOut, determinantOf, Regular}
 use Rattle.factors.proofs.Result.{multiplied-equal, operationMatrix, WeightedSources, solved}
 
 -- the rational numbers' arithmetic
@@ -102,16 +102,17 @@ stands-quotients x₁ x₂ x₃ x₄ y₁ y₂ y₃ y₄ p₁ p₂ p₃ p₄ z�
     ∙ ap₂ (λ u v. rationals .mul u (rationals-ordered .inv v)) (rational-product x₁ x₂ ∙ ap₂ (rationals .mul) p₁ p₂)
     (rational-product x₃ x₄ ∙ ap₂ (rationals .mul) p₃ p₄)
 
--- accepted fractions are given by the matrix that they multiply out to
-pub fractions-same : (n : ℕ) (b c : Factors Fraction) → BandedFractions n b → BandedFractions n c → Equal rationals n (multipliedOut n b) (multipliedOut n c)
+rational-like : (x : Fraction) → Like AboveZero IsZero (rationals-ordered .Pos) (λ y. y ≡ rationals .𝟘) x (rational x)
+rational-like x = record { positive = positive-rational x .0; zero = zero-rational x; back = rational-zero-back x }
+
+-- fractions that keep the rule for zeros are given by the matrix that they multiply out to, where accepted ones multiply out to it
+pub fractions-same : (n : ℕ) (b c : Factors Fraction) → FractionsKeepRule n b → BandedFractions n c → Equal rationals n (multipliedOut n b) (multipliedOut n c)
     → (i j : ℕ) → In n i → In n j → Same (b i j) (c i j)
 fractions-same n b c p q e i j u v =
     same-rational (b i j) (c i j)
-    (tables-unique rationals rationals-ordered n (eachFactor rational b) (eachFactor rational c) (rational-banded b p) (rational-banded c q) e i j u v)
-  where
-    rational-banded : (b : Factors Fraction) → BandedFractions n b → BandedOver rationals rationals-ordered n (eachFactor rational b)
-    rational-banded b = banded-like AboveZero IsZero (rationals-ordered .Pos) (λ x. x ≡ rationals .𝟘) n b (eachFactor rational b)
-        (λ i j x y. record { positive = positive-rational (b i j) .0; zero = zero-rational (b i j); back = rational-zero-back (b i j) })
+    (tables-unique rationals rationals-ordered n (eachFactor rational b) (eachFactor rational c)
+    (rule-like AboveZero IsZero (rationals-ordered .Pos) (λ x. x ≡ rationals .𝟘) n b (eachFactor rational b) (λ i j x y. rational-like (b i j)) p)
+    (banded-like AboveZero IsZero (rationals-ordered .Pos) (λ x. x ≡ rationals .𝟘) n c (eachFactor rational c) (λ i j x y. rational-like (c i j)) q) e i j u v)
 
 module _ (n : ℕ) where
   -- MINORS: only the diagonal's entries are divided by
@@ -197,7 +198,7 @@ module _ (n : ℕ) where
       exact-multiplied i j x y = multiplied-equal rationals rationals-ordered k _ _ result-rational i j x y ∙ known .multiplied-out i j x y
 
       -- AND NO OTHERS DO
-      pub exact-only : (c : Factors Fraction) → BandedFractions (size n o) c
+      pub exact-only : (c : Factors Fraction) → FractionsKeepRule (size n o) c
           → Equal rationals (size n o) (multipliedOut (size n o) c) (multipliedOut (size n o) (result exact n o))
           → (i j : ℕ) → In (size n o) i → In (size n o) j → Same (c i j) (result exact n o i j)
       exact-only c h e = fractions-same k c (result exact n o) h exact-banded e

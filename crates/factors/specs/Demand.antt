@@ -12,7 +12,7 @@ use Rattle.number.specs.Number.{zeroNumber, rounded, value, Ranged, reach}
 use Rattle.words.specs.RowSet.{rows}
 use Rattle.words.specs.Word.{Factors}
 use Rattle.words.specs.Formula.{Divisible}
-use Rattle.words.specs.Sources.{Each, Banded, Sources}
+use Rattle.words.specs.Sources.{Each, KeepsRule, Banded, Sources}
 use Rattle.words.specs.Operation.{Operation, steps, size, Fit, bound, rowByRow, askedMinor, result, eachFactor, eachSource}
 use Rattle.minors.specs.Matrix.{In, Matrix, multiplied}
 use Rattle.factors.specs.Requested.{Requested}
@@ -29,7 +29,11 @@ AboveZero x = 0 < x .top
 abbrev pub IsZero : Fraction → Type 0
 IsZero x = x .top ≡ 0
 
--- fractions that are accepted as factors: positive, or zero in the pattern
+-- a choice of fractions, each positive or zero, that keeps the rule for zeros
+abbrev pub FractionsKeepRule : ℕ → Factors Fraction → Type 0
+FractionsKeepRule = KeepsRule AboveZero IsZero
+
+-- fractions that are accepted as factors: such a choice, and positive on the diagonal
 abbrev pub BandedFractions : ℕ → Factors Fraction → Type 0
 BandedFractions = Banded AboveZero IsZero
 
@@ -49,14 +53,14 @@ determinantOf n o = askedMinor exact n o (rows (size n o) 1 (size n o)) (rows (s
 abbrev pub Regular : ℕ → Operation Fraction → Type 0
 Regular n o = AboveZero (determinantOf n o)
 
--- THE EXACT RUN of an operation on fractions: no divisor is zero; its factors are positive or zero in the pattern and multiply out to the requested matrix, and
--- no other such fractions do.
+-- THE EXACT RUN of an operation on fractions: no divisor is zero; its factors are accepted ones and multiply out to the requested matrix, and no other choice
+-- of fractions, positive or zero, that keeps the rule for zeros does, whatever its diagonal.
 pub record Factored (n : ℕ) (o : Operation Fraction) : Type 0 where
   pub divisors-below : Divisible exact (size n o) (askedMinor exact n o)
   pub divisors-above : Divisible exact (size n o) (λ I J. askedMinor exact n o J I)
   pub banded : BandedFractions (size n o) (result exact n o)
   pub requested : GivesRequested n o (result exact n o)
-  pub only : (c : Factors Fraction) → BandedFractions (size n o) c → GivesRequested n o c
+  pub only : (c : Factors Fraction) → FractionsKeepRule (size n o) c → GivesRequested n o c
       → (i j : ℕ) → In (size n o) i → In (size n o) j → Same (c i j) (result exact n o i j)
 
 -- the operation with each source number taken for the fraction that it stands for

@@ -9,14 +9,12 @@ use Rattle.words.specs.RowSet.{RowSet}
 use Rattle.minors.specs.Matrix.{Matrix}
 
 module _ (K : CRing) where
-  open CRing K using (R, 𝟘, 𝟙, add as _+_, mul as _*_, neg)
+  open CRing K using (R, 𝟘, 𝟙, add, mul, neg)
 
-  infixl 65 _+_
-  infixl 70 _*_
   -- a column v 1, v 2, .. put to a form on row sets: over the rows of the set, the highest first, its entry times the form at the set without that row
   unfoldable pub wedge : (ℕ → R) → (RowSet → R) → RowSet → R
   wedge v ω [] = 𝟘
-  wedge v ω (true ∷ S) = v (suc (length S)) * ω (false ∷ S) + neg (wedge v (λ T. ω (true ∷ T)) S)
+  wedge v ω (true ∷ S) = add (mul (v (suc (length S))) (ω (false ∷ S))) (neg (wedge v (λ T. ω (true ∷ T)) S))
   wedge v ω (false ∷ S) = wedge v (λ T. ω (false ∷ T)) S
 
   -- 1 at the empty set

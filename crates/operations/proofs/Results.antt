@@ -11,7 +11,7 @@ use lib.Dec.{eqb}
 use lib.ListN.{length}
 use borrow.Author.Tests.{eqb-false}
 use Rattle.number.specs.declared.Number.{Number}
-use Rattle.number.specs.Number.{zeroNumber, rounded, value, Ranged, reach, inRange}
+use Rattle.number.specs.Number.{zeroNumber, rounded, value, Ranged, Stored, reach, inRange}
 use Rattle.number.proofs.Reach.{in-range-stored}
 use Rattle.words.specs.RowSet.{In, RowSet, count, among, rows, ofMask}
 use Rattle.words.specs.Word.{Factors, word}
@@ -20,6 +20,7 @@ use Rattle.words.specs.Operation.{Way, Step, joinedWord, Operation, joined, ste
 use Rattle.words.specs.Sources.{Each, Banded, BandedNumbers}
 use Rattle.words.proofs.RowSets.{length-rows}
 use Rattle.words.proofs.Chosen.{among-whole}
+use Rattle.words.proofs.Banded.{banded-like}
 use Rattle.rowset.proofs.Masks.{ofMask-length}
 use Rattle.rowset.proofs.Counts.{mask-count, count-to, countTo-le}
 use Rattle.fraction.specs.Fraction.{Fraction}
@@ -151,12 +152,9 @@ module _ (s : Shelf) (good : Good s) where
 -- a result in range can be stored
 run-stored : (k : ℕ) (b : Factors Number) → Banded (λ a. 0 < a .m) (λ a. a ≡ zeroNumber) k b → Each (Ranged reach) k b
     → ((i j : ℕ) → In k i → In k j → inRange (b i j) ≡ true) → BandedNumbers k b
-run-stored k b h g r = record {
-  diagonal = λ i x. in-range-stored (g i i x x) (h .diagonal i x) (r i i x x);
-  others = λ i j x y f. in-range-stored (g i j x y) (h .others i j x y f) (r i j x y);
-  down = h .down;
-  right = h .right;
-}
+run-stored k b h g r =
+    banded-like (λ a. 0 < a .m) (λ a. a ≡ zeroNumber) Stored (λ a. a ≡ zeroNumber) k b b
+    (λ i j x y. record { positive = λ p. in-range-stored (g i j x y) p (r i j x y); zero = λ z. z; back = λ z. z }) h
 
 -- WHAT WAS ACCEPTED can be kept, and meets demand 3
 module _ (L : List Verdict) (t n : ℕ) (o : Operation Number) (ready : firstOf L ≡ Accepted → Ready t n o) where

@@ -1,5 +1,5 @@
 -- THE EXACT FACTORS OF STAMPS in fractions stand for those of the mathematics (factors-stand). So they are positive, multiply out to the matrix of powers, and,
--- since accepted fractions are given by their matrix (fractions-same), no other accepted ones do (stamps-factored), for any number of stamps.
+-- since fractions that keep the rule for zeros are given by it (fractions-same), no others that keep it do (stamps-factored), for any number of stamps.
 use mathlib.Core.Path.{_≡_, refl, sym, ap, _∙_, subst}
 use mathlib.Core.List.{List}
 use Prim.Native.Nat.{ℕ, zero, suc, _-_, _*_, _^_, _≤_, _<_}

@@ -11,7 +11,7 @@ use Rattle.fraction.specs.Rational.{rationals, rational}
 use Rattle.words.specs.Word.{Factors}
 use Rattle.words.specs.Sources.{Each}
 use Rattle.minors.specs.Matrix.{In, Matrix, Equal}
-use Rattle.factors.specs.Demand.{AboveZero, BandedFractions, multipliedOut}
+use Rattle.factors.specs.Demand.{AboveZero, FractionsKeepRule, multipliedOut}
 
 -- s(i), the stamp i of a list
 abbrev pub stampAt : List ℕ → ℕ → ℕ
@@ -58,9 +58,10 @@ module _ (K : Arithmetic) where
 abbrev pub exactFactors : List ℕ → Factors Fraction
 exactFactors L = factorsOfStamps exact natural L
 
--- THE EXACT FACTORS are positive and multiply out to the matrix of powers, entry for entry, and no other fractions do that are positive or zero in the pattern.
+-- THE EXACT FACTORS are positive and multiply out to the matrix of powers, entry for entry, and no other choice of fractions, positive or zero, that keeps the
+-- rule for zeros does, whatever its diagonal.
 pub record StampsFactored (L : List ℕ) : Type 0 where
   pub positive : Each AboveZero (length L) (exactFactors L)
   pub powers : Equal rationals (length L) (multipliedOut (length L) (exactFactors L)) (powersOf L)
-  pub only : (c : Factors Fraction) → BandedFractions (length L) c → Equal rationals (length L) (multipliedOut (length L) c) (powersOf L)
+  pub only : (c : Factors Fraction) → FractionsKeepRule (length L) c → Equal rationals (length L) (multipliedOut (length L) c) (powersOf L)
       → (i j : ℕ) → In (length L) i → In (length L) j → Same (c i j) (exactFactors L i j)

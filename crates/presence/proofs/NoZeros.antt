@@ -1,14 +1,17 @@
--- The search for a factor zero: what is known of the numbers of a step before number t (Passed) is known in the end of all its factors (passed-all), and what
--- is known of the factors of each step of a joined word is known of its sources (no-zeros).
+-- The search for a factor zero: what is known of the numbers of a step before number t (Passed) is known in the end of all its factors (passed-all), and a
+-- number that is zero is a factor (zero-found). What is known of the factors of each step of a joined word is known of its sources (no-zeros), and the other
+-- way round (no-zero-at).
 use mathlib.Core.Path.{_≡_, sym, ap, _∙_, subst}
-use mathlib.Core.Bool.{not}
+use mathlib.Core.Bool.{not, false≢true}
 use mathlib.Core.List.{List}
-use Prim.Native.Nat.{ℕ, zero, suc, _+_, _*_, _%_, _≤_, _<_}
+use Prim.Native.Nat.{ℕ, zero, suc, _+_, _*_, _/_, _%_, _≤_, _<_}
 use native.Mathlib.Omega.{arith}
 use borrow.Author.Count.{below-more}
-use borrow.Author.Tests.{ne-eqb}
+use borrow.Author.Tests.{eq-eqb, ne-eqb}
 use lib.ListN.{getD, drop}
+use Rattle.number.specs.Number.{zeroNumber}
 use Rattle.words.specs.Sources.{Sources}
+use Rattle.words.proofs.Steps.{sources-at}
 use Rattle.table.specs.Table.{cellOf, factorsOf}
 use Rattle.walk.specs.declared.Joined.{Joined}
 use Rattle.walk.specs.Lent.{tableIn, stepsOf}
@@ -33,14 +36,26 @@ module _ {b : List ℕ} {n c : ℕ} where
   passed-all p l few i j x y =
       ap nonzero (factor-at b c (cellOf i j) (omega arith)) ∙ ap not (ne-eqb _ 0 (p .past (cellOf i j) (omega arith) (omega arith)))
 
-module _ (j : Joined) (b : List ℕ) (six : j .count ≤ 6) (h : (c : ℕ) → c < j .count → NoZero (j .n) (factorsOf (tableIn b c))) where
-  -- the steps from number c on, of which there are d
-  no-zeros-from : (d c : ℕ) → c + d ≡ j .count → Sources (NoZero (j .n)) (drop c (stepsOf j b))
-  no-zeros-from zero c e =
-      let f : c ≡ j .count = omega arith in
-      subst (Sources (NoZero (j .n))) (sym (ap (λ (i : ℕ). drop i (stepsOf j b)) f ∙ joined-none j b six)) tt
-  no-zeros-from (suc d) c e =
-      subst (Sources (NoZero (j .n))) (sym (joined-step j b six c (omega arith))) (h c (omega arith), no-zeros-from d (c + 1) (omega arith))
+-- number t is the factor of row t / 8 + 1 and column t % 8 + 1
+pub zero-found : (b : List ℕ) (n c t : ℕ) → t < n * 8 → n ≤ 8 → t % 8 < n → getD b (2 * (c * 64 + t)) 0 ≡ 0 → NoZero n (factorsOf (tableIn b c)) → ⊥
+unfolding factorsOf
+zero-found b n c t l few k z h =
+    let e : cellOf (t / 8 + 1) (t % 8 + 1) ≡ t = omega arith in
+    false≢true (sym (ap nonzero (ap (λ (p : ℕ). getD (tableIn b c) p zeroNumber) e ∙ factor-at b c t (omega arith)) ∙ ap not (eq-eqb _ 0 z))
+    ∙ h (t / 8 + 1) (t % 8 + 1) (omega arith, omega arith) (omega arith, omega arith))
 
-  pub no-zeros : Sources (NoZero (j .n)) (stepsOf j b)
-  no-zeros = no-zeros-from (j .count) 0 (omega arith)
+module _ (j : Joined) (b : List ℕ) (six : j .count ≤ 6) where
+  module _ (h : (c : ℕ) → c < j .count → NoZero (j .n) (factorsOf (tableIn b c))) where
+    -- the steps from number c on, of which there are d
+    no-zeros-from : (d c : ℕ) → c + d ≡ j .count → Sources (NoZero (j .n)) (drop c (stepsOf j b))
+    no-zeros-from zero c e =
+        let f : c ≡ j .count = omega arith in
+        subst (Sources (NoZero (j .n))) (sym (ap (λ (i : ℕ). drop i (stepsOf j b)) f ∙ joined-none j b six)) tt
+    no-zeros-from (suc d) c e =
+        subst (Sources (NoZero (j .n))) (sym (joined-step j b six c (omega arith))) (h c (omega arith), no-zeros-from d (c + 1) (omega arith))
+
+    pub no-zeros : Sources (NoZero (j .n)) (stepsOf j b)
+    no-zeros = no-zeros-from (j .count) 0 (omega arith)
+
+  pub no-zero-at : Sources (NoZero (j .n)) (stepsOf j b) → (c : ℕ) → c < j .count → NoZero (j .n) (factorsOf (tableIn b c))
+  no-zero-at h c l = sources-at (NoZero (j .n)) (stepsOf j b) _ c _ h (joined-step j b six c l)

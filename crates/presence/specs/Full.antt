@@ -1,4 +1,4 @@
--- Steps without a zero among their factors (NoZero, Full).
+-- Steps without a zero among their factors (NoZero, Full): where the code walks nothing to tell which minors are zero.
 use mathlib.Core.Path.{_≡_}
 use mathlib.Core.Bool.{true}
 use mathlib.Core.List.{List}

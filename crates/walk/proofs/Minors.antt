@@ -3,7 +3,7 @@
 use mathlib.Core.Path.{_≡_, refl, sym, ap, ap₂, _∙_, subst}
 use mathlib.Core.Bool.{Bool, true, false, not, cond, _&&_}
 use mathlib.Core.List.{List, [], _∷_, map}
-use Prim.Native.Nat.{ℕ, zero, suc, _+_, _-_, _*_, _^_, _≤_, _<_}
+use Prim.Native.Nat.{ℕ, suc, _+_, _-_, _*_, _^_, _≤_, _<_}
 use native.Mathlib.Nat.{mul-le-mul, min-eq-left}
 use native.Mathlib.Numerals.{add-one}
 use native.Mathlib.Decide.{ℕ-discrete}
@@ -26,8 +26,8 @@ use Rattle.words.specs.Word.{Letter, E, Et, D, Dinv, Word}
 use Rattle.words.specs.Walk.{State, oneAt, moved, movedIf, scaled, act, walk, minor}
 use Rattle.words.specs.Operation as words
 use Rattle.words.specs.Operation.{stepWord, joinedWord}
-use Rattle.words.proofs.Steps.{step-rows, walk-joined}
-use Rattle.words.specs.Sources.{Walkable, Source, Sources}
+use Rattle.words.proofs.Steps.{sources-drop, step-rows, walk-joined}
+use Rattle.words.specs.Sources.{Walkable, Sources}
 use Rattle.words.proofs.Exponents.{walk-ranged}
 use Rattle.table.specs.Table.{absent}
 use Rattle.walk.specs.Lent.{stepAt, numbered, stepsOf}
@@ -86,11 +86,6 @@ module _ {A : Type 0} (f : A → words.Step Number) (l : List A) (m : ℕ) (few 
       ∙ ap₂ (λ (s : words.Step Number) (i : ℕ). s ∷ drop i (map f (take m l))) (List·getD-map f (take m l) c d ∙ ap f (getD-take m l c d h)) (sym (add-one c))
 
 -- WITHIN RANGE
-walkable-drop : (n : ℕ) (L : List (words.Step Number)) (c : ℕ) → Sources (Walkable n) L → Sources (Walkable n) (drop c L)
-walkable-drop n L zero h = h
-walkable-drop n [] (suc c) h = h
-walkable-drop n (s ∷ L) (suc c) h = walkable-drop n L c (h .1)
-
 pub joined-working : (n k : ℕ) (L : List (words.Step Number)) (J : RowSet) → Sources (Walkable n) L → 1 ≤ n → n ≤ 8 → length L ≤ 6
     → (c : ℕ) → Working stepReach n k (walk rounded (joinedWord n (drop c L)) (oneAt rounded J))
 joined-working n k L J walkable some ln six c =
@@ -99,11 +94,8 @@ joined-working n k L J walkable some ln six c =
           let M = drop c L in
           let g : length M ≤ 6 = omega (arith, length-drop c L) in
           let h : length M * (n * n) ≤ 6 * (8 * 8) = mul-le-mul g (mul-le-mul ln ln) in
-          ranged-more (omega arith) (walk-ranged n M (walkable-drop n L c walkable) some [] (joinedWord n M) refl (omega arith) J S e);
+          ranged-more (omega arith) (walk-ranged n M (sources-drop (Walkable n) L c walkable) some [] (joinedWord n M) refl (omega arith) J S e);
     }
-
-pub walkable-at : (n : ℕ) (L M : List (words.Step Number)) (c : ℕ) (s : words.Step Number) → Sources (Walkable n) L → drop c L ≡ s ∷ M → Source (Walkable n) s
-walkable-at n L M c s h e = subst (Sources (Walkable n)) e (walkable-drop n L c h) .0
 
 -- THE NUMBER AT I
 pub minor-held : (n k i : ℕ) (L : List (words.Step Number)) (J : RowSet) (v : List Number) (p : ℕ) → n ≤ 8 → i < 2 ^ n → maskCount i ≡ k → p ≡ positionOf i

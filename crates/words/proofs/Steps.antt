@@ -1,10 +1,11 @@
 -- The words of steps: what holds of every letter of a step's word (step-all) and of joined words (joined-all), where the sources' factors have a property
--- (Sources). So the rows of joined words are among 1 .. n (joined-rows), and their weights have what the factors off the diagonal have, their entries what
--- those on it have (joined-weights). The walk of joined words (walk-joined).
-use mathlib.Core.Path.{_≡_, refl, sym}
+-- (Sources; sources-at of one of them). So the rows of joined words are among 1 .. n (joined-rows), and their weights have what the factors off the diagonal
+-- have, their entries what those on it have (joined-weights). The walk of joined words (walk-joined).
+use mathlib.Core.Path.{_≡_, refl, sym, subst}
 use mathlib.Core.List.{List, [], _∷_}
-use Prim.Native.Nat.{ℕ, _+_, _-_}
+use Prim.Native.Nat.{ℕ, zero, suc, _+_, _-_}
 use native.Mathlib.Omega.{arith}
+use lib.ListN.{drop}
 use Rattle.fraction.specs.Arithmetic.{Arithmetic}
 use Rattle.words.specs.RowSet.{In}
 use Rattle.words.specs.Word.{Factors, Letter, E, Et, D, Dinv, word, exchanged, inverseLetter, converseLetter}
@@ -28,6 +29,16 @@ module _ {A : Type 0} (T U : Factors A → Type 0) (g : (b : Factors A) → T b 
   pub sources-weaken : (L : List (Step A)) → Sources T L → Sources U L
   sources-weaken [] h = tt
   sources-weaken (s ∷ L) h = (source-weaken s (h .0), sources-weaken L (h .1))
+
+-- of the steps from number c on, and of step c
+module _ {A : Type 0} (T : Factors A → Type 0) where
+  pub sources-drop : (L : List (Step A)) (c : ℕ) → Sources T L → Sources T (drop c L)
+  sources-drop L zero h = h
+  sources-drop [] (suc c) h = h
+  sources-drop (s ∷ L) (suc c) h = sources-drop L c (h .1)
+
+  pub sources-at : (L M : List (Step A)) (c : ℕ) (s : Step A) → Sources T L → drop c L ≡ s ∷ M → Source T s
+  sources-at L M c s h e = subst (Sources T) e (sources-drop L c h) .0
 
 -- what each factor has, those off the diagonal and those on it have
 module _ {A : Type 0} (R P Q : A → Type 0) (p : (x : A) → R x → P x) (q : (x : A) → R x → Q x) (n : ℕ) where

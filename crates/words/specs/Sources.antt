@@ -1,6 +1,6 @@
--- What is asked of sources. Of factors: each has a property (`Each`), or one off the diagonal and another on it (`Weighted`); which ones are accepted
--- (`Banded`). Of the factors of a step and of all steps (`Source`, `Sources`); what a walk asks (`Walkable`), and how far the exponents of its minors reach
--- (`runReach`).
+-- What is asked of sources. Of factors: each has a property (`Each`), or one off the diagonal and another on it (`Weighted`); which choices keep the rule for
+-- zeros (`KeepsRule`), and which are accepted (`Banded`). Of the factors of a step and of all steps (`Source`, `Sources`); what a walk asks (`Walkable`), and
+-- how far the exponents of its minors reach (`runReach`).
 use mathlib.Core.Path.{_≡_}
 use mathlib.Core.List.{List, [], _∷_}
 use Prim.Native.Nat.{ℕ, _+_, _*_, _≤_, _<_}
@@ -20,13 +20,17 @@ module _ {A : Type 0} where
     pub off : (i j : ℕ) → In n i → In n j → (i ≡ j → ⊥) → P (b i j)
     pub on : (i : ℕ) → In n i → Q (b i i)
 
-  -- WHICH FACTORS ARE ACCEPTED (document 02, (e)): positive on the diagonal, and off it where they are not zero; every factor further down the column of a
-  -- zero below the diagonal is zero too, and every factor further right in the row of a zero above it
-  pub record Banded (Positive Zero : A → Type 0) (n : ℕ) (b : Factors A) : Type 0 where
-    pub diagonal : (i : ℕ) → In n i → Positive (b i i)
+  -- A CHOICE, POSITIVE OR ZERO, THAT KEEPS THE RULE FOR ZEROS (document 02, (e)): what is not zero is positive; every factor further down the column of a zero
+  -- below the diagonal is zero too, and every factor further right in the row of a zero above it. Of the diagonal it asks nothing more
+  pub record KeepsRule (Positive Zero : A → Type 0) (n : ℕ) (b : Factors A) : Type 0 where
     pub others : (i j : ℕ) → In n i → In n j → (Zero (b i j) → ⊥) → Positive (b i j)
     pub down : (i r j : ℕ) → 1 ≤ j → j < i → i < r → r ≤ n → Zero (b i j) → Zero (b r j)
     pub right : (i j c : ℕ) → 1 ≤ i → i < j → j < c → c ≤ n → Zero (b i j) → Zero (b i c)
+
+  -- WHICH FACTORS ARE ACCEPTED (document 02, (e)): those that keep the rule and are positive on the diagonal
+  pub record Banded (Positive Zero : A → Type 0) (n : ℕ) (b : Factors A) : Type 0 where
+    pub diagonal : (i : ℕ) → In n i → Positive (b i i)
+    pub rule : KeepsRule Positive Zero n b
 
   -- a property of the factors of a step, and of those of every step
   abbrev pub Source : (Factors A → Type 0) → Step A → Type 0

@@ -12,7 +12,8 @@ returns : tie.Need-returns
 returns c =
     let b = c .before .before in
     let a = b .args in
-    tells-all (a .word .n) (a .p) (stepsOf (a .word) (a .factors .now)) (search needs) (search needs) (b .pre .1 .0) (c .before .full .ensures (c .if1 .taken))
+    tells-all (a .word .n) (a .p) (stepsOf (a .word) (a .factors .now)) (search needs) (search needs) (b .pre .1 .0)
+    (c .before .full .ensures .0 (c .if1 .taken))
 
 swept-requires : tie.Need-swept-requires
 swept-requires c κs = search needs

@@ -13,7 +13,7 @@ returns c =
     let b = c .before .before in
     let a = b .args in
     tells-all-turned (a .word .n) (a .p) (stepsOf (a .word) (a .factors .now)) (search needs) (search needs) (b .pre .1 .0)
-    (c .before .full .ensures (c .if1 .taken))
+    (c .before .full .ensures .0 (c .if1 .taken))
 
 swept-turned-requires : tie.Need-swept-turned-requires
 swept-turned-requires c κs = search needs

@@ -8,9 +8,11 @@ use lib.ListN.{drop}
 use Rattle.number.specs.declared.Number.{Number}
 use Rattle.words.specs.Operation.{Step}
 use Rattle.words.specs.Walk.{walk}
+use Rattle.words.specs.Sources.{Walkable}
+use Rattle.words.proofs.Steps.{sources-at}
 use Rattle.walk.specs.Lent.{wayAt, stepAt, stepsOf}
 use Rattle.walk.proofs.Sweep.{below-256}
-use Rattle.walk.proofs.Minors.{joined-none, joined-step, walkable-at}
+use Rattle.walk.proofs.Minors.{joined-none, joined-step}
 use Rattle.presence.specs.Presence.{presence}
 use Rattle.presence.specs.Held.{stateOf, Agree, Starts}
 use Rattle.presence.proofs.Walking.{presentSteps, joined-start, joined-next}
@@ -60,7 +62,7 @@ walked-requires c κs =
     let b = h .before .before in
     let i : ℕ = h .loop .c - 1 in (
       (search needs, search needs, omega arith),
-      (walkable-at (b .args .t1 .n) (steps b) _ i _ (b .pre .1 .0) (next-step (c .before)), b .pre .1 .1 .step i (omega arith)),
+      (sources-at (Walkable (b .args .t1 .n)) (steps b) _ i _ (b .pre .1 .0) (next-step (c .before)), b .pre .1 .1 .step i (omega arith)),
     )
 
 loop-less : tie.Need-loop-less Inv-loop μ-loop

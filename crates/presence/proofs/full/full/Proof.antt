@@ -1,15 +1,16 @@
 -- `full` meets its contract. The loop's invariant: no step before number c has a factor zero.
+use mathlib.Core.Path.{sym, _∙_}
 use Prim.Native.Nat.{ℕ, _-_, _≤_, _<_}
 use native.Mathlib.Omega.{arith}
 use mathlib.Core.Bool.{false≢true}
 use borrow.Author.Count.{below-more}
 use borrow.Author.Needs.{needs}
-use borrow.Author.Tests.{ltb-true, not-false}
+use borrow.Author.Tests.{ltb-true, lt-ltb, not-true, not-false}
 use Rattle.table.specs.Table.{factorsOf}
 use Rattle.walk.specs.Lent.{tableIn}
 use Rattle.walk.proofs.Minors.{joined-length}
 use Rattle.presence.specs.Full.{NoZero}
-use Rattle.presence.proofs.NoZeros.{no-zeros}
+use Rattle.presence.proofs.NoZeros.{no-zeros, no-zero-at}
 use Rattle.presence.proofs.full.full.Statement.{statement}
 use Rattle.presence.proofs.full.full.Tie as tie
 
@@ -26,7 +27,14 @@ no-zero-requires : tie.Need-no-zero-requires Inv-loop μ-loop
 no-zero-requires c κs = search needs
 
 returns : tie.Need-returns Inv-loop μ-loop
-returns c = λ e. absurd (false≢true e)
+returns c = (
+  λ e. absurd (false≢true e),
+  λ f.
+      let t = c .before in
+      let a = t .before .before .before .args in
+      absurd (false≢true (sym (not-true _ (c .if1 .taken)) ∙ t .no-zero .ensures .1
+      (no-zero-at (a .word) (a .factors .now) (search needs) (f .factors) (t .before .before .loop .c) (search needs)))),
+)
 
 add-c : tie.Need-add-c Inv-loop μ-loop
 add-c c = search needs
@@ -35,15 +43,18 @@ loop-less : tie.Need-loop-less Inv-loop μ-loop
 loop-less c = search needs
 
 loop-again : tie.Need-loop-again Inv-loop μ-loop
-loop-again c = (search needs, below-more _ _ (c .before .before .before .loop .inv .1) (c .before .no-zero .ensures (not-false _ (c .if1 .left))))
+loop-again c = (search needs, below-more _ _ (c .before .before .before .loop .inv .1) (c .before .no-zero .ensures .0 (not-false _ (c .if1 .left))))
 
 returns-2 : tie.Need-returns-2 Inv-loop μ-loop
-returns-2 c = λ e.
+returns-2 c =
     let a = c .before .before .args in
-    record {
-      some = omega (arith, ltb-true 0 (a .word .count) e, joined-length (a .word) (a .factors .now) (search needs));
-      factors = no-zeros (a .word) (a .factors .now) (search needs) (λ k l. c .before .loop .inv .1 k (omega arith));
-    }
+    let many = joined-length (a .word) (a .factors .now) (search needs) in (
+      λ e. record {
+        some = omega (arith, ltb-true 0 (a .word .count) e, many);
+        factors = no-zeros (a .word) (a .factors .now) (search needs) (λ k l. c .before .loop .inv .1 k (omega arith));
+      },
+      λ f. lt-ltb 0 (a .word .count) (omega (arith, f .some, many)),
+    )
 
 pub full-spec : {M : Type 1} → statement M
 full-spec =

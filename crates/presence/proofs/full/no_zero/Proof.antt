@@ -1,10 +1,11 @@
 -- `no_zero` meets its contract. The loop's invariant: no factor before number t is zero.
+use mathlib.Core.Path.{refl}
 use Prim.Native.Nat.{_-_, _*_, _≤_}
 use native.Mathlib.Omega.{arith}
 use mathlib.Core.Bool.{false≢true}
 use mathlib.Core.Logic.{⊎-elim}
 use borrow.Author.Needs.{needs}
-use Rattle.presence.proofs.NoZeros.{Passed, passed-none, passed-next, passed-all}
+use Rattle.presence.proofs.NoZeros.{Passed, passed-none, passed-next, passed-all, zero-found}
 use Rattle.presence.proofs.full.no_zero.Statement.{statement}
 use Rattle.presence.proofs.full.no_zero.Tie as tie
 
@@ -36,7 +37,7 @@ element-copy-out-if2 : tie.Need-element-copy-out-if2 Inv-loop μ-loop
 element-copy-out-if2 c = search needs
 
 returns : tie.Need-returns Inv-loop μ-loop
-returns c = λ e. absurd (false≢true e)
+returns c = (λ e. absurd (false≢true e), λ h. absurd (zero-found _ _ _ _ (search needs) (search needs) (search needs) (c .if2 .taken) h))
 
 add-t : tie.Need-add-t Inv-loop μ-loop
 add-t c = search needs
@@ -49,7 +50,7 @@ loop-again c =
     (search needs, passed-next (c .before .before .loop .inv .1) (⊎-elim (λ w l e. w .2 .left e) (λ w l e. omega arith) (c .if1 .came)))
 
 returns-2 : tie.Need-returns-2 Inv-loop μ-loop
-returns-2 c = λ e. passed-all (c .before .loop .inv .1) (search needs) (search needs)
+returns-2 c = (λ e. passed-all (c .before .loop .inv .1) (search needs) (search needs), λ h. refl)
 
 pub no-zero-spec : {M : Type 1} → statement M
 no-zero-spec =
