@@ -23,7 +23,7 @@ use Rattle.reader.specs.declared.ByteFactor.the-variants as factor
 use Rattle.reader.specs.Matrix.{itemAt, beforeInLine, judgedCode, decoded, mantissaBy, mantissaAt, judgedBy, factorByItem, factorAt}
 use Rattle.reader.specs.Matrix.{Reading, matrix, fault, onFactor, factorsFrom, matrixBy, matrixOf}
 use Rattle.reader.specs.Faults.{nextRow, nextColumn, FactorsTo, none, more}
-use Rattle.reader.specs.Before.{oldJudged, oldFactorBy, oldFactorsFrom, oldReadingBy, oldReading, AsBefore, same, was-six}
+use Rattle.reader.specs.Before.{oldJudged, oldFactorBy, oldFactorsFrom, oldReadingBy, oldReading, ReadAsBefore, same, was-six}
 use Rattle.reader.proofs.Continued.{row-above, column-left, before-below, before-above}
 
 -- no number of a list is zero
@@ -82,23 +82,23 @@ module _ (s : List ℕ) where
   module _ (n begin : ℕ) (rows : itemAt s 0 ≡ item.Value n begin) (some : 0 < n) (few : n ≤ 8) where
     module _ (c : ℕ) (front : List Number) (p : ℕ) (taken : FactorsTo s n begin front p) (whole : Nonzero front) (left : length front + suc c ≡ n * n)
         (behind : (a : Number) (q : ℕ) → FactorsTo s n begin (front ++ (a ∷ [])) q → (a .m ≡ 0 → ⊥)
-        → AsBefore s (factorsFrom s n (front ++ (a ∷ [])) c q) (oldFactorsFrom s n (front ++ (a ∷ [])) c q)) where
+        → ReadAsBefore s (factorsFrom s n (front ++ (a ∷ [])) c q) (oldFactorsFrom s n (front ++ (a ∷ [])) c q)) where
       abbrev new : ByteFactor → Reading
       new = onFactor (λ a q. factorsFrom s n (front ++ (a ∷ [])) c q)
 
       abbrev old : ByteFactor → Reading
       old = onFactor (λ a q. oldFactorsFrom s n (front ++ (a ∷ [])) c q)
 
-      by-factor : (w : ByteFactor) → factorAt s n front p ≡ w → ((a : Number) (q : ℕ) → w ≡ factor.At a q → a .m ≡ 0 → ⊥) → AsBefore s (new w) (old w)
+      by-factor : (w : ByteFactor) → factorAt s n front p ≡ w → ((a : Number) (q : ℕ) → w ≡ factor.At a q → a .m ≡ 0 → ⊥) → ReadAsBefore s (new w) (old w)
       by-factor (factor.At a q) e h = behind a q (more a q taken e) (h a q refl)
       by-factor (factor.Fault k o) e h = same refl
 
       by-code : (code q : ℕ) → (code ≡ 0 → ⊥) → (v : CodeVerdict) → factorAt s n front p ≡ judgedBy p (mantissaAt s q code) v
-          → AsBefore s (new (judgedBy p (mantissaAt s q code) v)) (old (judgedBy p (mantissaAt s q code) v))
+          → ReadAsBefore s (new (judgedBy p (mantissaAt s q code) v)) (old (judgedBy p (mantissaAt s q code) v))
       by-code code q h Accepted f = by-factor (mantissaAt s q code) f (λ a r. factor-nonzero s q code h a r)
       by-code code q h (Refused k) f = same refl
 
-      by-zero : (q : ℕ) → itemAt s p ≡ item.Value 0 q → AsBefore s (new (judgedBy p (mantissaAt s q 0) (judgedCode n front 0))) (fault 6 p)
+      by-zero : (q : ℕ) → itemAt s p ≡ item.Value 0 q → ReadAsBefore s (new (judgedBy p (mantissaAt s q 0) (judgedCode n front 0))) (fault 6 p)
       by-zero q e =
           elim (ℕ-discrete (nextRow n front) (nextColumn n front)) [
             | yes d ↦ same (ap (λ (v : CodeVerdict). new (judgedBy p (mantissaAt s q 0) v)) (diagonal-judged n some front d))
@@ -112,7 +112,7 @@ module _ (s : List ℕ) where
                 })
           ]
 
-      by-item : (w : ByteItem) → itemAt s p ≡ w → AsBefore s (new (factorByItem s n front p w)) (old (oldFactorBy s p w))
+      by-item : (w : ByteItem) → itemAt s p ≡ w → ReadAsBefore s (new (factorByItem s n front p w)) (old (oldFactorBy s p w))
       unfolding factorAt
       by-item (item.Value zero q) e = by-zero q e
       by-item (item.Value (suc k) q) e =
@@ -123,7 +123,7 @@ module _ (s : List ℕ) where
       by-item (item.Fault k o) e = same refl
 
     from-front : (c : ℕ) (front : List Number) (p : ℕ) → FactorsTo s n begin front p → Nonzero front → length front + c ≡ n * n
-        → AsBefore s (factorsFrom s n front c p) (oldFactorsFrom s n front c p)
+        → ReadAsBefore s (factorsFrom s n front c p) (oldFactorsFrom s n front c p)
     unfolding factorsFrom oldFactorsFrom factorAt
     from-front zero front p t h l = same refl
     from-front (suc c) front p t h l =
@@ -131,25 +131,25 @@ module _ (s : List ℕ) where
         (λ a q u g. from-front c (front ++ (a ∷ [])) q u (nonzero-more front a h g) (omega (arith, length-append front (a ∷ [])))) (itemAt s p) refl
 
   by-rows : (n begin : ℕ) → itemAt s 0 ≡ item.Value n begin → (t u : Bool) → ltb n 1 ≡ t → ltb 8 n ≡ u
-      → AsBefore s (cond t (fault 4 0) (cond u (fault 4 0) (factorsFrom s n [] (n * n) begin)))
+      → ReadAsBefore s (cond t (fault 4 0) (cond u (fault 4 0) (factorsFrom s n [] (n * n) begin)))
       (cond t (fault 4 0) (cond u (fault 4 0) (oldFactorsFrom s n [] (n * n) begin)))
   by-rows n begin e true u a b = same refl
   by-rows n begin e false true a b = same refl
   by-rows n begin e false false a b =
       from-front n begin e (ltb-false n 1 a) (ltb-false 8 n b) (n * n) [] begin none (λ k l. absurd (omega arith)) (omega arith)
 
-  from-start : (w : ByteItem) → itemAt s 0 ≡ w → AsBefore s (matrixBy s w) (oldReadingBy s w)
+  from-start : (w : ByteItem) → itemAt s 0 ≡ w → ReadAsBefore s (matrixBy s w) (oldReadingBy s w)
   from-start (item.Value n q) e = by-rows n q e (ltb n 1) (ltb 8 n) refl refl
   from-start (item.Fault k o) e = same refl
 
   -- EVERY READING STAYS, but that of a zero off the diagonal
-  pub read-before : AsBefore s (matrixOf s) (oldReading s)
+  pub read-before : ReadAsBefore s (matrixOf s) (oldReading s)
   unfolding matrixOf oldReading
   read-before = from-start (itemAt s 0) refl
 
   pub accepted-before : (n : ℕ) (L : List Number) (q : ℕ) → oldReading s ≡ matrix n L q → matrixOf s ≡ matrix n L q
   accepted-before n L q e = by read-before
     where
-      by : AsBefore s (matrixOf s) (oldReading s) → matrixOf s ≡ matrix n L q
+      by : ReadAsBefore s (matrixOf s) (oldReading s) → matrixOf s ≡ matrix n L q
       by (same f) = f ∙ e
       by (was-six o f z) = absurd (suc-ne-zero 0 (cc))

@@ -1,5 +1,5 @@
 -- DOCUMENT 01's READING, before zeros were (`oldReading`): 6 for a zero wherever it stands, and no 16. Every reading stays as it was, refused ones included,
--- but for those that met a zero off the diagonal (`AsBefore`, `read-before`).
+-- but for those that met a zero off the diagonal (`ReadAsBefore`, `read-before`).
 use Prim.Native.Nat.{ℕ, zero, suc, _*_}
 use mathlib.Core.Path.{_≡_}
 use mathlib.Core.Bool.{cond}
@@ -45,6 +45,6 @@ pub record ZeroOffDiagonal (s : List ℕ) (o : ℕ) : Type 0 where
   pub off : nextRow n front ≡ nextColumn n front → ⊥
 
 -- a reading of s and the old one: the same, matrix or fault; or the old one was 6, at a zero off the diagonal
-pub data AsBefore (s : List ℕ) (new old : Reading) : Type 0 where
-  same : new ≡ old → AsBefore s new old
-  was-six : (o : ℕ) → old ≡ fault 6 o → ZeroOffDiagonal s o → AsBefore s new old
+pub data ReadAsBefore (s : List ℕ) (new old : Reading) : Type 0 where
+  same : new ≡ old → ReadAsBefore s new old
+  was-six : (o : ℕ) → old ≡ fault 6 o → ZeroOffDiagonal s o → ReadAsBefore s new old

@@ -5,14 +5,14 @@ use mathlib.Core.Path.{_≡_, ap}
 use mathlib.Core.List.{List, [], _∷_, _++_}
 use Rattle.verdict.specs.Verdict.{firstOf}
 use Rattle.reader.specs.Matrix.{Reading, matrixOf, behindBy}
-use Rattle.reader.specs.Before.{oldReading, ZeroOffDiagonal, AsBefore, same, was-six}
+use Rattle.reader.specs.Before.{oldReading, ZeroOffDiagonal, ReadAsBefore, same, was-six}
 use Rattle.reader.proofs.Before.{read-before}
 use Rattle.places.specs.Tests.{targetTests}
 use Rattle.shelf.specs.Calls.{changing, ofReading, readTo, loadCall}
 use Rattle.shelf.specs.Before.{LoadsBefore}
 
 module _ (bytes : List ℕ) (off : (o : ℕ) → ZeroOffDiagonal bytes o → ⊥) where
-  reading : AsBefore bytes (matrixOf bytes) (oldReading bytes) → matrixOf bytes ≡ oldReading bytes
+  reading : ReadAsBefore bytes (matrixOf bytes) (oldReading bytes) → matrixOf bytes ≡ oldReading bytes
   reading (same e) = e
   reading (was-six o e z) = absurd (off o z)
 
