@@ -12,6 +12,7 @@ use lib.Seq.{length-take-le, getD-take}
 use Rattle.number.specs.declared.Number.{Number}
 use Rattle.number.specs.Number.{zeroNumber}
 use Rattle.number.proofs.Tests.{quotient-of, remainder-of}
+use Rattle.words.specs.RowSet.{In}
 use Rattle.words.specs.Sources.{BandedNumbers}
 use Rattle.table.specs.Table.{squareOf}
 use Rattle.table.proofs.RowByRow.{row-below, square-below}
@@ -105,6 +106,12 @@ module _ (n : ℕ) where
         (λ k l. subst (λ u. Next u (getD L k zeroNumber)) (sym (append-assoc before (a ∷ []) (take k L))) (h (suc k) (omega arith))),
   )
 
+  -- and one more
+  pub continued-more : (L before : List Number) (a : Number) → Continued before L → Next (before ++ L) a → Continued before (L ++ (a ∷ []))
+  continued-more [] before a c h = (subst (λ l. Next l a) (append-nil before) h, tt)
+  continued-more (x ∷ L) before a c h =
+      (c .0, continued-more L (before ++ (x ∷ [])) a (c .1) (subst (λ l. Next l a) (sym (append-assoc before (x ∷ []) L)) h))
+
   continued-at : (L before : List Number) → Continued before L → (k : ℕ) → k < length L → Next (before ++ take k L) (getD L k zeroNumber)
   continued-at [] before h k l = absurd (omega arith)
   continued-at (a ∷ L) before h zero l = subst (λ l. Next l a) (sym (append-nil before)) (h .0)
@@ -131,14 +138,19 @@ module _ (n : ℕ) where
       (subst (Follows (squareOf n L) (suc (k / n)) (suc (k % n))) (square-number n L k)
       (banded-follows (squareOf n L) n (w .banded) (suc (k / n)) (suc (k % n)) (omega arith, row-below n k m) (omega arith, mod-lt k (w .some)))))
 
-  pub continued-banded : 0 < n → (L : List Number) → length L ≡ n * n → Continued [] L → BandedNumbers n (squareOf n L)
+  -- each of them follows those before it in its line
+  pub continued-follows : 0 < n → (L : List Number) → Continued [] L → (i j : ℕ) → 1 ≤ i → In n j → (i - 1) * n + (j - 1) < length L
+      → Follows (squareOf n L) i j (squareOf n L i j)
   unfolding squareOf
-  continued-banded some L square c =
-      follows-banded (squareOf n L) n
-      (λ i j x y.
+  continued-follows some L c i j low y l =
       let k : ℕ = (i - 1) * n + (j - 1) in
-      let l : k < length L = omega (arith, square, square-below n (i - 1) (j - 1) (omega arith) (omega arith)) in
       let r : suc (k / n) ≡ i = omega (arith, quotient-of n (i - 1) (j - 1) (omega arith)) in
       let s : suc (k % n) ≡ j = omega (arith, remainder-of n (i - 1) (j - 1) (omega arith)) in
       subst (λ q. Follows (squareOf n L) q j (squareOf n L i j)) r
-      (subst (λ q. Follows (squareOf n L) (suc (k / n)) q (squareOf n L i j)) s (next-number some L k l (squareOf n L i j) (continued-at L [] c k l))))
+      (subst (λ q. Follows (squareOf n L) (suc (k / n)) q (squareOf n L i j)) s (next-number some L k l (squareOf n L i j) (continued-at L [] c k l)))
+
+  pub continued-banded : 0 < n → (L : List Number) → length L ≡ n * n → Continued [] L → BandedNumbers n (squareOf n L)
+  continued-banded some L square c =
+      follows-banded (squareOf n L) n
+      (λ i j x y.
+      continued-follows some L c i j (x .0) y (omega (arith, square, square-below n (i - 1) (j - 1) (omega arith) (omega arith))))

@@ -1,1 +1,3 @@
 pub mod Matrix
+pub mod Faults
+pub mod Before

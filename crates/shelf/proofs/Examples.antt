@@ -43,4 +43,4 @@ unfolding bandedTable has put count equal rows ofMask among ascending descending
     factorsOf tableOf squareOf outside rowsAt tableAt withTable emptyShelf firstBehind
     groupIn bytesIn factorBytes factorsBytes encoding itemAt mantissaAt judgedCode factorAt factorsFrom matrixOf loadCall bytesAt writeCall
     storable signedItem listOf listNumbers carriedVector anyOutside operationCall minorAt minorCall carryCall run
-banded-examples = (refl, (refl, (refl, (refl, (refl, (refl, (refl, (refl, (refl, tt)))))))))
+banded-examples = (refl, (refl, (refl, (refl, (refl, (refl, (refl, (refl, (refl, (refl, (refl, (refl, (refl, (refl, tt))))))))))))))

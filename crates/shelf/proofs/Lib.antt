@@ -1,5 +1,6 @@
 -- Laws that belong to no one function.
 pub mod Loading
+pub mod Before
 pub mod Dropping
 pub mod Writing
 pub mod Carrying

@@ -1,9 +1,9 @@
 -- Document 01's marked examples, P1 to P12, as rows of one table (`markedTable`): P1 to P4 of the arithmetic beneath the calls, the others as calls on a shelf,
 -- with what is returned and what is then held. Worked examples of places with zeros (`bandedTable`).
 use Prim.Native.Nat.{ℕ, _+_, _-_, _^_}
-use mathlib.Core.Bool.{cond}
+use mathlib.Core.Bool.{true, cond, _&&_}
 use mathlib.Core.List.{List, [], _∷_, _++_}
-use lib.Dec.{ltb}
+use lib.Dec.{ltb, eqb}
 use lib.IntN.{pos, negsuc}
 use Rattle.number.specs.declared.Number.{Number}
 use Rattle.number.specs.Number.{zeroNumber, oneNumber, sumOf, productOf}
@@ -13,10 +13,12 @@ use Rattle.words.specs.Operation.{rowByRow}
 use Rattle.words.specs.Examples.{ones, higher, half, threeHalves, two, fiveHalves, three, large}
 use Rattle.items.specs.Examples.{plusOneItem, minusOneItem, zeroItem}
 use Rattle.lists.specs.Examples.{lentSeven}
+use Rattle.verdict.specs.Verdict.{refusedAt}
 use Rattle.verdict.specs.Report.{accepted, refused}
 use Rattle.places.specs.declared.Shelf.{Shelf}
 use Rattle.places.specs.Shelf.{factorsAt, holding, emptyShelf}
 use Rattle.places.specs.Outcome.{Outcome}
+use Rattle.operations.specs.Operations.{factorTest, submatrixAt, singular}
 use Rattle.shelf.specs.Run.{load, write, product, inverse, converse, submatrix, minor, carry, run}
 
 -- place 0 holds n rows with all factors one
@@ -65,6 +67,10 @@ beside i j = cond (ltb 1 (i - j + (j - i))) zeroNumber oneNumber
 abbrev banded : Shelf
 banded = holding emptyShelf 0 3 beside
 
+-- three rows at place 0, whose matrix is a 0 0, a² 1 0, 0 0 1 with a = 2 ^ 1031
+abbrev steep : Shelf
+steep = holding emptyShelf 0 3 (λ i j. cond (eqb j 1 && ltb i 3) large (cond (eqb i j) oneNumber zeroNumber))
+
 -- the bytes of one, and of these factors
 abbrev one : List ℕ
 one = 202 ∷ 7 ∷ 0 ∷ []
@@ -80,6 +86,11 @@ bandedTable =
     ∷ row (run emptyShelf (load 0 (3 ∷ 0 ∷ [])) .report) (refused 6 1)  -- a zero on the diagonal
     ∷ row (run banded (minor 0 1 4) .report) (accepted (pos 0 ∷ pos 0 ∷ []))  -- a minor may be zero: row 1, column 3
     ∷ row (run banded (submatrix 0 1 4 7) .report) (refused 17 0)  -- and then the submatrix is singular
+    ∷ row (run banded (submatrix 0 9 12 7) .report) (refused 8 0)  -- 8 before 17: the same row and column with a fourth of each, which three rows do not have,
+    ∷ row (singular 3 (submatrixAt banded 0 9 12)) true  -- and of which 17 would hold too
+    ∷ row (run steep (submatrix 0 6 3 7) .report) (refused 17 0)  -- 17 before 14: rows 2 and 3, columns 1 and 2, which are 2 ^ 2062 1, 0 0,
+    ∷ row (factorTest 3 (submatrixAt steep 0 6 3)) (refusedAt 14 0)  -- and of which 14 would hold too
+    ∷ row (run steep (submatrix 0 2 1 7) .report) (refused 14 0)  -- as it does of their first number alone
     ∷ row (held 2 (run banded (submatrix 0 3 6 7))) (oneNumber ∷ zeroNumber ∷ two ∷ oneNumber ∷ [])  -- 1 0, 2 1: a zero stays one
     ∷ row (held 3 (run banded (inverse 0 7)))
     (three ∷ down 2863311531 32 ∷ half ∷ down 2863311531 32 ∷ down 2863311531 32 ∷ zeroNumber ∷ half ∷ zeroNumber ∷ half ∷ [])

@@ -32,7 +32,7 @@ test-requires : tie.Need-test-requires
 test-requires c κs = search needs
 
 tested : (c : tie.After-test) → c .test .result ≡ when (not (reading c .read .result .proper)) 9
-tested c = cc
+tested c = c .test .ensures
 
 enum-told : tie.Need-enum-told
 enum-told c = search needs

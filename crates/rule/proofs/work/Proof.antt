@@ -16,7 +16,7 @@ of-steps-requires : tie.Need-of-steps-requires
 of-steps-requires c κs = search needs
 
 returns : tie.Need-returns
-returns c = cc (c .before .before .factors .ensures, c .before .count .ensures .0, c .of-steps .ensures)
+returns c = rw (c .before .before .factors .ensures, c .before .count .ensures .0, c .of-steps .ensures)
 
 pub work-spec : {M : Type 1} → statement M
 work-spec = tie.close (tie.spec factors-requires count-requires of-steps-requires returns)

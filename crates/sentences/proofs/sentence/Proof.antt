@@ -1,5 +1,5 @@
 -- `sentences::sentence` meets its contract: the first test decides whether there is anything to say (laws in Saying).
-use mathlib.Core.Path.{_≡_, sym, _∙_}
+use mathlib.Core.Path.{_≡_, sym, _∙_, ap}
 use mathlib.Core.Bool.{false}
 use denote.Ref.{now}
 use Rattle.verdict.specs.Verdict.{when}
@@ -25,7 +25,7 @@ bits : (c : tie.After-test) → Bits64 (handed c)
 bits c = record { number = begin c .fits .number .fits; offset = begin c .fits .offset .fits; places = λ i. known c .shared-slice-known .given i .fits }
 
 tested : (c : tie.After-test) → c .test .result ≡ when (isUnsayable (handed c)) 9
-tested c = cc
+tested c = c .test .ensures ∙ ap (λ b. when b 9) (c .before .unsayable .ensures)
 
 passed : (c : tie.After-enum-told) → isUnsayable (handed (c .before .before)) ≡ false
 passed c = when-passed (isUnsayable (handed (c .before .before))) 9 (sym (tested (c .before .before)) ∙ c .enum-told .given .1)

@@ -23,7 +23,7 @@ abbrev text : tie.After-test → List ℕ
 text c = now (begin c .args .text)
 
 tested : (c : tie.After-test) → c .test .result ≡ roomTest (out c) (text c)
-tested c = cc
+tested c = c .test .ensures
 
 test-requires : tie.Need-test-requires
 test-requires c κs = search needs

@@ -1,4 +1,7 @@
 -- `writer::write_matrix` meets its contract: the length is tested before a byte is written.
+use lib.ListN.{length}
+use lib.Dec.{ltb}
+use Rattle.verdict.specs.Verdict.{when}
 use borrow.Author.Needs.{needs}
 use mathlib.Core.Path.{_≡_, sym, ap, _∙_}
 use mathlib.Core.List.{List, [], _∷_}
@@ -23,7 +26,7 @@ abbrev bytes : tie.After-test → List ℕ
 bytes c = encoding (begin c .args .n) (squareFactors (begin c .args .n) (begin c .args .numbers))
 
 tested : (c : tie.After-test) → c .test .result ≡ roomTest (out c) (bytes c)
-tested c = cc
+tested c = c .test .ensures ∙ ap (λ k. when (ltb (length (out c)) k) 10) (c .before .matrix-length .ensures)
 
 matrix-length-requires : tie.Need-matrix-length-requires
 matrix-length-requires c κs = search needs

@@ -1,7 +1,7 @@
 -- The matrix of powers before it is kept: turned down, or the factors of the stamps (laws in Building).
 use denote.Ref.{now}
-use mathlib.Core.Path.{_≡_, sym, _∙_}
-use Rattle.verdict.specs.Verdict.{firstBehind, firstOf}
+use mathlib.Core.Path.{_≡_, sym, _∙_, ap₂}
+use Rattle.verdict.specs.Verdict.{firstBehind, firstOf, orElse, when}
 use Rattle.operations.specs.Operations.{buildTests}
 use Rattle.operations.proofs.Building.{build-accepted, build-turned, build-worked}
 use borrow.Author.Needs.{needs}
@@ -12,7 +12,7 @@ use Rattle.operations.proofs.work.built.Tie as tie
 judged : (c : tie.After-test)
     → (let a = c .before .before .before .before .args in c .test .result ≡ firstOf (buildTests (a .shelf) (a .target) (now (a .stamps))))
 unfolding firstBehind
-judged c = cc
+judged c = c .test .ensures ∙ ap₂ (λ v b. orElse v (when b 15)) (c .before .before .target .ensures) (c .before .mistimed .ensures)
 
 target-requires : tie.Need-target-requires
 target-requires c κs = search needs

@@ -24,7 +24,16 @@ test-requires-4 c κs = search needs
 
 returns : tie.Need-returns
 unfolding firstBehind
-returns c = cc
+returns c =
+    let c2 = c .before .before in
+    rw (
+      c .test4 .ensures,
+      c .before .test3 .ensures,
+      c2 .test2 .ensures,
+      c2 .before .test .ensures,
+      c2 .before .before .rows-at2 .ensures,
+      c2 .before .before .before .rows-at .ensures,
+    )
 
 pub one-source-spec : {M : Type 1} → statement M
 one-source-spec =

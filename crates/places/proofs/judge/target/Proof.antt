@@ -15,7 +15,7 @@ test-requires-2 c κs = search needs
 
 returns : tie.Need-returns
 unfolding firstBehind
-returns c = cc
+returns c = rw (c .test2 .ensures, c .before .test .ensures, c .before .before .rows-at .ensures)
 
 pub target-spec : {M : Type 1} → statement M
 target-spec = tie.close (tie.spec rows-at-requires test-requires test-requires-2 returns)

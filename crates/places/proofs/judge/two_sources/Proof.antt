@@ -36,7 +36,21 @@ test-requires-7 c κs = search needs
 
 returns : tie.Need-returns
 unfolding firstBehind
-returns c = cc
+returns c =
+    let c4 = c .before .before .before in
+    let c0 = c4 .before .before .before .before in
+    rw (
+      c .test7 .ensures,
+      c .before .test6 .ensures,
+      c .before .before .test5 .ensures,
+      c4 .test4 .ensures,
+      c4 .before .test3 .ensures,
+      c4 .before .before .test2 .ensures,
+      c4 .before .before .before .test .ensures,
+      c0 .rows-at3 .ensures,
+      c0 .before .rows-at2 .ensures,
+      c0 .before .before .rows-at .ensures,
+    )
 
 pub two-sources-spec : {M : Type 1} → statement M
 two-sources-spec =

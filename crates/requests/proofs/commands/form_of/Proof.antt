@@ -15,7 +15,7 @@ second-forms-requires c κs = search needs
 
 returns : tie.Need-returns
 unfolding formOf
-returns c = cc
+returns c = rw (c .second-forms .ensures, c .before .first-forms .ensures, c .before .before .no-form .ensures)
 
 pub form-of-spec : {M : Type 1} → statement M
 form-of-spec =

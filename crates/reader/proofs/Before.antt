@@ -1,0 +1,155 @@
+-- EVERY READING STAYS AS IT WAS before zeros were, but that of a zero off the diagonal (`read-before`); so does each that was accepted (`accepted-before`).
+-- Up to the first code of zero both readings take the same factors, none of them zero, so that no code is behind a zero in its line (`same-judged`). That code
+-- is 6 in document 01, and still so on the diagonal (`diagonal-judged`).
+use Prim.Native.Nat.{ℕ, zero, suc, _+_, _-_, _*_, _/_, _%_, _^_, _<_, _≤_}
+use native.Mathlib.Nat.{suc-ne-zero}
+use native.Mathlib.Decide.{ℕ-discrete, decLt}
+use native.Mathlib.Omega.{arith}
+use mathlib.Core.Path.{_≡_, refl, sym, ap, _∙_}
+use mathlib.Core.Bool.{Bool, true, false, cond}
+use mathlib.Core.List.{List, [], _∷_, _++_}
+use lib.ListN.{length, getD, length-append}
+use lib.Dec.{ltb}
+use borrow.Author.Tests.{ltb-false, eq-eqb, ne-eqb}
+use Rattle.number.specs.declared.Number.{Number}
+use Rattle.number.specs.Number.{zeroNumber}
+use Rattle.table.specs.Table.{squareOf}
+use Rattle.reader.specs.declared.ByteItem.{ByteItem}
+use Rattle.reader.specs.declared.ByteItem.the-variants as item
+use Rattle.reader.specs.declared.CodeVerdict.{CodeVerdict}
+use Rattle.reader.specs.declared.CodeVerdict.the-variants.{Accepted, Refused}
+use Rattle.reader.specs.declared.ByteFactor.{ByteFactor}
+use Rattle.reader.specs.declared.ByteFactor.the-variants as factor
+use Rattle.reader.specs.Matrix.{itemAt, beforeInLine, judgedCode, decoded, mantissaBy, mantissaAt, judgedBy, factorByItem, factorAt}
+use Rattle.reader.specs.Matrix.{Reading, matrix, fault, onFactor, factorsFrom, matrixBy, matrixOf}
+use Rattle.reader.specs.Faults.{nextRow, nextColumn, FactorsTo, none, more}
+use Rattle.reader.specs.Before.{oldJudged, oldFactorBy, oldFactorsFrom, oldReadingBy, oldReading, ReadAsBefore, same, was-six}
+use Rattle.reader.proofs.Continued.{row-above, column-left, before-below, before-above}
+
+-- no number of a list is zero
+abbrev Nonzero : List Number → Type 0
+Nonzero L = (k : ℕ) → k < length L → getD L k zeroNumber .m ≡ 0 → ⊥
+
+nonzero-more : (L : List Number) (a : Number) → Nonzero L → (a .m ≡ 0 → ⊥) → Nonzero (L ++ (a ∷ []))
+nonzero-more [] a h g zero l = g
+nonzero-more [] a h g (suc k) l = absurd (omega arith)
+nonzero-more (x ∷ L) a h g zero l = h 0 (omega arith)
+nonzero-more (x ∷ L) a h g (suc k) l = nonzero-more L a (λ k l. h (suc k) (omega arith)) g k (omega arith)
+
+-- a factor whose code is not 0 is not zero
+factor-nonzero : (s : List ℕ) (p code : ℕ) → (code ≡ 0 → ⊥) → (a : Number) (q : ℕ) → mantissaAt s p code ≡ factor.At a q → a .m ≡ 0 → ⊥
+unfolding mantissaAt
+factor-nonzero s p code h a q e = by (itemAt s p) (rw (ne-eqb code 0 h) at e)
+  where
+    part : (t : Bool) (m r : ℕ) → cond t (factor.Fault 5 p) (factor.At (decoded code m) r) ≡ factor.At a q → a .m ≡ 0 → ⊥
+    part true m r f z = suc-ne-zero 0 (cc)
+    part false m r f z =
+        let g : m + 2 ^ 31 ≡ a .m = cc in
+        omega arith
+
+    by : (w : ByteItem) → mantissaBy p code w ≡ factor.At a q → a .m ≡ 0 → ⊥
+    by (item.Value m r) f z = part (ltb (2 ^ 31 - 1) m) m r f z
+    by (item.Fault k o) f z = suc-ne-zero 0 (cc)
+
+module _ (n : ℕ) (some : 0 < n) (front : List Number) where
+  -- behind factors none of which is zero the one just before in its line is not
+  before-nonzero : Nonzero front → (nextRow n front ≡ nextColumn n front → ⊥)
+      → beforeInLine (squareOf n front) (nextRow n front) (nextColumn n front) .m ≡ 0 → ⊥
+  before-nonzero h off z =
+      let k = length front in
+      elim (decLt (k % n) (k / n)) [
+        | yes l ↦ h (k - n) (omega (arith, row-above n k l)) (sym (ap (λ (a : Number). a .m) (before-below n k front l)) ∙ z)
+        | no l ↦
+            let g : k / n < k % n = omega arith in
+            h (k - 1) (omega (arith, column-left n k g)) (sym (ap (λ (a : Number). a .m) (before-above n k front g)) ∙ z)
+      ]
+
+  -- THE SAME VERDICT on every code but that of zero, and on that on the diagonal
+  same-judged : Nonzero front → (code : ℕ) → (code ≡ 0 → ⊥) → judgedCode n front code ≡ oldJudged code
+  unfolding judgedCode
+  same-judged h code g =
+      elim (ℕ-discrete (nextRow n front) (nextColumn n front)) [
+        | yes e ↦ simp (ne-eqb code 0 g, eq-eqb (nextRow n front) (nextColumn n front) e)
+        | no e ↦ simp (ne-eqb code 0 g, ne-eqb (nextRow n front) (nextColumn n front) e, ne-eqb _ 0 (before-nonzero h e))
+      ]
+
+  diagonal-judged : nextRow n front ≡ nextColumn n front → judgedCode n front 0 ≡ Refused 6
+  unfolding judgedCode
+  diagonal-judged e = simp (eq-eqb (nextRow n front) (nextColumn n front) e)
+
+-- BOTH READINGS, from the factors in front on
+module _ (s : List ℕ) where
+  module _ (n begin : ℕ) (rows : itemAt s 0 ≡ item.Value n begin) (some : 0 < n) (few : n ≤ 8) where
+    module _ (c : ℕ) (front : List Number) (p : ℕ) (taken : FactorsTo s n begin front p) (whole : Nonzero front) (left : length front + suc c ≡ n * n)
+        (behind : (a : Number) (q : ℕ) → FactorsTo s n begin (front ++ (a ∷ [])) q → (a .m ≡ 0 → ⊥)
+        → ReadAsBefore s (factorsFrom s n (front ++ (a ∷ [])) c q) (oldFactorsFrom s n (front ++ (a ∷ [])) c q)) where
+      abbrev new : ByteFactor → Reading
+      new = onFactor (λ a q. factorsFrom s n (front ++ (a ∷ [])) c q)
+
+      abbrev old : ByteFactor → Reading
+      old = onFactor (λ a q. oldFactorsFrom s n (front ++ (a ∷ [])) c q)
+
+      by-factor : (w : ByteFactor) → factorAt s n front p ≡ w → ((a : Number) (q : ℕ) → w ≡ factor.At a q → a .m ≡ 0 → ⊥) → ReadAsBefore s (new w) (old w)
+      by-factor (factor.At a q) e h = behind a q (more a q taken e) (h a q refl)
+      by-factor (factor.Fault k o) e h = same refl
+
+      by-code : (code q : ℕ) → (code ≡ 0 → ⊥) → (v : CodeVerdict) → factorAt s n front p ≡ judgedBy p (mantissaAt s q code) v
+          → ReadAsBefore s (new (judgedBy p (mantissaAt s q code) v)) (old (judgedBy p (mantissaAt s q code) v))
+      by-code code q h Accepted f = by-factor (mantissaAt s q code) f (λ a r. factor-nonzero s q code h a r)
+      by-code code q h (Refused k) f = same refl
+
+      by-zero : (q : ℕ) → itemAt s p ≡ item.Value 0 q → ReadAsBefore s (new (judgedBy p (mantissaAt s q 0) (judgedCode n front 0))) (fault 6 p)
+      by-zero q e =
+          elim (ℕ-discrete (nextRow n front) (nextColumn n front)) [
+            | yes d ↦ same (ap (λ (v : CodeVerdict). new (judgedBy p (mantissaAt s q 0) v)) (diagonal-judged n some front d))
+            | no d ↦
+                was-six p refl
+                (record {
+                  n = n;
+                  front = front;
+                  at = record { begin = begin; next = q; rows = rows; some = some; few = few; taken = taken; left = omega arith; stands = e };
+                  off = d;
+                })
+          ]
+
+      by-item : (w : ByteItem) → itemAt s p ≡ w → ReadAsBefore s (new (factorByItem s n front p w)) (old (oldFactorBy s p w))
+      unfolding factorAt
+      by-item (item.Value zero q) e = by-zero q e
+      by-item (item.Value (suc k) q) e =
+          let code : ℕ = suc k in
+          let h : code ≡ 0 → ⊥ = λ z. omega arith in
+          let d = same-judged n some front whole code h in
+          rw d (by-code code q h (oldJudged code) (rw e (ap (judgedBy p (mantissaAt s q code)) d)))
+      by-item (item.Fault k o) e = same refl
+
+    from-front : (c : ℕ) (front : List Number) (p : ℕ) → FactorsTo s n begin front p → Nonzero front → length front + c ≡ n * n
+        → ReadAsBefore s (factorsFrom s n front c p) (oldFactorsFrom s n front c p)
+    unfolding factorsFrom oldFactorsFrom factorAt
+    from-front zero front p t h l = same refl
+    from-front (suc c) front p t h l =
+        by-item c front p t h l
+        (λ a q u g. from-front c (front ++ (a ∷ [])) q u (nonzero-more front a h g) (omega (arith, length-append front (a ∷ [])))) (itemAt s p) refl
+
+  by-rows : (n begin : ℕ) → itemAt s 0 ≡ item.Value n begin → (t u : Bool) → ltb n 1 ≡ t → ltb 8 n ≡ u
+      → ReadAsBefore s (cond t (fault 4 0) (cond u (fault 4 0) (factorsFrom s n [] (n * n) begin)))
+      (cond t (fault 4 0) (cond u (fault 4 0) (oldFactorsFrom s n [] (n * n) begin)))
+  by-rows n begin e true u a b = same refl
+  by-rows n begin e false true a b = same refl
+  by-rows n begin e false false a b =
+      from-front n begin e (ltb-false n 1 a) (ltb-false 8 n b) (n * n) [] begin none (λ k l. absurd (omega arith)) (omega arith)
+
+  from-start : (w : ByteItem) → itemAt s 0 ≡ w → ReadAsBefore s (matrixBy s w) (oldReadingBy s w)
+  from-start (item.Value n q) e = by-rows n q e (ltb n 1) (ltb 8 n) refl refl
+  from-start (item.Fault k o) e = same refl
+
+  -- EVERY READING STAYS, but that of a zero off the diagonal
+  pub read-before : ReadAsBefore s (matrixOf s) (oldReading s)
+  unfolding matrixOf oldReading
+  read-before = from-start (itemAt s 0) refl
+
+  pub accepted-before : (n : ℕ) (L : List Number) (q : ℕ) → oldReading s ≡ matrix n L q → matrixOf s ≡ matrix n L q
+  accepted-before n L q e = by read-before
+    where
+      by : ReadAsBefore s (matrixOf s) (oldReading s) → matrixOf s ≡ matrix n L q
+      by (same f) = f ∙ e
+      by (was-six o f z) = absurd (suc-ne-zero 0 (cc))
