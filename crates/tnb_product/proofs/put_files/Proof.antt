@@ -39,8 +39,8 @@ returns c =
     let right = text .before .before in
     let left = right .before .before in
     let read = left .before .before .before .before in
-    let counts = (read .before .before .before .before .before .read-file .result, read .read-file2 .result) in
-    (counts .0, counts .1, rw (left .first .ensures, right .first2 .ensures) at (text .text .ensures))
+    let before = read .before .before .before .before .before in
+    (before .read-file .result, read .read-file2 .result, rw (left .first .ensures, right .first2 .ensures) at (text .text .ensures))
 
 pub put-files-spec : {M : Type 1} → statement M
 put-files-spec =
