@@ -3,4 +3,5 @@ pub mod Lines
 pub mod Going
 pub mod Answers
 pub mod Pieces
+pub mod Input
 pub mod Moves

@@ -58,7 +58,7 @@ parted-behind stop (x ∷ a) b = by (eqb x stop) refl (parts stop a) (parted-beh
     by t e p h = more t e (p .first) (p .others) (p .same) (rw (p .same) at h)
 
 -- the last part has no stop in it, so a text behind it goes on where it ends
-last-whole : (stop : ℕ) (a : List ℕ) → parted stop (lastOf (parted stop a)) ≡ lastOf (parted stop a) ∷ []
+pub last-whole : (stop : ℕ) (a : List ℕ) → parted stop (lastOf (parted stop a)) ≡ lastOf (parted stop a) ∷ []
 unfolding parted lastOf
 last-whole stop [] = refl
 last-whole stop (x ∷ a) = by (eqb x stop) refl (parts stop a) (last-whole stop a)

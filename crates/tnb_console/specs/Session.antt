@@ -75,3 +75,11 @@ afterText c text =
 -- the start of a line that is held for the next text: nothing of one that is too long
 abbrev pub held : Session → List ℕ → List ℕ
 held c text = cond (afterText c text .long) [] (unended text)
+
+-- AN INPUT IN PIECES, as it is read: what is held of a line stands in front of the next piece, and answers are written behind each
+abbrev pub emptied : Session → Session
+emptied c = record { shelf = c .shelf; long = c .long; waiting = [] }
+
+unfoldable pub afterPieces : Session → (start : List ℕ) → List (List ℕ) → Session
+afterPieces c start [] = c
+afterPieces c start (piece ∷ pieces) = afterPieces (emptied (afterText c (start ++ piece))) (held c (start ++ piece)) pieces
