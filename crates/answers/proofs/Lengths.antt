@@ -11,7 +11,7 @@ use Rattle.lines.specs.Ascii.{ascii}
 use Rattle.lines.proofs.Decimals.{signed-short}
 use Rattle.lines.proofs.Text.{cond-cases, spaced-short}
 use Rattle.verdict.specs.Report.{Report, accepted, refused}
-use Rattle.sentences.proofs.Room.{refusal-short}
+use Rattle.notices.proofs.Room.{refusal-short}
 use Rattle.places.specs.declared.Shelf.{Shelf}
 use Rattle.places.specs.Shelf.{rowsAt}
 use Rattle.places.specs.Tests.{empty}

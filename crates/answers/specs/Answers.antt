@@ -8,7 +8,7 @@ use Rattle.lines.specs.Ascii.{ascii}
 use Rattle.lines.specs.Text.{signedText, bytesText, spaced}
 use Rattle.number.specs.Integer.{isNegative}
 use Rattle.verdict.specs.Report.{Report, accepted, refused}
-use Rattle.sentences.specs.Sentence.{refusalText}
+use Rattle.notices.specs.Sentence.{refusalText}
 
 unfoldable pub integerText : ℤ → List ℕ
 integerText x = signedText (isNegative x) (natAbs x)

@@ -8,7 +8,7 @@ ghost use Rattle.writer.specs.Encoding.{writtenReport};
 ghost use Rattle.lists.specs.Lists.{reversalsReport};
 ghost use Rattle.arithmetic.specs.Arithmetic.{workedReport};
 ghost use Rattle.operations.specs.Reports.{boundedReport, valuedReport};
-ghost use Rattle.sentences.specs.Sentence.{refusalText};
+ghost use Rattle.notices.specs.Sentence.{refusalText};
 ghost use Rattle.answers.specs.Answers.{integerText, valuesText, reportText, workedText, withBytes, badText};
 use number::integer;
 use shelf::Bounded;

@@ -9,8 +9,8 @@ use lib.ListN.{length, getD, length-append, length-replicate}
 use borrow.Author.Tests.{ltb-false}
 use Rattle.lines.specs.Ascii.{ascii}
 use Rattle.lines.proofs.Text.{cond-cases, bytes-short}
-use Rattle.sentences.specs.Sentence.{notice, refusalText}
-use Rattle.sentences.proofs.Room.{refusal-short}
+use Rattle.notices.specs.Sentence.{notice, refusalText}
+use Rattle.notices.proofs.Room.{refusal-short}
 use Rattle.places.specs.declared.Shelf.{Shelf}
 use Rattle.places.specs.Shelf.{Good}
 use Rattle.places.specs.Tests.{above}

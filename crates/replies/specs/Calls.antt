@@ -6,7 +6,7 @@ use lib.IntN.{ℤ, pos}
 use lib.ListN.{replicate}
 use Rattle.places.specs.declared.Shelf.{Shelf}
 use Rattle.places.specs.Tests.{above}
-use Rattle.sentences.specs.Sentence.{refusalText}
+use Rattle.notices.specs.Sentence.{refusalText}
 use Rattle.answers.specs.Matrix.{placeText}
 
 -- so many bytes or items are lent, and no more than 512

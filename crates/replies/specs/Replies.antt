@@ -12,7 +12,7 @@ use Rattle.lines.specs.Text.{Puts}
 use Rattle.rests.specs.declared.Operator.the-variants as Operator
 use Rattle.places.specs.declared.Shelf.{Shelf}
 use Rattle.places.specs.Outcome.{Outcome}
-use Rattle.sentences.specs.Sentence.{notice}
+use Rattle.notices.specs.Sentence.{notice}
 use Rattle.shelf.specs.Run.{run, load, write, drop, product, inverse, converse, transpose, submatrix, build, minor}
 use Rattle.shelf.specs.Run.{carry, reversals, arithmetic, rest, sentence}
 use Rattle.answers.specs.Answers.{reportText, workedText, withBytes, badText}

@@ -6,7 +6,7 @@ ghost use Rattle.places.specs.Shelf.{Good};
 ghost use Rattle.operations.specs.Reports.{operatedOutcome};
 ghost use Rattle.shelf.specs.Reports.{changedOutcome};
 ghost use Rattle.writer.specs.Encoding.{writtenReport};
-ghost use Rattle.sentences.specs.Sentence.{notice};
+ghost use Rattle.notices.specs.Sentence.{notice};
 ghost use Rattle.shelf.specs.Run.{run, load, write, drop, minor, carry, reversals, arithmetic, rest, sentence};
 ghost use Rattle.answers.specs.Answers.{reportText, withBytes};
 ghost use Rattle.replies.specs.Calls.{lentCount, lentBytes, lentItems, showText};

@@ -1,6 +1,6 @@
 // The reasons of the refusals 1 to 22.
 ghost use Rattle.lines.specs.Text.{Puts};
-ghost use Rattle.sentences.specs.Reasons.{HasReason, reasonOf};
+ghost use Rattle.notices.specs.Reasons.{HasReason, reasonOf};
 
 // One behind the other.
 const TEXT: [u8; 467] = *b"no such place\

@@ -16,7 +16,7 @@ use Rattle.verdict.specs.Report.{Report, accepted, refused, reportOf}
 use Rattle.reader.specs.Matrix.{Reading, matrix, fault, matrixOf, behindBy}
 use Rattle.arithmetic.specs.Arithmetic.{arithmeticTests, arithmeticCall}
 use Rattle.lists.specs.Lists.{reversalsTests, reversalsCall}
-use Rattle.sentences.specs.Sentence.{Notice, sentenceTests, sentenceOf, sentenceReport, bytesAfterSentence}
+use Rattle.notices.specs.Sentence.{Notice, sentenceTests, sentenceOf, sentenceReport, bytesAfterSentence}
 use Rattle.places.specs.declared.Shelf.{Shelf}
 use Rattle.places.specs.Tests.{sourceTests, oneSource}
 use Rattle.operations.specs.Operations.{buildTests, minorTests, operationVerdict, transposeCall, buildCall, operationCall, minorCall}

@@ -10,7 +10,7 @@ use Rattle.lists.specs.Lists.{reversalsCall}
 use Rattle.rests.specs.declared.Operator.{Operator}
 use Rattle.arithmetic.specs.Arithmetic.{arithmeticCall}
 use Rattle.verdict.specs.Report.{accepted}
-use Rattle.sentences.specs.Sentence.{Notice, sentenceReport, bytesAfterSentence}
+use Rattle.notices.specs.Sentence.{Notice, sentenceReport, bytesAfterSentence}
 use Rattle.places.specs.declared.Shelf.{Shelf}
 use Rattle.places.specs.Outcome.{Outcome, outcome}
 use Rattle.operations.specs.Operations.{transposeCall, buildCall, productCall, inverseCall, converseCall, submatrixCall, minorCall}

@@ -11,9 +11,9 @@ use Rattle.verdict.specs.declared.Verdict.{Verdict}
 use Rattle.verdict.specs.declared.Verdict.the-variants.{Accepted}
 use Rattle.verdict.specs.Verdict.{when, firstOf}
 use Rattle.verdict.specs.Report.{reportOf}
-use Rattle.sentences.specs.Sentence.{Notice, sentenceOf, isUnsayable, sentenceTests, sentenceReport, bytesAfterSentence}
-use Rattle.sentences.specs.Promise.{Bits64, TellsOnly}
-use Rattle.sentences.proofs.Saying.{accepted-only, sentence-roomy}
+use Rattle.notices.specs.Sentence.{Notice, sentenceOf, isUnsayable, sentenceTests, sentenceReport, bytesAfterSentence}
+use Rattle.notices.specs.Promise.{Bits64, TellsOnly}
+use Rattle.notices.proofs.Saying.{accepted-only, sentence-roomy}
 use Rattle.tnb_c.specs.declared.Length.{Length}
 use Rattle.tnb_c.specs.Answers.{numberOf, lengthOf, SentenceAnswer}
 use Rattle.tnb_c.proofs.Numbers.{AllNumbered, numbered, behind-numbered, numbered-accepted}

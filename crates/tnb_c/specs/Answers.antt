@@ -17,8 +17,8 @@ use Rattle.arithmetic.specs.Promise.{itemValue}
 use Rattle.places.specs.declared.Shelf.{Shelf}
 use Rattle.places.specs.Check.{isGood}
 use Rattle.places.specs.Outcome.{Outcome}
-use Rattle.sentences.specs.Sentence.{Notice, isUnsayable}
-use Rattle.sentences.specs.Promise.{TellsOnly, sentenceRoom}
+use Rattle.notices.specs.Sentence.{Notice, isUnsayable}
+use Rattle.notices.specs.Promise.{TellsOnly, sentenceRoom}
 use Rattle.lists.specs.Promise.{NoMoreReversals}
 use Rattle.operations.specs.Promise.{Met, Built}
 use Rattle.shelf.specs.Run.{Call, load, write, drop, product, inverse, converse, submatrix, transpose, build, minor, run, afterEach}

@@ -6,7 +6,7 @@ ghost use Rattle.reader.specs.Matrix.{behindOf};
 ghost use Rattle.places.specs.Shelf.{emptyShelf, rowsAt};
 ghost use Rattle.lists.specs.Lists.{reversalsCall};
 ghost use Rattle.arithmetic.specs.Arithmetic.{arithmeticCall};
-ghost use Rattle.sentences.specs.Sentence.{notice, sentenceReport, bytesAfterSentence};
+ghost use Rattle.notices.specs.Sentence.{notice, sentenceReport, bytesAfterSentence};
 ghost use Rattle.operations.specs.Operations.{productAt, inverseAt, converseAt, submatrixAt};
 ghost use Rattle.shelf.specs.Run.{load, drop, write, product, inverse, converse, submatrix, transpose, build, minor, carry, rows, factor};
 ghost use Rattle.tnb_c.specs.Answers.{checked, answerOf, lengthOf, valueOf, workedOf, statusOf};

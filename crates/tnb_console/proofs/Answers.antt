@@ -15,10 +15,10 @@ use Rattle.replies.specs.Replies.{Replied, replyToLine, longestAnswer}
 use Rattle.replies.proofs.Short.{answer-short}
 use Rattle.tnb_console.specs.declared.State.{State}
 use Rattle.tnb_console.specs.Session.{enough, kept, afterLine}
-use Rattle.tnb_console.specs.Kept.{sessionOf, placeOf, Ready}
+use Rattle.tnb_console.specs.Kept.{sessionOf, placeOf, Orderly}
 
 -- what waits is kept behind its index, and there is room for the longest answer
-module _ {was : State} {out : List ℕ} (ready : Ready was out) where
+module _ {was : State} {out : List ℕ} (ready : Orderly was out) where
   placed : (t : Bool) → take (cond t (was .waiting) 0) out ≡ cond t (take (was .waiting) out) []
   placed true = refl
   placed false = refl
@@ -44,7 +44,7 @@ module _ {was : State} {out : List ℕ} (ready : Ready was out) where
           let put = puts-room (replied .text) whole in
           rw (s, w, l, replied .shelf, put .1, kept-placed)
 
-      pub line-ready : Good (now .shelf) → now .waiting ≡ r .at → Ready now after
+      pub line-ready : Good (now .shelf) → now .waiting ≡ r .at → Orderly now after
       line-ready g w =
           let put = puts-room (replied .text) whole in
           let same : length after ≡ length out = ap length (replied .text .bytes) ∙ length-sets out (placeOf (was .waiting)) answer in

@@ -14,7 +14,7 @@ use Rattle.lines.proofs.Words.{take-before}
 use Rattle.places.specs.Shelf.{Good}
 use Rattle.tnb_console.specs.declared.State.{State}
 use Rattle.tnb_console.specs.Session.{Session, afterLine, afterLines, linesOf, unended, afterText}
-use Rattle.tnb_console.specs.Kept.{sessionOf, Ready, Responded, Turned}
+use Rattle.tnb_console.specs.Kept.{sessionOf, Orderly, Responded, Turned}
 use Rattle.tnb_console.proofs.Lines.{lines-next, unended-next, lines-none, unended-none}
 
 -- the line that starts at an index, and where it ends
@@ -27,19 +27,19 @@ line-lent text start end e =
     rw n (take-before 10 (drop start text))
 
 pub record Going (was : State) (text out : List ℕ) (now : State) (after : List ℕ) (start end : ℕ) : Type 0 where
-  pub ready : Ready now after
+  pub ready : Orderly now after
   pub same : now .start ≡ start
   pub within : start ≤ length text
   pub session : afterLines (sessionOf now after) (linesOf (drop start text)) ≡ afterLines (sessionOf was out) (linesOf (drop (was .start) text))
   pub rest : unended (drop start text) ≡ unended (drop (was .start) text)
   pub ends : EndsAt text start end
 
-pub going-first : {was : State} {text out : List ℕ} {end : ℕ} → Ready was out → was .start ≤ length text → EndsAt text (was .start) end
+pub going-first : {was : State} {text out : List ℕ} {end : ℕ} → Orderly was out → was .start ≤ length text → EndsAt text (was .start) end
     → Going was text out was out (was .start) end
 going-first ready within ends = record { ready = ready; same = refl; within = within; session = refl; rest = refl; ends = ends }
 
 module _ {was : State} {text out : List ℕ} {now : State} {after : List ℕ} {start end : ℕ} (g : Going was text out now after start end) where
-  pub going-next : {now′ : State} {after′ : List ℕ} {end′ : ℕ} → end < length text → Ready now′ after′
+  pub going-next : {now′ : State} {after′ : List ℕ} {end′ : ℕ} → end < length text → Orderly now′ after′
       → sessionOf now′ after′ ≡ afterLine (sessionOf now after) (take (end - start) (drop start text)) → now′ .start ≡ end + 1 → EndsAt text (end + 1) end′
       → Going was text out now′ after′ (end + 1) end′
   going-next {now′} {after′} h ready e s ends =
@@ -84,7 +84,7 @@ turned {was} {text} {out} {now} r z st s l w n =
     }
 
 -- where no answer waits
-pub kept-ready : {st : State} {out : List ℕ} → Good (st .shelf) → st .waiting ≡ 0 → length out ≡ 65536 → Ready st out
+pub kept-ready : {st : State} {out : List ℕ} → Good (st .shelf) → st .waiting ≡ 0 → length out ≡ 65536 → Orderly st out
 kept-ready g w l = record { good = g; whole = l; within = omega arith }
 
 -- what is held of a line is never longer than a line may be

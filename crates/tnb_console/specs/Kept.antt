@@ -1,4 +1,4 @@
--- What the program keeps of a session (`sessionOf`): the shelf, and the answers that wait at the front of its output, which has room for one more (`Ready`).
+-- What the program keeps of a session (`sessionOf`): the shelf, and the answers that wait at the front of its output, which has room for one more (`Orderly`).
 -- What answering the lines of a text leaves (`Responded`), and a text and its rest (`Turned`).
 use Prim.Native.Nat.{ℕ, _≤_}
 use mathlib.Core.Path.{_≡_}
@@ -18,7 +18,7 @@ abbrev pub placeOf : ℕ → ℕ
 placeOf waiting = cond (ltb waiting enough) waiting 0
 
 -- a good shelf, and an output of the one length with the answers that wait in it
-pub record Ready (st : State) (out : List ℕ) : Type 0 where
+pub record Orderly (st : State) (out : List ℕ) : Type 0 where
   pub good : Good (st .shelf)
   pub whole : length out ≡ 65536
   pub within : st .waiting ≤ length out

@@ -8,7 +8,7 @@ ghost use lib.ListN.{length, take, drop};
 ghost use Rattle.lines.specs.Words.{before};
 ghost use Rattle.places.specs.Shelf.{Good};
 ghost use Rattle.tnb_console.specs.Session.{afterLine};
-ghost use Rattle.tnb_console.specs.Kept.{sessionOf, placeOf, Ready, Responded, Turned};
+ghost use Rattle.tnb_console.specs.Kept.{sessionOf, placeOf, Orderly, Responded, Turned};
 use libc::STDERR_FILENO;
 use libc::STDIN_FILENO;
 use libc::STDOUT_FILENO;
@@ -65,8 +65,8 @@ fn room(output: &[u8], waiting: usize) -> usize
 
 // Answers a line, which is given without its end; the one behind it starts at `next`.
 fn respond(was: State, line: &[u8], next: usize, output: &mut [u8]) -> State
-    requires { ⌜ Ready was (now output) ⌝ }
-    ensures { λ r. ⌜ Ready r (now (output .exit)) ⌝ }
+    requires { ⌜ Orderly was (now output) ⌝ }
+    ensures { λ r. ⌜ Orderly r (now (output .exit)) ⌝ }
     ensures { λ r. ⌜ (sessionOf r (now (output .exit)) ≡ afterLine (sessionOf was (now (output .entry))) (now (line .entry))) × (r .start ≡ next) ⌝ }
 {
     let shelf = was.shelf;
@@ -87,9 +87,9 @@ fn line_end(text: &[u8], start: usize) -> usize
 
 // Answers the lines that end in the text, one after the other.
 fn respond_all(was: State, text: &[u8], output: &mut [u8]) -> State
-    requires { ⌜ Ready was (now output) ⌝ }
+    requires { ⌜ Orderly was (now output) ⌝ }
     requires { ⌜ was .start ≤ length (now text) ⌝ }
-    ensures { λ r. ⌜ Ready r (now (output .exit)) ⌝ }
+    ensures { λ r. ⌜ Orderly r (now (output .exit)) ⌝ }
     ensures { λ r. ⌜ Responded was (now (text .entry)) (now (output .entry)) r (now (output .exit)) ⌝ }
 {
     let mut now = was;
@@ -105,9 +105,9 @@ fn respond_all(was: State, text: &[u8], output: &mut [u8]) -> State
 
 // The lines that end in the text are answered and the answers written.
 fn respond_now(was: State, text: &[u8], output: &mut [u8]) -> State
-    requires { ⌜ Ready was (now output) ⌝ }
+    requires { ⌜ Orderly was (now output) ⌝ }
     requires { ⌜ was .start ≡ 0 ⌝ }
-    ensures { λ r. ⌜ Ready r (now (output .exit)) ⌝ }
+    ensures { λ r. ⌜ Orderly r (now (output .exit)) ⌝ }
     ensures { λ r. ⌜ Turned was (now (text .entry)) (now (output .entry)) r ⌝ }
 {
     let now = respond_all(was, text, output);
@@ -163,7 +163,7 @@ fn hold(input: &mut [u8], start: usize, n: usize, long: bool) -> usize
 
 // The last line may lack its end.
 fn finish(was: State, line: &[u8], output: &mut [u8])
-    requires { ⌜ Ready was (now output) ⌝ }
+    requires { ⌜ Orderly was (now output) ⌝ }
 {
     if was.long | (0 < line.len()) {
         let now = respond(was, line, 0, output);

@@ -11,7 +11,7 @@ use Rattle.places.specs.Shelf.{rowsAt, emptyShelf}
 use Rattle.places.specs.Outcome.{Outcome}
 use Rattle.shelf.specs.Calls.{factorCall}
 use Rattle.shelf.specs.Run.{run, load, product}
-use Rattle.sentences.specs.Sentence.{refusalText}
+use Rattle.notices.specs.Sentence.{refusalText}
 use Rattle.answers.specs.Answers.{reportText}
 
 -- row, column, and the mantissa and exponent that a factor reports

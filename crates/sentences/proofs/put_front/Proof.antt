@@ -1,7 +1,7 @@
 -- `sentences::put_front` meets its contract: one piece behind the other.
 use Rattle.lines.specs.Ascii.{ascii}
 use Rattle.lines.proofs.Text.{puts-behind}
-use Rattle.sentences.specs.Sentence.{refusalText}
+use Rattle.notices.specs.Sentence.{refusalText}
 use borrow.Author.Needs.{needs}
 use Rattle.sentences.proofs.put_front.Statement.{statement}
 use Rattle.sentences.proofs.put_front.Tie as tie

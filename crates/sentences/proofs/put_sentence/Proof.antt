@@ -1,7 +1,7 @@
 -- `sentences::put_sentence` meets its contract: one part behind the other.
 use Rattle.lines.specs.Ascii.{ascii}
 use Rattle.lines.proofs.Text.{puts-behind}
-use Rattle.sentences.specs.Sentence.{sentenceOf}
+use Rattle.notices.specs.Sentence.{sentenceOf}
 use borrow.Author.Needs.{needs}
 use Rattle.sentences.proofs.put_sentence.Statement.{statement}
 use Rattle.sentences.proofs.put_sentence.Tie as tie

@@ -7,9 +7,9 @@ use lib.ListN.{length, take, replicate}
 use lib.Seq.{length-sets, length-take-le}
 use Rattle.arrays.proofs.Runs.{take-sets-front}
 use Rattle.lines.proofs.Text.{puts-whole}
-use Rattle.sentences.specs.Sentence.{Notice, notice, sentenceOf}
-use Rattle.sentences.specs.Promise.{Bits64}
-use Rattle.sentences.proofs.Room.{sentence-short}
+use Rattle.notices.specs.Sentence.{Notice, notice, sentenceOf}
+use Rattle.notices.specs.Promise.{Bits64}
+use Rattle.notices.proofs.Room.{sentence-short}
 use borrow.Author.Needs.{needs}
 use Rattle.sentences.proofs.say.Statement.{statement}
 use Rattle.sentences.proofs.say.Tie as tie

@@ -4,9 +4,9 @@ use mathlib.Core.Bool.{false}
 use denote.Ref.{now}
 use Rattle.verdict.specs.Verdict.{when}
 use Rattle.verdict.proofs.Verdicts.{when-passed}
-use Rattle.sentences.specs.Sentence.{Notice, notice, isUnsayable}
-use Rattle.sentences.specs.Promise.{Bits64}
-use Rattle.sentences.proofs.Saying.{sayable, sayable-done, unsayable-done, worded}
+use Rattle.notices.specs.Sentence.{Notice, notice, isUnsayable}
+use Rattle.notices.specs.Promise.{Bits64}
+use Rattle.notices.proofs.Saying.{sayable, sayable-done, unsayable-done, worded}
 use borrow.Author.Needs.{needs}
 use Rattle.sentences.proofs.sentence.Statement.{statement}
 use Rattle.sentences.proofs.sentence.Tie as tie

@@ -1,8 +1,8 @@
 -- `tnb_sentence` meets its contract: the call's own answer as a struct, and its promise (laws in Sentences).
 use mathlib.Core.Path.{ap, _∙_}
 use denote.Ref.{now}
-use Rattle.sentences.specs.Sentence.{notice}
-use Rattle.sentences.specs.Promise.{Bits64}
+use Rattle.notices.specs.Sentence.{notice}
+use Rattle.notices.specs.Promise.{Bits64}
 use Rattle.tnb_c.specs.Answers.{lengthOf}
 use Rattle.tnb_c.proofs.Sentences.{sentence-answered}
 use borrow.Author.Needs.{needs}

@@ -3,7 +3,7 @@ use Prim.Native.Nat.{_-_, _≤_}
 use native.Mathlib.Omega.{arith}
 use mathlib.Core.Path.{_≡_, refl, sym, _∙_}
 use lib.ListN.{length, length-take}
-use Rattle.tnb_console.specs.Kept.{Ready}
+use Rattle.tnb_console.specs.Kept.{Orderly}
 use Rattle.tnb_console.proofs.Going.{kept-ready, held-short}
 use borrow.Author.Needs.{needs}
 use Rattle.tnb_console.proofs.serve.Statement.{statement}
@@ -11,7 +11,7 @@ use Rattle.tnb_console.proofs.serve.Tie as tie
 
 abbrev Inv-loop : tie.InvT-loop
 Inv-loop input₀ output₀ now₀ held₀ turns₀ input output now held turns =
-    (length input ≡ length input₀) × (length output ≡ length output₀) × (length input₀ ≡ 65536) × (length output₀ ≡ 65536) × Ready now output × (now .start ≡ 0) × (held ≤ 4096)
+    (length input ≡ length input₀) × (length output ≡ length output₀) × (length input₀ ≡ 65536) × (length output₀ ≡ 65536) × Orderly now output × (now .start ≡ 0) × (held ≤ 4096)
 
 abbrev μ-loop : tie.MeasureT-loop
 μ-loop input₀ output₀ now₀ held₀ turns₀ input output now held turns = turns

@@ -2,7 +2,7 @@
 use Rattle.lines.specs.Ascii.{ascii}
 use mathlib.Core.Path.{refl}
 use denote.Ref.{now}
-use Rattle.sentences.specs.Sentence.{notice}
+use Rattle.notices.specs.Sentence.{notice}
 use Rattle.shelf.specs.Run.{run, sentence}
 use Rattle.replies.proofs.Replies.{bytes-as}
 use borrow.Author.Needs.{needs}

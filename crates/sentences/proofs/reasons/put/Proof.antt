@@ -5,8 +5,8 @@ use native.Mathlib.Omega.{arith}
 use mathlib.Core.Path.{_≡_, refl, subst}
 use mathlib.Core.List.{List, [], flatten}
 use lib.ListN.{length, getD, take, drop}
-use Rattle.sentences.specs.Reasons.{HasReason, reasons, reasonOf}
-use Rattle.sentences.proofs.Ends.{endsFrom, ends-rise, ends-within, part-at}
+use Rattle.notices.specs.Reasons.{HasReason, reasons, reasonOf}
+use Rattle.notices.proofs.Ends.{endsFrom, ends-rise, ends-within, part-at}
 use borrow.Author.Needs.{needs}
 use Rattle.sentences.proofs.reasons.put.Statement.{statement}
 use Rattle.sentences.proofs.reasons.put.Tie as tie

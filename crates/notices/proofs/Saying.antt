@@ -23,11 +23,11 @@ use Rattle.writer.specs.declared.Written.{Written}
 use Rattle.writer.specs.declared.Written.the-variants as written
 use Rattle.writer.specs.Encoding.{roomTest, writingReport, bytesAfterWriting, writtenReport}
 use Rattle.writer.proofs.Writing.{writing-room}
-use Rattle.sentences.specs.Reasons.{HasReason}
-use Rattle.sentences.specs.Sentence.{Notice, sentenceOf, unsayable, isUnsayable, sentenceTests, sentenceReport, bytesAfterSentence}
-use Rattle.sentences.specs.Promise.{Bits64, TellsOnly, Recovered, Roomy, Worded}
-use Rattle.sentences.proofs.Only.{sentence-only}
-use Rattle.sentences.proofs.Room.{sentence-short}
+use Rattle.notices.specs.Reasons.{HasReason}
+use Rattle.notices.specs.Sentence.{Notice, sentenceOf, unsayable, isUnsayable, sentenceTests, sentenceReport, bytesAfterSentence}
+use Rattle.notices.specs.Promise.{Bits64, TellsOnly, Recovered, Roomy, Worded}
+use Rattle.notices.proofs.Only.{sentence-only}
+use Rattle.notices.proofs.Room.{sentence-short}
 
 pub sayable : (k n : ℕ) → unsayable k n ≡ false → HasReason k × (n ≤ 7)
 sayable k n e =

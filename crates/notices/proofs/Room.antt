@@ -5,10 +5,10 @@ use lib.ListN.{length, length-append}
 use Rattle.lines.specs.Text.{decimal}
 use Rattle.lines.proofs.Decimals.{decimal-short, decimal-within}
 use Rattle.lines.proofs.Text.{spaced-short}
-use Rattle.sentences.specs.Reasons.{HasReason}
-use Rattle.sentences.specs.Sentence.{Notice, refusalText, sentenceOf}
-use Rattle.sentences.specs.Promise.{Bits64, sentenceRoom}
-use Rattle.sentences.proofs.Asked.{reasons-asked}
+use Rattle.notices.specs.Reasons.{HasReason}
+use Rattle.notices.specs.Sentence.{Notice, refusalText, sentenceOf}
+use Rattle.notices.specs.Promise.{Bits64, sentenceRoom}
+use Rattle.notices.proofs.Asked.{reasons-asked}
 
 -- 8 + 20 + 4 + 20
 pub refusal-short : (number offset : ℕ) → length (refusalText number offset) ≤ 52

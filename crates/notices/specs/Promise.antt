@@ -10,7 +10,7 @@ use Rattle.verdict.specs.Report.{Report, reportOf}
 use Rattle.writer.specs.declared.Written.{Written}
 use Rattle.writer.specs.declared.Written.the-variants.{Length, Refused}
 use Rattle.writer.specs.Encoding.{writtenReport}
-use Rattle.sentences.specs.Sentence.{Notice, sentenceOf, isUnsayable}
+use Rattle.notices.specs.Sentence.{Notice, sentenceOf, isUnsayable}
 
 -- numbers of 64 bits, as the call takes them
 abbrev pub AllBits64 : List ℕ → Type 0

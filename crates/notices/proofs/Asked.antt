@@ -13,7 +13,7 @@ use Rattle.arrays.proofs.Below.{all-each}
 use Rattle.number.proofs.Tests.{both}
 use Rattle.lines.specs.Words.{same}
 use Rattle.lines.proofs.Words.{same-refl}
-use Rattle.sentences.specs.Reasons.{reasons, reasonOf, HasReason, digitFree, singleSpaced, ReasonsAsked}
+use Rattle.notices.specs.Reasons.{reasons, reasonOf, HasReason, digitFree, singleSpaced, ReasonsAsked}
 
 -- a text is not empty, has no digit, single spaces and at most 38 bytes
 abbrev wellWorded : List ℕ → Bool

@@ -6,7 +6,7 @@ use lib.ListN.{length, replicate}
 use Rattle.number.specs.Examples.{Row, row}
 use Rattle.verdict.specs.Report.{accepted, refused}
 use Rattle.lines.specs.Ascii.{ascii}
-use Rattle.sentences.specs.Sentence.{Notice, notice, sentenceOf, sentenceReport, bytesAfterSentence}
+use Rattle.notices.specs.Sentence.{Notice, notice, sentenceOf, sentenceReport, bytesAfterSentence}
 
 -- so many lent bytes
 abbrev lent : ℕ → List ℕ

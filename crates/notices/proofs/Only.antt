@@ -7,9 +7,9 @@ use mathlib.Core.List.{List, [], _∷_, _++_, append-assoc, append-cancel-left, 
 use Rattle.lines.specs.Ascii.{ascii}
 use Rattle.lines.specs.Text.{decimal, spaced}
 use Rattle.lines.proofs.Decimals.{stops, decimal-front}
-use Rattle.sentences.specs.Reasons.{reasonOf}
-use Rattle.sentences.specs.Sentence.{Notice, notice, refusalText, sentenceOf}
-use Rattle.sentences.specs.Promise.{AllBits64, Bits64}
+use Rattle.notices.specs.Reasons.{reasonOf}
+use Rattle.notices.specs.Sentence.{Notice, notice, refusalText, sentenceOf}
+use Rattle.notices.specs.Promise.{AllBits64, Bits64}
 
 -- PLACES
 places-stop : (L : List ℕ) → stops (spaced decimal L) ≡ true

@@ -13,7 +13,7 @@ use Rattle.verdict.specs.Report.{Report, reportOf}
 use Rattle.lines.specs.Ascii.{ascii}
 use Rattle.lines.specs.Text.{decimal, spaced}
 use Rattle.writer.specs.Encoding.{roomTest}
-use Rattle.sentences.specs.Reasons.{reasonOf}
+use Rattle.notices.specs.Reasons.{reasonOf}
 
 -- what a sentence tells: a refusal's number and offset, and places
 pub record Notice : Type 0 where
