@@ -62,7 +62,7 @@ module _ (K : CRing) (O : Ordered K) (n : ℕ) where
 
   kept : (b : Factors R) → KeepsRuleOver K O n b → Kept K O n b
   kept b h = record {
-    below = λ i j o l p. decided (b i j) (h .others i j (omega arith, p) (o, omega arith));
+    below = λ i j o l p. decided (b i j) (h .positive i j (omega arith, p) (o, omega arith));
     under = λ i j o l p. h .down i (suc i) j o l (omega arith) p;
   }
 

@@ -19,7 +19,7 @@ pub each-banded : {A : Type 0} (Positive Zero : A → Type 0) → ((x : A) → P
 each-banded Positive Zero apart n b h = record {
   diagonal = λ i x. h i i x x;
   rule = record {
-    others = λ i j x y f. h i j x y;
+    positive = λ i j x y f. h i j x y;
     down = λ i r j lj ji ir rn z. absurd (apart (b i j) (h i j (omega arith, omega arith) (lj, omega arith)) z);
     right = λ i j c li ij jc cn z. absurd (apart (b i j) (h i j (li, omega arith) (omega arith, omega arith)) z);
   };
@@ -33,7 +33,7 @@ pub banded-next : {A : Type 0} (Positive Zero : A → Type 0) (n : ℕ) (b : Fac
 banded-next Positive Zero n b on others below beside = record {
   diagonal = on;
   rule = record {
-    others = others;
+    positive = others;
     down = λ i r j lj ji ir rn z.
         le-ind (λ r. r ≤ n → Zero (b r j)) (λ l. z) (λ r h f l. below r j lj (omega arith) (omega arith) (f (omega arith))) r (omega arith) rn;
     right = λ i j c li ij jc cn z.
@@ -43,7 +43,7 @@ banded-next Positive Zero n b on others below beside = record {
 
 pub rule-exchanged : {A : Type 0} (Positive Zero : A → Type 0) (n : ℕ) (b : Factors A) → KeepsRule Positive Zero n b → KeepsRule Positive Zero n (exchanged b)
 rule-exchanged Positive Zero n b h = record {
-  others = λ i j x y. h .others j i y x;
+  positive = λ i j x y. h .positive j i y x;
   down = λ i r j lj ji ir rn. h .right j i r lj ji ir rn;
   right = λ i j c li ij jc cn. h .down j c i li ij jc cn;
 }
@@ -61,7 +61,7 @@ module _ {A B : Type 0} (P Z : A → Type 0) (Q Y : B → Type 0) (n : ℕ) (b :
     (like : (i j : ℕ) → In n i → In n j → Like P Z Q Y (b i j) (c i j)) where
   pub rule-like : KeepsRule P Z n b → KeepsRule Q Y n c
   rule-like h = record {
-    others = λ i j x y f. like i j x y .positive (h .others i j x y (λ z. f (like i j x y .zero z)));
+    positive = λ i j x y f. like i j x y .positive (h .positive i j x y (λ z. f (like i j x y .zero z)));
     down = λ i r j lj ji ir rn z. like r j (omega arith, rn) (lj, omega arith) .zero
         (h .down i r j lj ji ir rn (like i j (omega arith, omega arith) (lj, omega arith) .back z));
     right = λ i j c li ij jc cn z. like i c (li, omega arith) (omega arith, cn) .zero
@@ -100,7 +100,7 @@ decided a s =
     ]
 
 pub banded-decided : (n : ℕ) (b : Factors Number) → BandedNumbers n b → Each StoredOrZero n b
-banded-decided n b h i j x y = decided (b i j) (h .rule .others i j x y)
+banded-decided n b h i j x y = decided (b i j) (h .rule .positive i j x y)
 
 ranged-decided : {a : Number} → StoredOrZero a → Ranged 1000 a
 ranged-decided (stored s) = ranged-stored s

@@ -23,7 +23,7 @@ module _ {A : Type 0} where
   -- A CHOICE, POSITIVE OR ZERO, THAT KEEPS THE RULE FOR ZEROS (document 02, (e)): what is not zero is positive; every factor further down the column of a zero
   -- below the diagonal is zero too, and every factor further right in the row of a zero above it. Of the diagonal it asks nothing more
   pub record KeepsRule (Positive Zero : A → Type 0) (n : ℕ) (b : Factors A) : Type 0 where
-    pub others : (i j : ℕ) → In n i → In n j → (Zero (b i j) → ⊥) → Positive (b i j)
+    pub positive : (i j : ℕ) → In n i → In n j → (Zero (b i j) → ⊥) → Positive (b i j)
     pub down : (i r j : ℕ) → 1 ≤ j → j < i → i < r → r ≤ n → Zero (b i j) → Zero (b r j)
     pub right : (i j c : ℕ) → 1 ≤ i → i < j → j < c → c ≤ n → Zero (b i j) → Zero (b i c)
 
