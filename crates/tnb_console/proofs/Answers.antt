@@ -14,7 +14,7 @@ use Rattle.replies.specs.declared.calls.Answered.{Answered}
 use Rattle.replies.specs.Replies.{Replied, replyToLine, longestAnswer}
 use Rattle.replies.proofs.Short.{answer-short}
 use Rattle.tnb_console.specs.declared.State.{State}
-use Rattle.tnb_console.specs.Session.{enough, kept, afterLine}
+use Rattle.tnb_console.specs.Session.{enough, stillWaiting, afterLine}
 use Rattle.tnb_console.specs.Kept.{sessionOf, placeOf, Orderly}
 
 -- what waits is kept behind its index, and there is room for the longest answer
@@ -23,7 +23,7 @@ module _ {was : State} {out : List ℕ} (ready : Orderly was out) where
   placed true = refl
   placed false = refl
 
-  kept-placed : take (placeOf (was .waiting)) out ≡ kept (take (was .waiting) out)
+  kept-placed : take (placeOf (was .waiting)) out ≡ stillWaiting (take (was .waiting) out)
   kept-placed = rw (length-take-le (was .waiting) out (ready .within)) (placed (ltb (was .waiting) enough))
 
   roomy : (t : Bool) → ltb (was .waiting) enough ≡ t → cond t (was .waiting) 0 + longestAnswer ≤ length out

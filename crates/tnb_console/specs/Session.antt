@@ -19,8 +19,8 @@ pub record Session : Type 0 where
 abbrev pub enough : ℕ
 enough = 16384
 
-abbrev pub kept : List ℕ → List ℕ
-kept waiting = cond (ltb (length waiting) enough) waiting []
+abbrev pub stillWaiting : List ℕ → List ℕ
+stillWaiting waiting = cond (ltb (length waiting) enough) waiting []
 
 -- A LINE, answered behind the answers that wait
 unfoldable pub afterLine : Session → List ℕ → Session
@@ -28,7 +28,7 @@ afterLine c line =
     record {
       shelf = replyToLine (c .shelf) (c .long) line .shelf;
       long = false;
-      waiting = kept (c .waiting) ++ replyToLine (c .shelf) (c .long) line .text;
+      waiting = stillWaiting (c .waiting) ++ replyToLine (c .shelf) (c .long) line .text;
     }
 
 -- lines, one after the other
