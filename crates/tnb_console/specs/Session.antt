@@ -76,6 +76,10 @@ afterText c text =
 abbrev pub held : Session → List ℕ → List ℕ
 held c text = cond (afterText c text .long) [] (unended text)
 
+-- THE END OF THE INPUT: the last line may lack its end
+abbrev pub afterEnd : Session → List ℕ → Session
+afterEnd c start = cond (c .long || ltb 0 (length start)) (afterLine c start) c
+
 -- AN INPUT IN PIECES, as it is read: what is held of a line stands in front of the next piece, and answers are written behind each
 abbrev pub emptied : Session → Session
 emptied c = record { shelf = c .shelf; long = c .long; waiting = [] }

@@ -7,7 +7,7 @@ ghost use Prim.Native.Nat.{_+_, _≤_, _<_};
 ghost use lib.ListN.{length, take, drop};
 ghost use Rattle.lines.specs.Words.{before};
 ghost use Rattle.places.specs.Shelf.{Good};
-ghost use Rattle.tnb_console.specs.Session.{afterLine};
+ghost use Rattle.tnb_console.specs.Session.{afterLine, afterEnd};
 ghost use Rattle.tnb_console.specs.Kept.{sessionOf, placeOf, Orderly, Responded, Turned};
 use libc::STDERR_FILENO;
 use libc::STDIN_FILENO;
@@ -161,14 +161,16 @@ fn hold(input: &mut [u8], start: usize, n: usize, long: bool) -> usize
     move_up(input, start, n)
 }
 
-// The last line may lack its end.
-fn finish(was: State, line: &[u8], output: &mut [u8])
+// At the end of the input the start of a line is a line.
+fn finish(was: State, start: &[u8], output: &mut [u8]) -> State
     requires { ⌜ Orderly was (now output) ⌝ }
+    ensures { λ r. ⌜ Orderly r (now (output .exit)) ⌝ }
+    ensures { λ r. ⌜ sessionOf r (now (output .exit)) ≡ afterEnd (sessionOf was (now (output .entry))) (now (start .entry)) ⌝ }
 {
-    if was.long | (0 < line.len()) {
-        let now = respond(was, line, 0, output);
-        flush(output, now.waiting);
+    if was.long | (0 < start.len()) {
+        return respond(was, start, 0, output);
     }
+    was
 }
 
 // Nothing says that the input ends, so turns are counted down from a number that no run uses up.
@@ -181,7 +183,8 @@ fn serve(input: &mut [u8], output: &mut [u8])
     while turns > 0 {
         let n = read_more(input, held);
         if n <= held {
-            finish(now, &input[0..held], output);
+            let last = finish(now, &input[0..held], output);
+            flush(output, last.waiting);
             return;
         }
         let done = respond_now(now, &input[0..n], output);

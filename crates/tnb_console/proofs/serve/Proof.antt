@@ -43,6 +43,9 @@ part-finish-end c = search needs
 finish-requires : tie.Need-finish-requires Inv-loop μ-loop
 finish-requires c κs = c .before .before .before .before .before .before .before .before .before .loop .inv .4
 
+flush-requires : tie.Need-flush-requires Inv-loop μ-loop
+flush-requires c κs = search needs
+
 same-length : tie.Need-same-length Inv-loop μ-loop
 same-length c = search needs
 
@@ -142,6 +145,7 @@ serve-spec =
     part-finish-start
     part-finish-end
     finish-requires
+    flush-requires
     same-length
     same-length-2
     returns
