@@ -1,5 +1,5 @@
--- The loop over the lines of a text (`Going`): what is left to be answered, on the shelf so far, leads to what the whole text leads to. A text answered and
--- written (`turned`), of which no more is held than a line may have (`held-short`).
+-- The loop over the lines of a text (`Going`): what is left to be answered, on the shelf so far, leads to what the whole text leads to. A text answered
+-- (`text-answered`), of which no more is held than a line may have (`held-short`).
 use Prim.Native.Nat.{ℕ, _+_, _-_, _≤_, _<_}
 use native.Mathlib.Omega.{arith}
 use mathlib.Core.Path.{_≡_, refl, sym, ap, ap₂, _∙_}
@@ -13,8 +13,8 @@ use Rattle.lines.specs.Words.{before}
 use Rattle.lines.proofs.Words.{take-before}
 use Rattle.places.specs.Shelf.{Good}
 use Rattle.tnb_console.specs.declared.State.{State}
-use Rattle.tnb_console.specs.Session.{Session, afterLine, afterLines, linesOf, unended, afterText}
-use Rattle.tnb_console.specs.Kept.{sessionOf, Orderly, Responded, Turned}
+use Rattle.tnb_console.specs.Session.{Session, afterLine, afterLines, linesOf, unended, afterText, held}
+use Rattle.tnb_console.specs.Kept.{sessionOf, Orderly, Responded, TextAnswered, PieceAnswered}
 use Rattle.tnb_console.proofs.Lines.{lines-next, unended-next, lines-none, unended-none}
 
 -- the line that starts at an index, and where it ends
@@ -67,36 +67,47 @@ module _ {was : State} {text out : List ℕ} {now : State} {after : List ℕ} {s
         within = rw (g .same) (g .within);
       }
 
--- all of it answered and written
-pub turned : {was : State} {text out : List ℕ} {now : State} {after : List ℕ} → Responded was text out now after → was .start ≡ 0 → (st : State)
-    → st .shelf ≡ now .shelf → st .long ≡ now .long || ltb 4096 (length text - now .start) → st .waiting ≡ 0 → st .start ≡ now .start → Turned was text out st
+-- all of a text answered
+pub text-answered : {was : State} {text out : List ℕ} {now : State} {after : List ℕ} → Responded was text out now after → was .start ≡ 0 → (st : State)
+    → st .shelf ≡ now .shelf → st .long ≡ now .long || ltb 4096 (length text - now .start) → st .waiting ≡ now .waiting → st .start ≡ now .start
+    → TextAnswered was text out st after
 unfolding afterText
-turned {was} {text} {out} {now} r z st s l w n =
-    let session = rw z at (r .session) in
+text-answered {was} {text} {out} {now} {after} r z st s l w n =
+    let session : sessionOf now after ≡ afterLines (sessionOf was out) (linesOf text) = rw z at (r .session) in
     let rest : drop (now .start) text ≡ unended text = rw z at (r .rest) in
     let long : length text - now .start ≡ length (unended text) = sym (length-drop (now .start) text) ∙ ap length rest in
     record {
-      shelf = s ∙ ap (λ (c : Session). c .shelf) session;
-      long = l ∙ ap₂ (λ (t : Bool) (k : ℕ). t || ltb 4096 k) (ap (λ (c : Session). c .long) session) long;
-      written = w;
+      session =
+          rw (s, w, l, long)
+          (ap (λ (c : Session). record { shelf = c .shelf; long = c .long || ltb 4096 (length (unended text)); waiting = c .waiting }) session);
       rest = rw n rest;
       within = rw n (r .within);
     }
 
+pub orderly-as : {now st : State} {out : List ℕ} → Orderly now out → st .shelf ≡ now .shelf → st .waiting ≡ now .waiting → Orderly st out
+orderly-as o s w = record { good = rw s (o .good); whole = o .whole; within = rw w (o .within) }
+
 -- where no answer waits
-pub kept-ready : {st : State} {out : List ℕ} → Good (st .shelf) → st .waiting ≡ 0 → length out ≡ 65536 → Orderly st out
-kept-ready g w l = record { good = g; whole = l; within = omega arith }
+pub kept-orderly : {st : State} {out : List ℕ} → Good (st .shelf) → st .waiting ≡ 0 → length out ≡ 65536 → Orderly st out
+kept-orderly g w l = record { good = g; whole = l; within = omega arith }
 
 -- what is held of a line is never longer than a line may be
-pub held-short : {was : State} {text out : List ℕ} {st : State} → Turned was text out st → (held : ℕ) (input : List ℕ)
-    → take held input ≡ cond (st .long) [] (drop (st .start) text) → held ≤ length input → held ≤ 4096
+pub held-short : (c : Session) (text input : List ℕ) (n : ℕ) → take n input ≡ held c text → n ≤ length input → n ≤ 4096
 unfolding afterText
-held-short {was} {text} {out} {st} t held input e h = by (st .long) refl (sym (length-take-le held input h) ∙ ap length e)
+held-short c text input n e h = by (afterText c text .long) refl (sym (length-take-le n input h) ∙ ap length e)
   where
     short : (b : Bool) → b || ltb 4096 (length (unended text)) ≡ false → length (unended text) ≤ 4096
     short true f = absurd (false≢true (sym f))
     short false f = ltb-false 4096 (length (unended text)) f
 
-    by : (b : Bool) → st .long ≡ b → held ≡ length (cond b [] (drop (st .start) text)) → held ≤ 4096
+    by : (b : Bool) → afterText c text .long ≡ b → n ≡ length (cond b [] (unended text)) → n ≤ 4096
     by true f g = omega arith
-    by false f g = omega (arith, ap length (t .rest), short (afterLines (sessionOf was out) (linesOf text) .long) (sym (t .long) ∙ f))
+    by false f g = omega (arith, short (afterLines c (linesOf text) .long) f)
+
+-- a piece of the input answered: the rest of the text moved to the front
+pub piece-answered : {was : State} {text out : List ℕ} {st : State} {after : List ℕ} → TextAnswered was text out st after → (n : ℕ) (input : List ℕ)
+    → take n input ≡ cond (st .long) [] (drop (st .start) text) → n ≤ length input → PieceAnswered was text out (record { state = st; held = n }) input after
+piece-answered {was} {text} {out} t n input e h =
+    let front : take n input ≡ held (sessionOf was out) text =
+    e ∙ ap₂ (λ (b : Bool) (l : List ℕ). cond b [] l) (ap (λ (c : Session). c .long) (t .session)) (t .rest) in
+    record { session = t .session; front = front; few = held-short (sessionOf was out) text input n front h }

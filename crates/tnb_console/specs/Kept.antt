@@ -1,14 +1,15 @@
--- What the program keeps of a session (`sessionOf`): the shelf, and the answers that wait at the front of its output, which has room for one more (`Orderly`).
--- What answering the lines of a text leaves (`Responded`), and a text and its rest (`Turned`).
+-- What the program keeps of a session (`sessionOf`): the shelf, and the answers that wait at the front of its output (`Orderly`). What is left when the lines of
+-- a text (`Responded`), a text (`TextAnswered`) and a piece of the input (`PieceAnswered`) were answered.
 use Prim.Native.Nat.{ℕ, _≤_}
 use mathlib.Core.Path.{_≡_}
 use mathlib.Core.Bool.{cond}
-use mathlib.Core.List.{List, []}
+use mathlib.Core.List.{List}
 use lib.Dec.{ltb}
 use lib.ListN.{length, take, drop}
 use Rattle.places.specs.Shelf.{Good}
 use Rattle.tnb_console.specs.declared.State.{State}
-use Rattle.tnb_console.specs.Session.{Session, enough, afterLine, afterLines, linesOf, unended, afterText}
+use Rattle.tnb_console.specs.declared.Piece.{Piece}
+use Rattle.tnb_console.specs.Session.{Session, enough, afterLines, linesOf, unended, afterText, held}
 
 abbrev pub sessionOf : State → List ℕ → Session
 sessionOf st out = record { shelf = st .shelf; long = st .long; waiting = take (st .waiting) out }
@@ -29,10 +30,14 @@ pub record Responded (was : State) (text out : List ℕ) (now : State) (after : 
   pub rest : drop (now .start) text ≡ unended (drop (was .start) text)
   pub within : now .start ≤ length text
 
--- a text is answered and the answers are written: the shelf and the rest are those after the text
-pub record Turned (was : State) (text out : List ℕ) (now : State) : Type 0 where
-  pub shelf : now .shelf ≡ afterText (sessionOf was out) text .shelf
-  pub long : now .long ≡ afterText (sessionOf was out) text .long
-  pub written : now .waiting ≡ 0
+-- a text is answered, and what goes on behind its lines stands from an index on
+pub record TextAnswered (was : State) (text out : List ℕ) (now : State) (after : List ℕ) : Type 0 where
+  pub session : sessionOf now after ≡ afterText (sessionOf was out) text
   pub rest : drop (now .start) text ≡ unended text
   pub within : now .start ≤ length text
+
+-- a piece of the input is answered, and what is held of a line stands in front of the input
+pub record PieceAnswered (was : State) (text out : List ℕ) (r : Piece) (input after : List ℕ) : Type 0 where
+  pub session : sessionOf (r .state) after ≡ afterText (sessionOf was out) text
+  pub front : take (r .held) input ≡ held (sessionOf was out) text
+  pub few : r .held ≤ 4096
