@@ -4,8 +4,9 @@
 freeze.py [--seed S] [--count N] [--check]: about N requests, the same for the same seed. It covers every call, each refusal of
 each call, every pair of refusals that a call can meet at once, each operation in all sizes, every number of stamps and every fault
 of them that can stand alone, every way that a sum, a product and a quotient can be rounded, the sentence of every number in lent
-bytes that just suffice and in one less, and banded places in every call and every place that breaks their pattern, or it fails. With
---check nothing is written: the files are held to what would be.
+bytes bytes that just suffice and in one less, and banded places in every call and every place that breaks their pattern, or it fails. A line
+that is too long lies across the end of a program's first read, and the last line lacks its end. With --check nothing is written: the
+files are held to what would be.
 """
 import argparse
 import os
@@ -18,7 +19,7 @@ import sweeps
 from banded_cases import unbanded
 from banded_sweeps import banded_tour, every_break, every_order_of_singular, every_precedence, some_patterns
 from comparison import Tally, batch
-from console_model import LARGEST, LEAST, MOST_LISTED, MOST_PLACE, MOST_STAMP, Console, call_words, doubtful, parse, text_of_bytes, text_of_items
+from console_model import LARGEST, LEAST, LONGEST_LINE, MOST_LISTED, MOST_PLACE, MOST_STAMP, Console, call_words, doubtful, parse, text_of_bytes, text_of_items
 from encoding import encode
 from garbage import ODD_LINES
 from list_lines import counted_carry
@@ -37,6 +38,7 @@ FOLDER = os.path.join(os.path.dirname(os.path.dirname(HERE)), "crates", "tnb_con
 OPERATIONS = ("product", "inverse", "converse", "transpose", "submatrix")
 COUNT = 7700
 TWO, THREE = (LOW, -30), (LOW + (1 << 30), -30)
+READ = 65536
 
 
 def load(place, n, factors):
@@ -249,20 +251,30 @@ def missing(asked, wanted, tally):
     yield from (f"{call} {first} with {second}" for call, first, second in wanted_pairs() if not pairs[call, first, second])
 
 
+def across_a_read(asked, wanted):
+    """The same with a line that is too long across byte READ, where its tail would be a request."""
+    begin = 0
+    for k, line in enumerate(asked):
+        if READ - begin < 2 * LONGEST_LINE:
+            return asked[:k] + ["y" * (READ - begin) + "show 0"] + asked[k:], wanted[:k] + ["bad request"] + wanted[k:]
+        begin += len(line) + 1
+    return asked, wanted
+
+
 def main():
     parser = argparse.ArgumentParser(description=__doc__.splitlines()[0])
     parser.add_argument("--seed", default="1")
     parser.add_argument("--count", type=int, default=COUNT)
     parser.add_argument("--check", action="store_true", help="hold the files to what would be written")
     chosen = parser.parse_args()
-    asked, wanted = batch(lambda shelf: lines(chosen.seed, shelf), chosen.count)
+    asked, wanted = across_a_read(*map(list, batch(lambda shelf: lines(chosen.seed, shelf), chosen.count)))
     tally = Tally()
     for line, answer in zip(asked, wanted):
         tally.count(line, answer)
     print("\n".join(tally.lines()))
     faults = [f"not covered: {case}" for case in missing(asked, wanted, tally)]
-    for name, content in (("stdin", asked), ("stdout", wanted)):
-        path, text = os.path.join(FOLDER, name), "".join(line + "\n" for line in content).encode("latin-1")
+    for name, content in (("stdin", "\n".join(asked)), ("stdout", "".join(line + "\n" for line in wanted))):
+        path, text = os.path.join(FOLDER, name), content.encode("latin-1")
         if not chosen.check:
             with open(path, "wb") as file:
                 file.write(text)

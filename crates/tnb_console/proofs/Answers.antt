@@ -1,9 +1,9 @@
 -- An answer is put whole behind those that wait, since there is room for the longest (`line-answered`).
 use Prim.Native.Nat.{ℕ, _+_, _≤_}
 use native.Mathlib.Omega.{arith}
-use mathlib.Core.Path.{_≡_, refl, sym, ap, _∙_}
+use mathlib.Core.Path.{_≡_, refl, ap, _∙_}
 use mathlib.Core.Bool.{Bool, true, false, cond}
-use mathlib.Core.List.{List, [], _++_}
+use mathlib.Core.List.{List, []}
 use lib.Dec.{ltb}
 use lib.ListN.{length, take}
 use lib.Seq.{length-take-le, length-sets}
@@ -37,7 +37,8 @@ module _ {was : State} {out : List ℕ} (ready : Orderly was out) where
     whole : placeOf (was .waiting) + length answer ≤ length out
     whole = omega (arith, roomy (ltb (was .waiting) enough) refl, answer-short (was .shelf) (ready .good) (was .long) line)
 
-    module _ {after : List ℕ} {r : Answered} (replied : Replied (replyToLine (was .shelf) (was .long) line) out (placeOf (was .waiting)) after r) (now : State) where
+    module _ {after : List ℕ} {r : Answered} (replied : Replied (replyToLine (was .shelf) (was .long) line) out (placeOf (was .waiting)) after r)
+        (now : State) where
       pub line-answered : now .shelf ≡ r .shelf → now .waiting ≡ r .at → now .long ≡ false → sessionOf now after ≡ afterLine (sessionOf was out) line
       unfolding afterLine
       line-answered s w l =

@@ -2,7 +2,7 @@
 -- none ends, nothing is answered and the text goes on (`lines-none`, `unended-none`).
 use Prim.Native.Nat.{ℕ, suc, _+_, _≤_, _<_}
 use native.Mathlib.Omega.{arith}
-use mathlib.Core.Path.{_≡_, refl, sym, ap, _∙_}
+use mathlib.Core.Path.{_≡_, sym, ap, _∙_}
 use mathlib.Core.List.{List, [], _∷_}
 use lib.ListN.{length, drop, length-drop}
 use lib.Seq.{take-all}
@@ -39,7 +39,8 @@ module _ (text : List ℕ) (start : ℕ) (h : start ≤ length text) where
 
   goes-on : length text ≤ end → parted 10 (drop start text) ≡ drop start text ∷ []
   goes-on l =
-      let e : line ≡ drop start text = sym (take-before 10 (drop start text)) ∙ take-all (length line) (drop start text) (omega (arith, length-drop start text)) in
+      let e : line ≡ drop start text =
+      sym (take-before 10 (drop start text)) ∙ take-all (length line) (drop start text) (omega (arith, length-drop start text)) in
       behind ∙ rw (lt-ltb (length text) (end + 1) (omega arith), e)
 
   pub lines-next : end < length text → (c : Session) → afterLines c (linesOf (drop start text)) ≡ afterLines (afterLine c line) (linesOf (drop (end + 1) text))

@@ -1,11 +1,11 @@
 -- Bytes moved to the front of a buffer, one at a time (`Moved`): the first k are moved, and those from `start` + k on are as they were.
-use Prim.Native.Nat.{ℕ, zero, suc, _+_, _-_, _≤_, _<_}
+use Prim.Native.Nat.{ℕ, zero, suc, _+_, _-_, _<_}
 use native.Mathlib.Numerals.{add-one}
 use native.Mathlib.Omega.{arith}
 use mathlib.Core.Path.{_≡_, refl, sym, ap, ap₂, _∙_}
 use mathlib.Core.List.{List, [], _∷_, _++_}
 use lib.ListN.{length, getD, take, drop, set, length-set, length-drop}
-use lib.Seq.{take-suc, take-suc-set, drop-set-lt, drop-drop, getD-drop, drop-nil, take-nil}
+use lib.Seq.{take-suc, take-suc-set, drop-set-lt, drop-drop, getD-drop, take-nil}
 
 pub record Moved (old : List ℕ) (start : ℕ) (new : List ℕ) (k : ℕ) : Type 0 where
   pub kept : length new ≡ length old

@@ -1,6 +1,6 @@
 -- HOWEVER THE INPUT ARRIVES: a text answered in two pieces, the second behind what was held of the first, is answered as the whole (`pieces`). The lines of the
 -- whole are those of the first piece, then those of the rest (`lines-parted`); a line whose start was thrown away is too long in the whole as well.
-use Prim.Native.Nat.{ℕ, _+_, _≤_, _<_}
+use Prim.Native.Nat.{ℕ, suc}
 use native.Mathlib.Omega.{arith}
 use mathlib.Core.Path.{_≡_, refl, sym, ap, ap₂, _∙_}
 use mathlib.Core.Bool.{Bool, true, false, cond, _||_}
@@ -8,7 +8,8 @@ use mathlib.Core.List.{List, [], _∷_, _++_, append-nil, append-assoc}
 use lib.Dec.{ltb, eqb}
 use lib.ListN.{length, length-append}
 use borrow.Author.Tests.{lt-ltb, ltb-true}
-use Rattle.lines.specs.Words.{inFront, parted}
+use Rattle.lines.specs.Words.{before, inFront, parted, partsAt}
+use Rattle.lines.proofs.Parts.{parts-first}
 use Rattle.replies.specs.Replies.{overlong, answerTo, replyToLine}
 use Rattle.tnb_console.specs.Session.{Session, enough, afterLine, afterLines, answersTo, writtenOf, allButLast, lastOf, linesOf, unended, afterText, held}
 
@@ -19,13 +20,7 @@ pub record Parts (stop : ℕ) (s : List ℕ) : Type 0 where
   pub same : parted stop s ≡ first ∷ others
 
 parts : (stop : ℕ) (s : List ℕ) → Parts stop s
-unfolding parted
-parts stop [] = record { first = []; others = []; same = refl }
-parts stop (b ∷ s) = by (eqb b stop) refl (parts stop s)
-  where
-    by : (t : Bool) → eqb b stop ≡ t → Parts stop s → Parts stop (b ∷ s)
-    by true e p = record { first = []; others = parted stop s; same = rw e }
-    by false e p = record { first = b ∷ p .first; others = p .others; same = rw (e, p .same) }
+parts stop s = record { first = before stop s; others = partsAt stop s (suc (length (before stop s))); same = parts-first stop s }
 
 -- ---- all parts but the last, and the last, of one list behind another
 but-behind : (L : List (List ℕ)) (w : List ℕ) (ws : List (List ℕ)) → allButLast (L ++ (w ∷ ws)) ≡ L ++ allButLast (w ∷ ws)
@@ -118,7 +113,9 @@ module _ (d : Session) (u : List ℕ) (over : overlong (d .long) u ≡ true) whe
     where
       by : (t : Bool) → d .long ≡ t → t || ltb 4096 (length (u ++ p)) ≡ true
       by true e = refl
-      by false e = lt-ltb 4096 (length (u ++ p)) (omega (arith, length-append u p, ltb-true 4096 (length u) (sym (ap (λ t. t || ltb 4096 (length u)) e) ∙ over)))
+      by false e =
+          let l = ltb-true 4096 (length u) (sym (ap (λ t. t || ltb 4096 (length u)) e) ∙ over) in
+          lt-ltb 4096 (length (u ++ p)) (omega (arith, length-append u p))
 
   line-cut : (p : List ℕ) → afterLine cut p ≡ afterLine d (u ++ p)
   unfolding afterLine answerTo

@@ -1,5 +1,5 @@
--- What the program keeps of a session (`sessionOf`): the shelf, and the answers that wait at the front of its output (`Orderly`). What is left when the lines of
--- a text (`Responded`), a text (`TextAnswered`) and a piece of the input (`PieceAnswered`) were answered.
+-- What the program keeps of a session (`sessionOf`): the shelf, and the answers that wait at the front of its output (`Orderly`). What is left when the lines
+-- of a text (`Responded`), a text (`TextAnswered`) and a piece of the input (`PieceAnswered`) were answered.
 use Prim.Native.Nat.{ℕ, _≤_}
 use mathlib.Core.Path.{_≡_}
 use mathlib.Core.Bool.{cond}

@@ -20,8 +20,7 @@ returns : tie.Need-returns
 returns c =
     let all = c .before .before .before .before .before in
     let start = all .before .before .before .before in
-    let kept = c .keep .ensures in
-    (
+    let kept = c .keep .ensures in (
       orderly-as (all .respond-all .ensures .0) (kept .0) (kept .2),
       text-answered (all .respond-all .ensures .1) (start .pre .1) (c .keep .result) (kept .0) (kept .3) (kept .2) (kept .1),
     )

@@ -13,7 +13,13 @@ use Rattle.tnb_console.proofs.serve.Tie as tie
 
 abbrev Inv-loop : tie.InvT-loop
 Inv-loop input₀ output₀ now₀ held₀ turns₀ input output now held turns =
-    (length input ≡ length input₀) × (length output ≡ length output₀) × (length input₀ ≡ 65536) × (length output₀ ≡ 65536) × Orderly now output × (now .start ≡ 0) × (held ≤ 4096)
+    (length input ≡ length input₀)
+    × (length output ≡ length output₀)
+    × (length input₀ ≡ 65536)
+    × (length output₀ ≡ 65536)
+    × Orderly now output
+    × (now .start ≡ 0)
+    × (held ≤ 4096)
 
 abbrev μ-loop : tie.MeasureT-loop
 μ-loop input₀ output₀ now₀ held₀ turns₀ input output now held turns = turns
@@ -100,8 +106,7 @@ loop-again c =
     let input = c .before .before .before .before .before .before .before .slice-known5 in
     let input′ = c .before .before .before .before .before .before .before .before .input3 in
     let input″ = read .slice-known3 in
-    let input‴ = read .before .input in
-    (
+    let input‴ = read .before .input in (
       search needs,
       ready .whole ∙ sym (inv .3),
       inv .2,
