@@ -58,7 +58,7 @@ items-short (s ∷ m ∷ []) = omega arith
 items-short (s ∷ m ∷ e ∷ z) = simp length-append (omega (arith, item-short s m e, more-short z))
 
 -- ---- a place
-turns-short : (f : ℕ → List ℕ) (b : ℕ) → ((i : ℕ) → length (f i) ≤ b) → (a c : ℕ) → length (ascending a c f) ≤ b * c
+pub turns-short : (f : ℕ → List ℕ) (b : ℕ) → ((i : ℕ) → length (f i) ≤ b) → (a c : ℕ) → length (ascending a c f) ≤ b * c
 unfolding ascending
 turns-short f b h a zero = omega arith
 turns-short f b h a (suc c) = simp length-append (omega (arith, h a, turns-short f b h (suc a) c))

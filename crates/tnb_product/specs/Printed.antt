@@ -50,5 +50,9 @@ rightLoaded left right = run (leftLoaded left .shelf) (load 1 right)
 abbrev pub multiplied : List ℕ → List ℕ → Outcome
 multiplied left right = run (rightLoaded left right .shelf) (product 0 1 2)
 
+-- no text has more bytes (`program-short`)
+abbrev pub longestText : ℕ
+longestText = 9000
+
 unfoldable pub programText : List ℕ → List ℕ → List ℕ
 programText left right = unlessRefused (leftLoaded left .report) (unlessRefused (rightLoaded left right .report) (printed (multiplied left right)))

@@ -1,14 +1,14 @@
 // Loads left.tnb and right.tnb to places 0 and 1, multiplies them into place 2, and prints n, then row, column, mantissa and exponent of
 // each factor; at the first refusal only that.
 ghost use mathlib.Core.Path.{_≡_};
-ghost use Prim.Native.Nat.{ℕ};
-ghost use lib.ListN.{take};
+ghost use Prim.Native.Nat.{ℕ, _≤_};
+ghost use lib.ListN.{length, take};
 ghost use Rattle.lines.specs.Text.{Puts};
 ghost use Rattle.verdict.specs.Report.{verdictReport};
 ghost use Rattle.places.specs.Shelf.{Good};
 ghost use Rattle.operations.specs.Reports.{operatedOutcome};
 ghost use Rattle.shelf.specs.Reports.{factorReport};
-ghost use Rattle.tnb_product.specs.Printed.{factorLine, rowLines, factorLines, resultText, refusalLine, printed, unlessRefused, programText};
+ghost use Rattle.tnb_product.specs.Printed.{factorLine, rowLines, factorLines, resultText, refusalLine, printed, unlessRefused, longestText, programText};
 use libc::STDERR_FILENO;
 use libc::STDOUT_FILENO;
 use shelf::Bounded;
@@ -165,7 +165,8 @@ fn put_text(out: &mut [u8], left: Verdict, right: Verdict, product: Operated) ->
 
 // What is printed, by the bytes of the two files. A refused load leaves its place empty, and the product of that is not printed.
 fn text(left: &[u8], right: &[u8], out: &mut [u8]) -> usize
-    ensures { λ r. ⌜ Puts (now (out .entry)) 0 (programText (now (left .entry)) (now (right .entry))) (now (out .exit)) r ⌝ }
+    requires { ⌜ longestText ≤ length (now out) ⌝ }
+    ensures { λ r. ⌜ take r (now (out .exit)) ≡ programText (now (left .entry)) (now (right .entry)) ⌝ }
 {
     let first = shelf::load(shelf::new(), 0, left);
     let one = first.shelf;
@@ -179,8 +180,8 @@ fn text(left: &[u8], right: &[u8], out: &mut [u8]) -> usize
 
 // Reads the two files, and puts what is printed. A load judges less than 4,096 bytes, so a longer file may be cut there.
 fn put_files(left: &mut [u8], right: &mut [u8], out: &mut [u8]) -> usize
-    ensures { λ r. ⌜ ((a : ℕ) × (b : ℕ) × Puts (now (out .entry)) 0 (programText (take a (now (left .exit))) (take b (now (right .exit))))
-        (now (out .exit)) r) ⌝ }
+    requires { ⌜ longestText ≤ length (now out) ⌝ }
+    ensures { λ r. ⌜ ((a : ℕ) × (b : ℕ) × (take r (now (out .exit)) ≡ programText (take a (now (left .exit))) (take b (now (right .exit))))) ⌝ }
 {
     let a = read_file(b"left.tnb", left);
     let b = read_file(b"right.tnb", right);
@@ -190,7 +191,7 @@ fn put_files(left: &mut [u8], right: &mut [u8], out: &mut [u8]) -> usize
 fn main() {
     let mut left = io::buffer();
     let mut right = io::buffer();
-    let mut out = io::buffer();
+    let mut out = io::large_buffer();
     let n = put_files(&mut left, &mut right, &mut out);
     if !io::write_all(STDOUT_FILENO, first(&out, n)) {
         io::write_all(STDERR_FILENO, b"tnb_product: cannot write its output\n");

@@ -30,7 +30,8 @@ returns c =
     let right = product .before .before in
     let left = right .before .before in
     program _ _ _ (changedOutcome (left .load .result)) (changedOutcome (right .load2 .result)) (operatedOutcome (product .product .result))
-    (left .before .new .ensures .0) (left .load .ensures .0) (right .load2 .ensures .0) (product .product .ensures .0) (c .before .before .put-text .ensures)
+    (left .before .new .ensures .0) (left .load .ensures .0) (right .load2 .ensures .0) (product .product .ensures .0)
+    (product .product .ensures .1 .0) (search needs) (c .before .before .put-text .ensures)
 
 pub text-spec : {M : Type 1} → statement M
 text-spec =
