@@ -1,4 +1,5 @@
--- EVERY READING STAYS AS IT WAS before zeros were, but that of a zero off the diagonal (`read-before`); so does each that was accepted (`accepted-before`).
+-- EVERY READING STAYS AS IT WAS before zeros were, but that of a zero off the diagonal (`read-before`); so does each that was accepted (`accepted-before`),
+-- of which every factor is a stored number (`old-stored`).
 -- Up to the first code of zero both readings take the same factors, none of them zero, so that no code is behind a zero in its line (`same-judged`). That code
 -- is 6 in document 01, and still so on the diagonal (`diagonal-judged`).
 use Prim.Native.Nat.{ℕ, zero, suc, _+_, _-_, _*_, _/_, _%_, _^_, _<_, _≤_}
@@ -9,11 +10,12 @@ use mathlib.Core.Path.{_≡_, refl, sym, ap, _∙_}
 use mathlib.Core.Bool.{Bool, true, false, cond}
 use mathlib.Core.List.{List, [], _∷_, _++_}
 use lib.ListN.{length, getD, length-append}
-use lib.Dec.{ltb}
-use borrow.Author.Tests.{ltb-false, eq-eqb, ne-eqb}
+use lib.Dec.{ltb, eqb}
+use borrow.Author.Tests.{ltb-false, eqb-false, eq-eqb, ne-eqb}
 use Rattle.number.specs.declared.Number.{Number}
-use Rattle.number.specs.Number.{zeroNumber}
+use Rattle.number.specs.Number.{zeroNumber, Stored}
 use Rattle.table.specs.Table.{squareOf}
+use Rattle.table.proofs.RowByRow.{square-below}
 use Rattle.reader.specs.declared.ByteItem.{ByteItem}
 use Rattle.reader.specs.declared.ByteItem.the-variants as item
 use Rattle.reader.specs.declared.CodeVerdict.{CodeVerdict}
@@ -23,18 +25,25 @@ use Rattle.reader.specs.declared.ByteFactor.the-variants as factor
 use Rattle.reader.specs.Matrix.{itemAt, beforeInLine, judgedCode, decoded, mantissaBy, mantissaAt, judgedBy, factorByItem, factorAt}
 use Rattle.reader.specs.Matrix.{Reading, matrix, fault, onFactor, factorsFrom, matrixBy, matrixOf}
 use Rattle.reader.specs.Faults.{nextRow, nextColumn, FactorsTo, none, more}
-use Rattle.reader.specs.Before.{oldJudged, oldFactorBy, oldFactorsFrom, oldReadingBy, oldReading, ReadAsBefore, same, was-six}
+use Rattle.reader.specs.Before.{oldJudged, oldFactorBy, oldFactorsFrom, oldReadingBy, oldReading, ReadAsBefore, same, was-six, OldRead}
 use Rattle.reader.proofs.Continued.{row-above, column-left, before-below, before-above}
 
--- no number of a list is zero
-abbrev Nonzero : List Number → Type 0
-Nonzero L = (k : ℕ) → k < length L → getD L k zeroNumber .m ≡ 0 → ⊥
+-- every number of a list in P
+abbrev Every : (Number → Type 0) → List Number → Type 0
+Every P L = (k : ℕ) → k < length L → P (getD L k zeroNumber)
 
-nonzero-more : (L : List Number) (a : Number) → Nonzero L → (a .m ≡ 0 → ⊥) → Nonzero (L ++ (a ∷ []))
-nonzero-more [] a h g zero l = g
-nonzero-more [] a h g (suc k) l = absurd (omega arith)
-nonzero-more (x ∷ L) a h g zero l = h 0 (omega arith)
-nonzero-more (x ∷ L) a h g (suc k) l = nonzero-more L a (λ k l. h (suc k) (omega arith)) g k (omega arith)
+every-more : (P : Number → Type 0) (L : List Number) (a : Number) → Every P L → P a → Every P (L ++ (a ∷ []))
+every-more P [] a h g zero l = g
+every-more P [] a h g (suc k) l = absurd (omega arith)
+every-more P (x ∷ L) a h g zero l = h 0 (omega arith)
+every-more P (x ∷ L) a h g (suc k) l = every-more P L a (λ k l. h (suc k) (omega arith)) g k (omega arith)
+
+-- no number of a list is zero
+abbrev NotZero : Number → Type 0
+NotZero a = a .m ≡ 0 → ⊥
+
+abbrev Nonzero : List Number → Type 0
+Nonzero = Every NotZero
 
 -- a factor whose code is not 0 is not zero
 factor-nonzero : (s : List ℕ) (p code : ℕ) → (code ≡ 0 → ⊥) → (a : Number) (q : ℕ) → mantissaAt s p code ≡ factor.At a q → a .m ≡ 0 → ⊥
@@ -128,7 +137,7 @@ module _ (s : List ℕ) where
     from-front zero front p t h l = same refl
     from-front (suc c) front p t h l =
         by-item c front p t h l
-        (λ a q u g. from-front c (front ++ (a ∷ [])) q u (nonzero-more front a h g) (omega (arith, length-append front (a ∷ [])))) (itemAt s p) refl
+        (λ a q u g. from-front c (front ++ (a ∷ [])) q u (every-more NotZero front a h g) (omega (arith, length-append front (a ∷ [])))) (itemAt s p) refl
 
   by-rows : (n begin : ℕ) → itemAt s 0 ≡ item.Value n begin → (t u : Bool) → ltb n 1 ≡ t → ltb 8 n ≡ u
       → ReadAsBefore s (cond t (fault 4 0) (cond u (fault 4 0) (factorsFrom s n [] (n * n) begin)))
@@ -153,3 +162,80 @@ module _ (s : List ℕ) where
       by : ReadAsBefore s (matrixOf s) (oldReading s) → matrixOf s ≡ matrix n L q
       by (same f) = f ∙ e
       by (was-six o f z) = absurd (suc-ne-zero 0 (cc))
+
+-- WHAT DOCUMENT 01 TOOK: stored numbers alone
+module _ (s : List ℕ) where
+  module _ (code p q : ℕ) (a : Number) (some : code ≡ 0 → ⊥) (few : code ≤ 2001) where
+    by-part : (m r : ℕ) (t : Bool) → ltb (2 ^ 31 - 1) m ≡ t → cond t (factor.Fault 5 p) (factor.At (decoded code m) r) ≡ factor.At a q → Stored a
+    by-part m r true e f = absurd (suc-ne-zero 0 (cc))
+    by-part m r false e f =
+        let g : decoded code m ≡ a = cc in
+        rw (← g) (record { low = omega arith; high = omega (arith, ltb-false (2 ^ 31 - 1) m e); start = omega arith; stop = omega arith })
+
+    by-mantissa : (w : ByteItem) → mantissaBy p code w ≡ factor.At a q → Stored a
+    by-mantissa (item.Value m r) f = by-part m r (ltb (2 ^ 31 - 1) m) refl f
+    by-mantissa (item.Fault k o) f = absurd (suc-ne-zero 0 (cc))
+
+    mantissa-stored : mantissaAt s p code ≡ factor.At a q → Stored a
+    unfolding mantissaAt
+    mantissa-stored f = by-mantissa (itemAt s p) (rw (ne-eqb code 0 some) at f)
+
+  module _ (p q : ℕ) (a : Number) where
+    by-verdict : (code r : ℕ) (t u : Bool) → ltb 2001 code ≡ t → eqb code 0 ≡ u
+        → judgedBy p (mantissaAt s r code) (cond t (Refused 5) (cond u (Refused 6) Accepted)) ≡ factor.At a q → Stored a
+    by-verdict code r true u e d f = absurd (suc-ne-zero 0 (cc))
+    by-verdict code r false true e d f = absurd (suc-ne-zero 0 (cc))
+    by-verdict code r false false e d f = mantissa-stored code r q a (eqb-false code 0 d) (ltb-false 2001 code e) f
+
+    factor-stored : (w : ByteItem) → oldFactorBy s p w ≡ factor.At a q → Stored a
+    factor-stored (item.Value code r) f = by-verdict code r (ltb 2001 code) (eqb code 0) refl refl f
+    factor-stored (item.Fault k o) f = absurd (suc-ne-zero 0 (cc))
+
+  -- factors that were read, behind others, to a count: stored ones, of as many rows as were said
+  record OldRows (n count : ℕ) (L : List Number) (m : ℕ) : Type 0 where
+    rows : m ≡ n
+    square : length L ≡ count
+    stored : Every Stored L
+
+  module _ (n m : ℕ) (L : List Number) (q : ℕ) where
+    stored-first : (c : ℕ) (front : List Number) (p : ℕ)
+        → ((a : Number) (r : ℕ) → Stored a → oldFactorsFrom s n (front ++ (a ∷ [])) c r ≡ matrix m L q → OldRows n (length front + suc c) L m)
+        → (w : ByteFactor) → oldFactorBy s p (itemAt s p) ≡ w → onFactor (λ a r. oldFactorsFrom s n (front ++ (a ∷ [])) c r) w ≡ matrix m L q
+        → OldRows n (length front + suc c) L m
+    stored-first c front p behind (factor.At a r) e f = behind a r (factor-stored p r a (itemAt s p) e) f
+    stored-first c front p behind (factor.Fault k o) e f = absurd (suc-ne-zero 0 (cc))
+
+    stored-from : (c : ℕ) (front : List Number) (p : ℕ) → Every Stored front → oldFactorsFrom s n front c p ≡ matrix m L q → OldRows n (length front + c) L m
+    unfolding oldFactorsFrom
+    stored-from zero front p h f =
+        let em : m ≡ n = cc in
+        let el : L ≡ front = cc in
+        record { rows = em; square = rw el (omega arith); stored = rw el h }
+    stored-from (suc c) front p h f =
+        stored-first c front p
+        (λ a r g e.
+        let i = stored-from c (front ++ (a ∷ [])) r (every-more Stored front a h g) e in
+        record { rows = i .rows; square = i .square ∙ omega (arith, length-append front (a ∷ [])); stored = i .stored })
+        (oldFactorBy s p (itemAt s p)) refl f
+
+  module _ (n : ℕ) (L : List Number) (q : ℕ) where
+    stored-rows : (v r : ℕ) (t u : Bool) → ltb 8 v ≡ u
+        → cond t (fault 4 0) (cond u (fault 4 0) (oldFactorsFrom s v [] (v * v) r)) ≡ matrix n L q → OldRead n L
+    unfolding squareOf
+    stored-rows v r true u e f = absurd (suc-ne-zero 0 (cc))
+    stored-rows v r false true e f = absurd (suc-ne-zero 0 (cc))
+    stored-rows v r false false e f =
+        let g = stored-from v n L q (v * v) [] r (λ k l. absurd (omega arith)) f in
+        rw (g .rows)
+        (record {
+          few = ltb-false 8 v e;
+          stored = λ i j x y. g .stored ((i - 1) * v + (j - 1)) (omega (arith, g .square, square-below v (i - 1) (j - 1) (omega arith) (omega arith)));
+        })
+
+    stored-item : (w : ByteItem) → oldReadingBy s w ≡ matrix n L q → OldRead n L
+    stored-item (item.Value v r) f = stored-rows v r (ltb v 1) (ltb 8 v) refl f
+    stored-item (item.Fault k o) f = absurd (suc-ne-zero 0 (cc))
+
+    pub old-stored : oldReading s ≡ matrix n L q → OldRead n L
+    unfolding oldReading
+    old-stored = stored-item (itemAt s 0)

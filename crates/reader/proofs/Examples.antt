@@ -1,5 +1,5 @@
--- Worked examples, as rows of two tables under one theorem (`examples`): bytes and what is read of them, factors and their bytes, bundles and what is behind
--- (`taken`); and faults, by their number (`faults`).
+-- Worked examples, as rows of three tables under one theorem (`examples`): bytes and what is read of them, factors and their bytes, bundles and what is behind
+-- (`taken`); faults, by their number (`faults`); and what document 01 read (`old`).
 use Prim.Native.Nat.{ℕ, zero, suc}
 use mathlib.Core.Path.{_≡_, refl}
 use mathlib.Core.List.{List, [], _∷_}
@@ -9,16 +9,19 @@ use Rattle.number.specs.Number.{zeroNumber, oneNumber}
 use Rattle.table.specs.Table.{squareOf}
 use Rattle.writer.specs.Encoding.{factorBytes, factorsBytes, encoding}
 use Rattle.reader.specs.Matrix.{itemAt, mantissaAt, judgedCode, factorAt, Reading, matrix, fault, factorsFrom, matrixOf, behindOf}
+use Rattle.reader.specs.Before.{oldFactorsFrom, oldReading}
 
 data Row : Type 0 where
   reads : List ℕ → Reading → Row
   writes : ℕ → List Number → List ℕ → Row
   leaves : List ℕ → List ℕ → Row
+  was : List ℕ → Reading → Row
 
 abbrev Holds : Row → Type 0
 Holds (reads s w) = matrixOf s ≡ w
 Holds (writes n L s) = encoding n L ≡ s
 Holds (leaves s t) = behindOf s ≡ t
+Holds (was s w) = oldReading s ≡ w
 
 -- one, c times, in front of other bytes
 ones : ℕ → List ℕ → List ℕ
@@ -69,13 +72,28 @@ faults =
     ∷ reads (3 ∷ ones 1 (0 ∷ 0xD2 ∷ 0xF ∷ [])) (fault 5 5)
     ∷ []
 
+old : List Row
+old =
+    -- ones, as they are read now
+    was (2 ∷ ones 4 []) (matrix 2 (oneNumber ∷ oneNumber ∷ oneNumber ∷ oneNumber ∷ []) 13)
+    -- a zero off the diagonal was 6, and is read now; on it it is 6 still
+    ∷ was (2 ∷ ones 1 (0 ∷ ones 2 [])) (fault 6 4)
+    ∷ reads (2 ∷ ones 1 (0 ∷ ones 2 [])) (matrix 2 (oneNumber ∷ zeroNumber ∷ oneNumber ∷ oneNumber ∷ []) 11)
+    ∷ was (2 ∷ 0 ∷ []) (fault 6 1)
+    -- such a zero comes before the code that is 16 now; a code that is 5 comes before such a zero
+    ∷ was (3 ∷ ones 1 (0 ∷ ones 7 [])) (fault 6 4)
+    ∷ was (2 ∷ 0xD2 ∷ 0xF ∷ 0 ∷ []) (fault 5 1)
+    ∷ []
+
 All : List Row → Type 0
 All [] = Unit {0}
 All (r ∷ rs) = Holds r × All rs
 
-examples : All taken × All faults
-unfolding All taken faults ones banded matrixOf factorsFrom factorAt mantissaAt judgedCode squareOf itemAt groupIn encoding factorsBytes factorBytes bytesIn
+examples : All taken × All faults × All old
+unfolding All taken faults old ones banded matrixOf factorsFrom oldReading oldFactorsFrom factorAt mantissaAt judgedCode squareOf itemAt groupIn encoding
+    factorsBytes factorBytes bytesIn
 examples = (
   (refl, (refl, (refl, (refl, (refl, (refl, (refl, tt))))))),
   (refl, (refl, (refl, (refl, (refl, (refl, (refl, (refl, (refl, (refl, (refl, (refl, (refl, (refl, (refl, (refl, (refl, tt))))))))))))))))),
+  (refl, (refl, (refl, (refl, (refl, (refl, tt)))))),
 )

@@ -1,11 +1,14 @@
 -- DOCUMENT 01's READING, before zeros were (`oldReading`): 6 for a zero wherever it stands, and no 16. Every reading stays as it was, refused ones included,
--- but for those that met a zero off the diagonal (`ReadAsBefore`, `read-before`).
-use Prim.Native.Nat.{ℕ, zero, suc, _*_}
+-- but for those that met a zero off the diagonal (`ReadAsBefore`, `read-before`). What was accepted has no zero (`OldRead`, `old-stored`).
+use Prim.Native.Nat.{ℕ, zero, suc, _*_, _≤_}
 use mathlib.Core.Path.{_≡_}
 use mathlib.Core.Bool.{cond}
 use mathlib.Core.List.{List, [], _∷_, _++_}
 use lib.Dec.{ltb, eqb}
 use Rattle.number.specs.declared.Number.{Number}
+use Rattle.number.specs.Number.{Stored}
+use Rattle.words.specs.Sources.{Each}
+use Rattle.table.specs.Table.{squareOf}
 use Rattle.reader.specs.declared.ByteItem.{ByteItem}
 use Rattle.reader.specs.declared.ByteItem.the-variants as item
 use Rattle.reader.specs.declared.CodeVerdict.{CodeVerdict}
@@ -48,3 +51,8 @@ pub record ZeroOffDiagonal (s : List ℕ) (o : ℕ) : Type 0 where
 pub data ReadAsBefore (s : List ℕ) (new old : Reading) : Type 0 where
   same : new ≡ old → ReadAsBefore s new old
   was-six : (o : ℕ) → old ≡ fault 6 o → ZeroOffDiagonal s o → ReadAsBefore s new old
+
+-- what document 01's reading took: up to eight rows, and no factor is zero
+pub record OldRead (n : ℕ) (L : List Number) : Type 0 where
+  pub few : n ≤ 8
+  pub stored : Each Stored n (squareOf n L)
