@@ -20,7 +20,8 @@ use Rattle.places.specs.Tests.{oneSource, twoSources}
 use Rattle.operations.specs.Operations.{resulting, productAt, inverseAt, converseAt, submatrixAt, chosenTests}
 use Rattle.operations.specs.Operations.{productCall, inverseCall, converseCall, submatrixCall}
 
--- no factor of place p is zero: each is a stored number. A place that is empty or above 7 has none
+-- no factor of place p is zero: each is a stored number. A place that is empty or above 7 has none; one that document 01's load filled is such a place (crate
+-- shelf, `old-load-without-zeros`)
 abbrev pub WithoutZeros : Shelf → ℕ → Type 0
 WithoutZeros s p = Each Stored (rowsAt s p) (factorsAt s p)
 
