@@ -6,9 +6,10 @@ use mathlib.Core.Path.{_≡_, refl, sym, ap}
 use mathlib.Core.Bool.{Bool, true, false, cond, and-eq-true-iff}
 use mathlib.Core.List.{List, [], _∷_}
 use lib.Dec.{eqb}
-use lib.ListN.{length, getD, take, drop, drop-of-length-le, length-drop}
-use lib.Seq.{drop-cons, take-all}
+use lib.ListN.{length, getD, take, drop, drop-of-length-le}
+use lib.Seq.{drop-cons}
 use borrow.Author.Tests.{eq-eqb, ne-eqb, eqb-true}
+use Rattle.arrays.proofs.Runs.{part-is}
 use Rattle.lines.specs.Words.{before, wordAt, same}
 
 before-at : (stop i : ℕ) (s : List ℕ) → i < length s →
@@ -20,7 +21,7 @@ before-none : (stop : ℕ) → before stop [] ≡ []
 unfolding before
 before-none stop = refl
 
-pub word-past : (s : List ℕ) (at : ℕ) → length s < at → [] ≡ wordAt s at
+pub word-past : (s : List ℕ) (at : ℕ) → length s < at → wordAt s at ≡ []
 word-past s at h =
     let l : length s ≤ at = omega arith in
     rw (drop-of-length-le s l, before-none)
@@ -34,15 +35,11 @@ unfolding before
 take-before stop [] = refl
 take-before stop (b ∷ s) = take-step b (before stop s) s (eqb b stop) (take-before stop s)
 
--- the part from an index on, as it is lent
-pub part-from : (s : List ℕ) (at : ℕ) → take (length s - at) (drop at s) ≡ drop at s
-part-from s at = take-all (length s - at) (drop at s) (omega (arith, length-drop at s))
-
 pub word-is : (s : List ℕ) (at n : ℕ) → n ≡ length (before 32 (take (length s - at) (drop at s)))
     → take (n - 0) (take (length s - at) (drop at s)) ≡ wordAt s at
 word-is s at n e =
-    let z : n - 0 ≡ length (before 32 (drop at s)) = omega (arith, rw (part-from s at) at e) in
-    rw (part-from s at, z) (take-before 32 (drop at s))
+    let z : n - 0 ≡ length (before 32 (drop at s)) = omega (arith, rw (part-is s at) at e) in
+    rw (part-is s at, z) (take-before 32 (drop at s))
 
 pub record Searched (s : List ℕ) (stop i : ℕ) : Type 0 where
   pub within : i ≤ length s

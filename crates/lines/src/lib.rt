@@ -6,6 +6,7 @@ pub use reading::ReadBytes;
 pub use reading::ReadSigned;
 pub use reading::ReadWhole;
 pub use reading::before;
+pub use reading::first;
 pub use reading::next_word;
 pub use reading::read_bytes;
 pub use reading::read_signed;

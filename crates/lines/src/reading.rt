@@ -1,7 +1,7 @@
 // Words of a line, and what a word stands for.
 ghost use mathlib.Core.Path.{_≡_};
 ghost use Prim.Native.Nat.{_/_, _<_, _≤_};
-ghost use lib.ListN.{length};
+ghost use lib.ListN.{length, take};
 ghost use lib.Seq.{sets};
 ghost use Rattle.lines.specs.Words.{before, wordAt, nextWord};
 ghost use Rattle.lines.specs.Decimal.{isNumeral, spelledWhole, plus, minus, spelledSigned, WholeUpTo, SignedFits};
@@ -60,6 +60,16 @@ pub fn next_word(s: &[u8], at: usize) -> usize
         return at;
     }
     at + before(&s[at..], b' ') + 1
+}
+
+// The first bytes of a text; all, where it has no more.
+pub fn first(s: &[u8], count: usize) -> &[u8]
+    ensures { λ r. ⌜ now r ≡ take count (now (s .entry)) ⌝ }
+{
+    if s.len() < count {
+        return s;
+    }
+    &s[0..count]
 }
 
 fn is_numeral(b: u8) -> bool

@@ -22,10 +22,11 @@ use Rattle.reader.specs.declared.CodeVerdict.{CodeVerdict}
 use Rattle.reader.specs.declared.CodeVerdict.the-variants.{Accepted, Refused}
 use Rattle.reader.specs.declared.ByteFactor.{ByteFactor}
 use Rattle.reader.specs.declared.ByteFactor.the-variants as factor
-use Rattle.reader.specs.Matrix.{itemAt, beforeInLine, judgedCode, decoded, mantissaBy, mantissaAt, judgedBy, factorByItem, factorAt}
+use Rattle.reader.specs.Matrix.{itemAt, beforeInLine, judgedCode, mantissaAt, judgedBy, factorByItem, factorAt}
 use Rattle.reader.specs.Matrix.{Reading, matrix, fault, onFactor, factorsFrom, matrixBy, matrixOf}
 use Rattle.reader.specs.Faults.{nextRow, nextColumn, FactorsTo, none, more}
 use Rattle.reader.specs.Before.{oldJudged, oldFactorBy, oldFactorsFrom, oldReadingBy, oldReading, ReadAsBefore, same, was-six, OldRead}
+use Rattle.reader.proofs.OneFactor.{mantissa-taken}
 use Rattle.reader.proofs.Continued.{row-above, column-left, before-below, before-above}
 
 -- every number of a list in P
@@ -47,18 +48,9 @@ Nonzero = Every NotZero
 
 -- a factor whose code is not 0 is not zero
 factor-nonzero : (s : List ℕ) (p code : ℕ) → (code ≡ 0 → ⊥) → (a : Number) (q : ℕ) → mantissaAt s p code ≡ factor.At a q → a .m ≡ 0 → ⊥
-unfolding mantissaAt
-factor-nonzero s p code h a q e = by (itemAt s p) (rw (ne-eqb code 0 h) at e)
-  where
-    part : (t : Bool) (m r : ℕ) → cond t (factor.Fault 5 p) (factor.At (decoded code m) r) ≡ factor.At a q → a .m ≡ 0 → ⊥
-    part true m r f z = suc-ne-zero 0 (cc)
-    part false m r f z =
-        let g : m + 2 ^ 31 ≡ a .m = cc in
-        omega arith
-
-    by : (w : ByteItem) → mantissaBy p code w ≡ factor.At a q → a .m ≡ 0 → ⊥
-    by (item.Value m r) f z = part (ltb (2 ^ 31 - 1) m) m r f z
-    by (item.Fault k o) f z = suc-ne-zero 0 (cc)
+factor-nonzero s p code h a q e z =
+    let m = mantissa-taken s p code a q h e in
+    omega (arith, ap (λ (x : Number). x .m) (m .made))
 
 module _ (n : ℕ) (some : 0 < n) (front : List Number) where
   -- behind factors none of which is zero the one just before in its line is not
@@ -165,20 +157,10 @@ module _ (s : List ℕ) where
 
 -- WHAT DOCUMENT 01 TOOK: stored numbers alone
 module _ (s : List ℕ) where
-  module _ (code p q : ℕ) (a : Number) (some : code ≡ 0 → ⊥) (few : code ≤ 2001) where
-    by-part : (m r : ℕ) (t : Bool) → ltb (2 ^ 31 - 1) m ≡ t → cond t (factor.Fault 5 p) (factor.At (decoded code m) r) ≡ factor.At a q → Stored a
-    by-part m r true e f = absurd (suc-ne-zero 0 (cc))
-    by-part m r false e f =
-        let g : decoded code m ≡ a = cc in
-        rw (← g) (record { low = omega arith; high = omega (arith, ltb-false (2 ^ 31 - 1) m e); start = omega arith; stop = omega arith })
-
-    by-mantissa : (w : ByteItem) → mantissaBy p code w ≡ factor.At a q → Stored a
-    by-mantissa (item.Value m r) f = by-part m r (ltb (2 ^ 31 - 1) m) refl f
-    by-mantissa (item.Fault k o) f = absurd (suc-ne-zero 0 (cc))
-
-    mantissa-stored : mantissaAt s p code ≡ factor.At a q → Stored a
-    unfolding mantissaAt
-    mantissa-stored f = by-mantissa (itemAt s p) (rw (ne-eqb code 0 some) at f)
+  mantissa-stored : (code p q : ℕ) (a : Number) → (code ≡ 0 → ⊥) → code ≤ 2001 → mantissaAt s p code ≡ factor.At a q → Stored a
+  mantissa-stored code p q a some few f =
+      let m = mantissa-taken s p code a q some f in
+      rw (← m .made) (record { low = omega arith; high = omega (arith, m .small); start = omega arith; stop = omega arith })
 
   module _ (p q : ℕ) (a : Number) where
     by-verdict : (code r : ℕ) (t u : Bool) → ltb 2001 code ≡ t → eqb code 0 ≡ u

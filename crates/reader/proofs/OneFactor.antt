@@ -101,6 +101,29 @@ stands-append s p q r u v a b =
 bytes-behind : (s : List ℕ) (p : ℕ) → Bytes s → Bytes (drop p s)
 bytes-behind s p bs = λ i. rw getD-drop (bs (p + i))
 
+-- behind a code that is not 0: the part of the mantissa that was read, and the number
+pub record Mantissa (s : List ℕ) (p code : ℕ) (a : Number) (q : ℕ) : Type 0 where
+  pub part : ℕ
+  pub small : part < 2 ^ 31
+  pub stands : itemAt s p ≡ item.Value part q
+  pub made : decoded code part ≡ a
+
+pub mantissa-taken : (s : List ℕ) (p code : ℕ) (a : Number) (q : ℕ) → (code ≡ 0 → ⊥) → mantissaAt s p code ≡ factor.At a q → Mantissa s p code a q
+unfolding mantissaAt
+mantissa-taken s p code a q h e = by (itemAt s p) refl (rw (ne-eqb code 0 h) at e)
+  where
+    value : (m r : ℕ) (t : Bool) → itemAt s p ≡ item.Value m r → ltb (2 ^ 31 - 1) m ≡ t
+        → cond t (factor.Fault 5 p) (factor.At (decoded code m) r) ≡ factor.At a q → Mantissa s p code a q
+    value m r true i g f = absurd (suc-ne-zero 0 (cc))
+    value m r false i g f =
+        let made : decoded code m ≡ a = cc in
+        let next : r ≡ q = cc in
+        record { part = m; small = omega (arith, ltb-false (2 ^ 31 - 1) m g); stands = i ∙ ap (item.Value m) next; made = made }
+
+    by : (w : ByteItem) → itemAt s p ≡ w → mantissaBy p code w ≡ factor.At a q → Mantissa s p code a q
+    by (item.Value m r) i f = value m r (ltb (2 ^ 31 - 1) m) i refl f
+    by (item.Fault k o) i f = absurd (suc-ne-zero 0 (cc))
+
 -- a factor that was read may stand behind those before it, and its bytes are those that it is written as
 pub record FactorRead (s : List ℕ) (n : ℕ) (before : List Number) (a : Number) (p q : ℕ) : Type 0 where
   pub follows : Next n before a
@@ -136,18 +159,6 @@ module _ (s : List ℕ) (bs : Bytes s) where
         }
 
     module _ (code p r : ℕ) (t : NextCode n before code) (e : itemAt s p ≡ item.Value code r) (a : Number) (q : ℕ) where
-      mantissa-value : 0 < code → (m q′ : ℕ) → itemAt s r ≡ item.Value m q′ → (u : Bool) → ltb (2 ^ 31 - 1) m ≡ u →
-          cond u (factor.Fault 5 r) (factor.At (decoded code m) q′) ≡ factor.At a q → FactorRead s n before a p q
-      mantissa-value g m q′ i true b f = absurd (suc-ne-zero 0 (cc))
-      mantissa-value g m q′ i false b f =
-          let ea : decoded code m ≡ a = cc in
-          let eq : q′ ≡ q = cc in
-          rw (← ea, ← eq) (factor-made code m p r q′ g t (omega (arith, ltb-false (2 ^ 31 - 1) m b)) e i)
-
-      mantissa-item : 0 < code → (w : ByteItem) → itemAt s r ≡ w → mantissaBy r code w ≡ factor.At a q → FactorRead s n before a p q
-      mantissa-item g (item.Value m q′) i f = mantissa-value g m q′ i (ltb (2 ^ 31 - 1) m) refl f
-      mantissa-item g (item.Fault k o) i f = absurd (suc-ne-zero 0 (cc))
-
       zero-made : code ≡ 0 → factor.At zeroNumber r ≡ factor.At a q → FactorRead s n before a p q
       zero-made z f =
           let ea : zeroNumber ≡ a = cc in
@@ -163,7 +174,9 @@ module _ (s : List ℕ) (bs : Bytes s) where
       mantissa-read f =
           elim (ℕ-discrete code 0) [
             | yes z ↦ zero-made z (rw z at f)
-            | no z ↦ mantissa-item (omega arith) (itemAt s r) refl (rw (ne-eqb code 0 z) at f)
+            | no z ↦
+                let m = mantissa-taken s r code a q z f in
+                rw (← m .made) (factor-made code (m .part) p r q (omega arith) t (m .small) e (m .stands))
           ]
 
     module _ (p : ℕ) (a : Number) (q : ℕ) where

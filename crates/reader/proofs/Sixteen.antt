@@ -2,7 +2,7 @@
 -- before has only zeros behind an off-diagonal zero, so that is the same as whether such a zero stands before it in its line at all (`behind-just`,
 -- `just-behind`).
 use Prim.Native.Nat.{ℕ, zero, suc, _+_, _-_, _*_, _/_, _%_, _<_, _≤_}
-use native.Mathlib.Nat.{div-add-mod', mod-lt, mul-le-mul-right}
+use native.Mathlib.Nat.{suc-ne-zero, div-add-mod', mod-lt, mul-le-mul-right}
 use native.Mathlib.Decide.{ℕ-discrete, decLt}
 use native.Mathlib.Omega.{arith}
 use mathlib.Core.Path.{_≡_, refl, sym, ap, _∙_, subst}
@@ -25,29 +25,25 @@ use Rattle.reader.proofs.Pattern.{just-above, just-left, Follows}
 use Rattle.reader.proofs.Continued.{Continued, continued-follows}
 use Rattle.reader.proofs.Faults.{taken-continued, code-fault, fault-code}
 
-abbrev numberOf : CodeVerdict → ℕ
-numberOf Accepted = 0
-numberOf (Refused k) = k
-
 -- THE VERDICT, by its tests
 module _ (b : Factors Number) (i j code : ℕ) where
   abbrev verdict : (t u v w : Bool) → CodeVerdict
   verdict t u v w = cond t (Refused 5) (cond u (cond v (Refused 6) Accepted) (cond (not v && w) (Refused 16) Accepted))
 
   verdict-six : (t u v w : Bool) → verdict t u v w ≡ Refused 6 → (u ≡ true) × (v ≡ true)
-  verdict-six true u v w f = absurd (let e : 5 ≡ 6 = ap numberOf f in omega arith)
+  verdict-six true u v w f = absurd (suc-ne-zero 0 (cc))
   verdict-six false true true w f = (refl, refl)
-  verdict-six false true false w f = absurd (let e : 0 ≡ 6 = ap numberOf f in omega arith)
-  verdict-six false false true w f = absurd (let e : 0 ≡ 6 = ap numberOf f in omega arith)
-  verdict-six false false false true f = absurd (let e : 16 ≡ 6 = ap numberOf f in omega arith)
-  verdict-six false false false false f = absurd (let e : 0 ≡ 6 = ap numberOf f in omega arith)
+  verdict-six false true false w f = absurd (suc-ne-zero 0 (cc))
+  verdict-six false false true w f = absurd (suc-ne-zero 0 (cc))
+  verdict-six false false false true f = absurd (suc-ne-zero 0 (cc))
+  verdict-six false false false false f = absurd (suc-ne-zero 0 (cc))
 
   verdict-sixteen : (t u v w : Bool) → verdict t u v w ≡ Refused 16 → (t ≡ false) × (u ≡ false) × (v ≡ false) × (w ≡ true)
-  verdict-sixteen true u v w f = absurd (let e : 5 ≡ 16 = ap numberOf f in omega arith)
-  verdict-sixteen false true true w f = absurd (let e : 6 ≡ 16 = ap numberOf f in omega arith)
-  verdict-sixteen false true false w f = absurd (let e : 0 ≡ 16 = ap numberOf f in omega arith)
-  verdict-sixteen false false true w f = absurd (let e : 0 ≡ 16 = ap numberOf f in omega arith)
-  verdict-sixteen false false false false f = absurd (let e : 0 ≡ 16 = ap numberOf f in omega arith)
+  verdict-sixteen true u v w f = absurd (suc-ne-zero 0 (cc))
+  verdict-sixteen false true true w f = absurd (suc-ne-zero 0 (cc))
+  verdict-sixteen false true false w f = absurd (suc-ne-zero 0 (cc))
+  verdict-sixteen false false true w f = absurd (suc-ne-zero 0 (cc))
+  verdict-sixteen false false false false f = absurd (suc-ne-zero 0 (cc))
   verdict-sixteen false false false true f = (refl, refl, refl, refl)
 
   judged-six : (judgedAt b i j code ≡ Refused 6) ↔ ((i ≡ j) × (code ≡ 0))

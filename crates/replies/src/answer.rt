@@ -29,16 +29,7 @@ fn bad(out: &mut [u8], at: usize) -> usize
     answers::put_bad(out, at)
 }
 
-// The first bytes of a buffer, the first items of a list, and its first whole numbers.
-fn some_bytes(bytes: &[u8], count: usize) -> &[u8]
-    ensures { λ r. ⌜ now r ≡ take count (now (bytes .entry)) ⌝ }
-{
-    if bytes.len() < count {
-        return bytes;
-    }
-    &bytes[0..count]
-}
-
+// The first items of a list, and its first whole numbers.
 fn some_items(list: &[i64], count: usize) -> &[i64]
     ensures { λ r. ⌜ now r ≡ take (count * 3) (now (list .entry)) ⌝ }
 {
@@ -127,7 +118,7 @@ fn to_request(
         shelf,
         command,
         v,
-        some_bytes(bytes, count),
+        lines::first(bytes, count),
         some_items(list, items),
         some_wholes(wholes, numbers),
         out,

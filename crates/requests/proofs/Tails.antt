@@ -30,7 +30,8 @@ use Rattle.requests.specs.Requests.{Asked, Values, askedAlone, askedByte
 use Rattle.requests.specs.Requests.{withNothing, withBytes, withList, withItems, withTwo, withTail}
 use Rattle.requests.proofs.Listed.{Counted, take-sets}
 use Rattle.requests.proofs.Triples.{items-counted}
-use Rattle.requests.proofs.Words.{words-at, words-past, word-past, words-all, first-word, words-behind}
+use Rattle.lines.proofs.Words.{word-past}
+use Rattle.requests.proofs.Words.{words-at, words-past, words-all, first-word, words-behind}
 
 module _ (command : Command) (values line : List ℕ) (at : ℕ) where
   pub nothing-more : at ≤ length line → bad ≡ withNothing command values (wordsAt line at)

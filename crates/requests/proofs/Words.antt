@@ -5,9 +5,10 @@ use mathlib.Core.Path.{_≡_, refl, sym, ap, _∙_}
 use mathlib.Core.Bool.{Bool, true, false}
 use mathlib.Core.List.{List, [], _∷_}
 use lib.Dec.{ltb}
-use lib.ListN.{length, drop, drop-of-length-le}
+use lib.ListN.{length, drop}
 use borrow.Author.Tests.{lt-ltb, le-ltb, ltb-true, ltb-false}
-use Rattle.lines.specs.Words.{before, wordAt, nextWord}
+use Rattle.lines.specs.Words.{wordAt, nextWord}
+use Rattle.lines.proofs.Words.{word-past}
 use Rattle.lines.proofs.Parts.{parts-from, parts-first}
 use Rattle.requests.specs.Words.{wordsOf, wordsAt, firstWord, wordsBehind}
 
@@ -18,12 +19,6 @@ pub words-at : (s : List ℕ) (at : ℕ) → at ≤ length s → wordsAt s at �
 words-at s at h =
     let e : at + length (wordAt s at) + 1 ≡ at + suc (length (wordAt s at)) = omega arith in
     rw (le-ltb (length s) at h, e) (parts-first 32 (drop at s) ∙ ap (λ ws. wordAt s at ∷ ws) (parts-from 32 s at (suc (length (wordAt s at))) h))
-
-pub word-past : (s : List ℕ) (at : ℕ) → length s < at → wordAt s at ≡ []
-unfolding before
-word-past s at h =
-    let l : length s ≤ at = omega arith in
-    rw (drop-of-length-le s l)
 
 first-by : (s : List ℕ) (at : ℕ) (t : Bool) → ltb (length s) at ≡ t → firstWord (wordsAt s at) ≡ wordAt s at
 first-by s at true e = rw e (sym (word-past s at (ltb-true _ _ e)))

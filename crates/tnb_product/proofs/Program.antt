@@ -48,7 +48,8 @@ program-short a b o g = unless-short a _ (unless-short b _ (unless-short (o .rep
 
 module _ (left right : List ℕ) (s : Shelf) (a b o : Outcome) {out out′ : List ℕ} {to : ℕ} where
   pub program : s ≡ emptyShelf → a ≡ loadCall s 0 left → b ≡ loadCall (a .shelf) 1 right → o ≡ productCall (b .shelf) 0 1 2 → Good (o .shelf)
-      → longestText ≤ length out → Puts out 0 (unlessRefused (a .report) (unlessRefused (b .report) (printed o))) out′ to → take to out′ ≡ programText left right
+      → longestText ≤ length out → Puts out 0 (unlessRefused (a .report) (unlessRefused (b .report) (printed o))) out′ to
+      → take to out′ ≡ programText left right
   unfolding programText run
   program es ea eb eo g room p =
       let put = puts-room p (omega (arith, program-short (a .report) (b .report) o g)) in

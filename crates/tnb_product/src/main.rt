@@ -69,15 +69,6 @@ fn read_file(path: &[u8], buffer: &mut [u8]) -> usize {
     n
 }
 
-fn first(buffer: &[u8], n: usize) -> &[u8]
-    ensures { λ r. ⌜ now r ≡ take n (now (buffer .entry)) ⌝ }
-{
-    if n <= buffer.len() {
-        return &buffer[0..n];
-    }
-    buffer
-}
-
 // The line of a factor.
 fn put_factor(out: &mut [u8], at: usize, i: usize, j: usize, factor: Factor) -> usize
     ensures { λ r. ⌜ Puts (now (out .entry)) at (factorLine i j (factorReport factor)) (now (out .exit)) r ⌝ }
@@ -185,7 +176,7 @@ fn put_files(left: &mut [u8], right: &mut [u8], out: &mut [u8]) -> usize
 {
     let a = read_file(b"left.tnb", left);
     let b = read_file(b"right.tnb", right);
-    text(first(left, a), first(right, b), out)
+    text(lines::first(left, a), lines::first(right, b), out)
 }
 
 fn main() {
@@ -193,7 +184,7 @@ fn main() {
     let mut right = io::buffer();
     let mut out = io::large_buffer();
     let n = put_files(&mut left, &mut right, &mut out);
-    if !io::write_all(STDOUT_FILENO, first(&out, n)) {
+    if !io::write_all(STDOUT_FILENO, lines::first(&out, n)) {
         io::write_all(STDERR_FILENO, b"tnb_product: cannot write its output\n");
     }
 }

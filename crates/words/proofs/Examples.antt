@@ -22,8 +22,8 @@ unfolding ruleTable has put count allBefore equal rows ofMask among ascending de
 rule-examples = (refl, (refl, (refl, (refl, (refl, (refl, (refl, (refl, (refl, (refl, (refl, tt)))))))))))
 
 pub zero-examples : AllHold twoZerosTable
-unfolding twoZerosTable has put count allBefore equal rows ofMask ascending descending word oneAt moved scaled act walk minor some latest latestBefore onDiagonal
-    belowDiagonal bandedBelow factorsBy rowByRow roundBy renormalised sumBy productBy quotientBy size lib.Ieee.span lib.Ieee.climb
+unfolding twoZerosTable has put count allBefore equal rows ofMask ascending descending word oneAt moved scaled act walk minor some latest latestBefore
+    onDiagonal belowDiagonal bandedBelow factorsBy rowByRow roundBy renormalised sumBy productBy quotientBy size lib.Ieee.span lib.Ieee.climb
 zero-examples = (refl, (refl, (refl, tt)))
 
 pub bound-examples : AllHold boundTable

@@ -1,5 +1,5 @@
--- Worked examples of words, walks and formulas (ruleTable), of a source with zeros (twoZerosTable), and document 01's two tables of bounds (boundTable). Its marked
--- examples P1 to P12 are one table of calls in crate shelf; the rows here hold the definitions of this crate to the same values.
+-- Worked examples of words, walks and formulas (ruleTable), of a source with zeros (twoZerosTable), and document 01's two tables of bounds (boundTable). Its
+-- marked examples P1 to P12 are one table of calls in crate shelf; the rows here hold the definitions of this crate to the same values.
 use mathlib.Core.Bool.{true, false, cond, _&&_}
 use mathlib.Core.List.{List, [], _∷_}
 use Prim.Native.Nat.{ℕ, _*_, _^_}

@@ -4,7 +4,7 @@ use native.Mathlib.Omega.{arith}
 use mathlib.Core.Path.{ap}
 use denote.Ref.{now}
 use lib.ListN.{length-drop}
-use Rattle.lines.proofs.Words.{part-from}
+use Rattle.arrays.proofs.Runs.{part-is}
 use borrow.Author.Needs.{needs}
 use Rattle.tnb_console.proofs.line_end.Statement.{statement}
 use Rattle.tnb_console.proofs.line_end.Tie as tie
@@ -27,7 +27,7 @@ add-result c = search needs
 returns : tie.Need-returns
 returns c =
     let a = c .before .before .before .args in
-    let counted = rw (part-from (now (a .text)) (a .start)) at (c .before2 .ensures) in
+    let counted = rw (part-is (now (a .text)) (a .start)) at (c .before2 .ensures) in
     (ap (λ (k : ℕ). a .start + k) (counted .0), omega (arith, counted .1, length-drop (a .start) (now (a .text))))
 
 pub line-end-spec : {M : Type 1} → statement M

@@ -1,7 +1,7 @@
 -- `lines::next_word` meets its contract.
 use denote.Ref.{now}
 use borrow.Author.Tests.{lt-ltb, le-ltb}
-use Rattle.lines.proofs.Words.{part-from}
+use Rattle.arrays.proofs.Runs.{part-is}
 use borrow.Author.Needs.{needs}
 use Rattle.lines.proofs.reading.next_word.Statement.{statement}
 use Rattle.lines.proofs.reading.next_word.Tie as tie
@@ -32,7 +32,7 @@ returns-2 c =
     rw (
       le-ltb _ _ (c .before .before .if1 .left),
       c .before2 .ensures .0,
-      part-from (now (c .before .before .before .before .args .s)) (c .before .before .before .before .args .at),
+      part-is (now (c .before .before .before .before .args .s)) (c .before .before .before .before .args .at),
     )
 
 pub next-word-spec : {M : Type 1} → statement M

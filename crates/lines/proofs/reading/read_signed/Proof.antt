@@ -2,7 +2,7 @@
 use mathlib.Core.Path.{sym, ap, _∙_}
 use denote.Ref.{now}
 use Rattle.lines.specs.Decimal.{plus, minus}
-use Rattle.lines.proofs.Words.{part-from}
+use Rattle.arrays.proofs.Runs.{part-is}
 use Rattle.lines.proofs.Numerals.{signed-none, signed-minus, signed-plus, minus-fits, plus-fits}
 use borrow.Author.Needs.{needs}
 use Rattle.lines.proofs.reading.read_signed.Statement.{statement}
@@ -34,7 +34,7 @@ returns-2 c =
     let e = c .before .read-whole .ensures in
     let s = now (c .before .before .before .before .before .before .before .args .s) in (
       c .minus .ensures ∙ ap minus (e .0)
-          ∙ rw (part-from s 1) (sym (signed-minus s (c .before .before .before .before .before .if1 .left) (c .before .before .before .if2 .taken))),
+          ∙ rw (part-is s 1) (sym (signed-minus s (c .before .before .before .before .before .if1 .left) (c .before .before .before .if2 .taken))),
       rw (c .minus .ensures) (minus-fits (c .before .read-whole .result) (e .1)),
     )
 

@@ -1,5 +1,6 @@
 -- `lines::word` meets its contract.
 use denote.Ref.{now}
+use mathlib.Core.Path.{sym}
 use Rattle.lines.proofs.Words.{word-past, word-is}
 use borrow.Author.Needs.{needs}
 use Rattle.lines.proofs.reading.word.Statement.{statement}
@@ -15,7 +16,7 @@ part-result-end : tie.Need-part-result-end
 part-result-end c = search needs
 
 returns : tie.Need-returns
-returns c = word-past _ _ (c .before .if1 .taken)
+returns c = sym (word-past _ _ (c .before .if1 .taken))
 
 sub-rest : tie.Need-sub-rest
 sub-rest c = search needs

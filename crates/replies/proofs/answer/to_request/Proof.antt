@@ -4,8 +4,8 @@ use borrow.Author.Needs.{needs}
 use Rattle.replies.proofs.answer.to_request.Statement.{statement}
 use Rattle.replies.proofs.answer.to_request.Tie as tie
 
-some-bytes-requires : tie.Need-some-bytes-requires
-some-bytes-requires c κs = search needs
+first-requires : tie.Need-first-requires
+first-requires c κs = search needs
 
 some-items-requires : tie.Need-some-items-requires
 some-items-requires c κs = search needs
@@ -26,9 +26,9 @@ returns c =
     let wholes = c .before .before .before .before in
     let items = wholes .before .before in
     let bytes = items .before .before in
-    (call .0, rw (bytes .some-bytes .ensures, items .some-items .ensures, wholes .some-wholes .ensures) at (call .1))
+    (call .0, rw (bytes .first .ensures, items .some-items .ensures, wholes .some-wholes .ensures) at (call .1))
 
 pub to-request-spec : {M : Type 1} → statement M
 to-request-spec =
     tie.close
-    (tie.spec some-bytes-requires some-items-requires some-wholes-requires to-command-requires same-length returns)
+    (tie.spec first-requires some-items-requires some-wholes-requires to-command-requires same-length returns)

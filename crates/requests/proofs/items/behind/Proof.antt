@@ -4,7 +4,7 @@ use Prim.Native.Nat.{_+_}
 use native.Mathlib.Omega.{arith}
 use mathlib.Core.Path.{sym}
 use lib.ListN.{drop-of-length-le}
-use Rattle.lines.proofs.Words.{part-from}
+use Rattle.arrays.proofs.Runs.{part-is}
 use borrow.Author.Needs.{needs}
 use Rattle.requests.proofs.items.behind.Statement.{statement}
 use Rattle.requests.proofs.items.behind.Tie as tie
@@ -34,7 +34,7 @@ part-result-end-2 : tie.Need-part-result-end-2
 part-result-end-2 c = search needs
 
 returns-2 : tie.Need-returns-2
-returns-2 c = part-from (now (c .before .before .args .s)) _
+returns-2 c = part-is (now (c .before .before .args .s)) _
 
 pub behind-spec : {M : Type 1} → statement M
 behind-spec =

@@ -1,17 +1,17 @@
--- `replies::answer::some_bytes` meets its contract.
+-- `lines::first` meets its contract.
 use denote.Ref.{now}
 use Prim.Native.Nat.{_-_}
 use native.Mathlib.Omega.{arith}
 use mathlib.Core.Path.{_≡_, sym}
 use lib.Seq.{take-all}
 use borrow.Author.Needs.{needs}
-use Rattle.replies.proofs.answer.some_bytes.Statement.{statement}
-use Rattle.replies.proofs.answer.some_bytes.Tie as tie
+use Rattle.lines.proofs.reading.first.Statement.{statement}
+use Rattle.lines.proofs.reading.first.Tie as tie
 
 returns : tie.Need-returns
 returns c =
     let a = c .before .args in
-    sym (take-all (a .count) (now (a .bytes)) (omega arith))
+    sym (take-all (a .count) (now (a .s)) (omega arith))
 
 sub-result : tie.Need-sub-result
 sub-result c = search needs
@@ -28,6 +28,6 @@ returns-2 c =
     let e : n - 0 ≡ n = omega arith in
     rw e
 
-pub some-bytes-spec : {M : Type 1} → statement M
-some-bytes-spec =
+pub first-spec : {M : Type 1} → statement M
+first-spec =
     tie.close (tie.spec returns sub-result part-result-start part-result-end returns-2)
