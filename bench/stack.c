@@ -45,6 +45,24 @@ static void call_write(void)
     number = a.number;
 }
 
+static void call_byte_length(void)
+{
+    tnb_length a = tnb_byte_length(shelf, 0);
+    number = a.number;
+}
+
+static void call_forecast_product(void)
+{
+    tnb_steps a = tnb_forecast_product(shelf, 0, 1);
+    number = a.number;
+}
+
+static void call_forecast_submatrix(void)
+{
+    tnb_steps a = tnb_forecast_submatrix(shelf, 0, 0xf0, 0xf0);
+    number = a.number;
+}
+
 static void call_drop(void)
 {
     tnb_answer a = tnb_drop(shelf, 0);
@@ -158,6 +176,7 @@ static const struct {
 } calls[] = {
     {"tnb_new", call_new, sizeof(tnb_shelf)},
     {"tnb_write", call_write, sizeof(tnb_shelf) + sizeof(tnb_length)},
+    {"tnb_byte_length", call_byte_length, sizeof(tnb_shelf) + sizeof(tnb_length)},
     {"tnb_load", call_load, sizeof(tnb_shelf) + sizeof(tnb_answer)},
     {"tnb_rest", call_rest, 0},
     {"tnb_drop", call_drop, sizeof(tnb_shelf) + sizeof(tnb_answer)},
@@ -166,6 +185,8 @@ static const struct {
     {"tnb_converse", call_converse, sizeof(tnb_shelf) + sizeof(tnb_answer)},
     {"tnb_submatrix", call_submatrix, sizeof(tnb_shelf) + sizeof(tnb_answer)},
     {"tnb_transpose", call_transpose, sizeof(tnb_shelf) + sizeof(tnb_answer)},
+    {"tnb_forecast_product", call_forecast_product, sizeof(tnb_shelf) + sizeof(tnb_steps)},
+    {"tnb_forecast_submatrix", call_forecast_submatrix, sizeof(tnb_shelf) + sizeof(tnb_steps)},
     {"tnb_build", call_build, sizeof(tnb_shelf) + sizeof(tnb_answer)},
     {"tnb_minor", call_minor, sizeof(tnb_shelf) + sizeof(tnb_value)},
     {"tnb_rows", call_rows, sizeof(tnb_shelf) + sizeof(tnb_length)},
@@ -244,14 +265,14 @@ static void print_sizes(void)
     printf("| struct | bytes |\n|:--|--:|\n");
     printf("| `tnb_shelf` | %zu |\n| `tnb_answer` | %zu |\n", sizeof(tnb_shelf), sizeof(tnb_answer));
     printf("| `tnb_value` | %zu |\n| `tnb_length` | %zu |\n| `tnb_status` | %zu |\n", sizeof(tnb_value), sizeof(tnb_length), sizeof(tnb_status));
-    printf("| `tnb_worked` | %zu |\n\n", sizeof(tnb_worked));
+    printf("| `tnb_worked` | %zu |\n| `tnb_steps` | %zu |\n\n", sizeof(tnb_worked), sizeof(tnb_steps));
 }
 
 int main(void)
 {
     print_sizes();
-    printf("| call            | stack, bytes | shelf and answer by value | the rest |\n");
-    printf("|:----------------|-------------:|--------------------------:|---------:|\n");
+    printf("| call                     | stack, bytes | shelf and answer by value | the rest |\n");
+    printf("|:-------------------------|-------------:|--------------------------:|---------:|\n");
     for (size_t c = 0; c < sizeof calls / sizeof calls[0]; c++) {
         size_t good = accepted(c, 6);
         size_t full = accepted(c, 7);
@@ -264,7 +285,7 @@ int main(void)
         size_t foreign = deepest(calls[c].run);
         shelf = kept;
         size_t most = good > foreign ? good : foreign;
-        printf("| `%s`%*s | %12zu | %25zu | %8zu |\n", calls[c].name, (int)(13 - strlen(calls[c].name)), "", most, calls[c].by_value,
+        printf("| `%s`%*s | %12zu | %25zu | %8zu |\n", calls[c].name, (int)(22 - strlen(calls[c].name)), "", most, calls[c].by_value,
                most - calls[c].by_value);
     }
     return 0;

@@ -167,43 +167,6 @@ static double time_proved(int operation, int n, input *in)
 
 static double (*const timers[FORMS])(int, int, input *) = {time_plain, time_fast, time_proved};
 
-static int same(int n, const input *in)
-{
-    if (in->answer.number != TNB_ACCEPTED || tnb_rows(in->answer.shelf, 2).length != (size_t)n)
-        return 0;
-    for (int t = 0; t < 64; t++) {
-        if (t / 8 >= n || t % 8 >= n)
-            continue;
-        tnb_value b = tnb_factor(in->answer.shelf, 2, (size_t)(t / 8 + 1), (size_t)(t % 8 + 1));
-        if (b.number != TNB_ACCEPTED || in->plain_result[t].m != b.mantissa || in->plain_result[t].e != b.exponent ||
-            in->fast_result[t] != fast_pack(b.mantissa, b.exponent))
-            return 0;
-    }
-    return 1;
-}
-
-static void compare(int operation, int n, const input *in, const char *kind)
-{
-    if (same(n, in))
-        return;
-    printf("%s, n = %d, %s: ", names[operation], n, kind);
-    if (in->answer.number != TNB_ACCEPTED)
-        printf("refused %d\n", in->answer.number);
-    else
-        printf("results differ\n");
-    exit(1);
-}
-
-static double least(double a, double b)
-{
-    return a < b ? a : b;
-}
-
-static double most(double a, double b)
-{
-    return a > b ? a : b;
-}
-
 static int choose(int n, int k)
 {
     return k < 0 || k > n ? 0 : k == 0 ? 1 : choose(n - 1, k - 1) * n / k;
@@ -225,6 +188,50 @@ static int steps(int operation, int n)
             sum += times * (minor_steps(sources, n, q) + minor_steps(sources, n, q - 1));
         }
     return sum;
+}
+
+static int same(int n, const input *in)
+{
+    if (in->answer.number != TNB_ACCEPTED || tnb_rows(in->answer.shelf, 2).length != (size_t)n)
+        return 0;
+    for (int t = 0; t < 64; t++) {
+        if (t / 8 >= n || t % 8 >= n)
+            continue;
+        tnb_value b = tnb_factor(in->answer.shelf, 2, (size_t)(t / 8 + 1), (size_t)(t % 8 + 1));
+        if (b.number != TNB_ACCEPTED || in->plain_result[t].m != b.mantissa || in->plain_result[t].e != b.exponent ||
+            in->fast_result[t] != fast_pack(b.mantissa, b.exponent))
+            return 0;
+    }
+    return 1;
+}
+
+/* the steps made, and those foretold */
+static int counted(int operation, int n, const input *in)
+{
+    tnb_steps told = operation == PRODUCT ? tnb_forecast_product(in->shelf, 0, 1) : tnb_forecast_inverse(in->shelf, 0);
+    return told.number == TNB_ACCEPTED && told.steps == (size_t)steps(operation, n) && in->answer.steps == told.steps;
+}
+
+static void compare(int operation, int n, const input *in, const char *kind)
+{
+    if (same(n, in) && counted(operation, n, in))
+        return;
+    printf("%s, n = %d, %s: ", names[operation], n, kind);
+    if (in->answer.number != TNB_ACCEPTED)
+        printf("refused %d\n", in->answer.number);
+    else
+        printf(same(n, in) ? "steps differ\n" : "results differ\n");
+    exit(1);
+}
+
+static double least(double a, double b)
+{
+    return a < b ? a : b;
+}
+
+static double most(double a, double b)
+{
+    return a > b ? a : b;
 }
 
 /* one line of the table; whether proved / branch-free is within its limit */
@@ -337,12 +344,23 @@ static single_times single(int operation, int n, int rounds)
 
 static void singles(int rounds)
 {
+    static single_times all[9][OPERATIONS];
     printf("### Single calls, new factors, caches filled by other work: microseconds of the proved form\n\n");
     printf("| n | product, middle | slowest | re-signed inverse, middle | slowest |\n");
     printf("|--:|----------------:|--------:|--------------------------:|--------:|\n");
-    for (int n = 2; n <= 8; n += 2) {
-        single_times p = single(PRODUCT, n, rounds), i = single(INVERSE, n, rounds);
+    for (int n = 1; n <= 8; n++) {
+        for (int o = 0; o < OPERATIONS; o++)
+            all[n][o] = single(o, n, rounds);
+        single_times p = all[n][PRODUCT], i = all[n][INVERSE];
         printf("| %d | %15.2f | %7.2f | %25.2f | %7.2f |\n", n, 1e6 * p.middle, 1e6 * p.slowest, 1e6 * i.middle, 1e6 * i.slowest);
+    }
+    printf("\n### Nanoseconds a step of these calls\n\n");
+    printf("| n | product, steps | middle | slowest | re-signed inverse, steps | middle | slowest |\n");
+    printf("|--:|---------------:|-------:|--------:|-------------------------:|-------:|--------:|\n");
+    for (int n = 2; n <= 8; n++) {
+        int p = steps(PRODUCT, n), i = steps(INVERSE, n);
+        printf("| %d | %14d | %6.1f | %7.1f | %24d | %6.1f | %7.1f |\n", n, p, 1e9 * all[n][PRODUCT].middle / p, 1e9 * all[n][PRODUCT].slowest / p, i,
+               1e9 * all[n][INVERSE].middle / i, 1e9 * all[n][INVERSE].slowest / i);
     }
     printf("\n");
 }
@@ -350,16 +368,23 @@ static void singles(int rounds)
 /* What a call costs that has nothing to work: the shelf handed over, tested and handed back. */
 static void border(int rounds)
 {
-    double best = 1e9;
+    double refused = 1e9, foretold = 1e9;
     tnb_shelf shelf = tnb_new();
     tnb_answer answer;
+    tnb_steps told;
+    draw(&inputs[0][0], 8, any);
     for (int r = 0; r < rounds; r++) {
         double start = seconds();
         for (int t = 0; t < 400; t++)
             answer = tnb_product(shelf, 0, 1, 2);
-        best = least(best, (seconds() - start) / 400);
+        refused = least(refused, (seconds() - start) / 400);
+        start = seconds();
+        for (int t = 0; t < 400; t++)
+            told = tnb_forecast_product(inputs[0][0].shelf, 0, 1);
+        foretold = least(foretold, (seconds() - start) / 400);
     }
-    printf("A product refused at once, on an empty shelf (number %d): %.2f us.\n", answer.number, 1e6 * best);
+    printf("A product refused at once, on an empty shelf (number %d): %.2f us.\n", answer.number, 1e6 * refused);
+    printf("A forecast of a product of eight rows (%zu steps): %.2f us.\n", told.steps, 1e6 * foretold);
 }
 
 int main(int argc, char **argv)

@@ -25,10 +25,10 @@ extern "C" {
 
 /* The version of this header and of the archive built beside it. It rises whenever a struct changes its size, a call or a number is added, or a call
  * answers otherwise than before (2: tnb_reversals passes over zeros; 3: tnb_add, tnb_multiply and tnb_divide are new; 4: tnb_build and its refusal 15
- * are new; 5: tnb_sentence is new; 6: factors may be zero in the pattern that tnb_load names, with the refusals 16 and 17). A program that uses only
- * what stands here, and not the inside of a shelf, compiles again with every later version; it is compiled again for each, since structs go by value.
- * Later versions may refuse with numbers that are not listed yet: test for TNB_ACCEPTED. */
-#define TNB_VERSION 6
+ * are new; 5: tnb_sentence is new; 6: factors may be zero in the pattern that tnb_load names, with the refusals 16 and 17; 7: answers have steps, and
+ * tnb_byte_length and the forecasts are new). A program that uses only what stands here, and not the inside of a shelf, compiles again with every later
+ * version; it is compiled again for each, since structs go by value. Later versions may refuse with numbers that are not listed yet: test for TNB_ACCEPTED. */
+#define TNB_VERSION 7
 
 /* The numbers of answers. */
 enum {
@@ -61,20 +61,30 @@ typedef struct {
     uint64_t private_[1025];
 } tnb_shelf;
 
-/* What a call answers that may change the shelf: the bound of an operation or a build (0 for a load or drop), and the shelf after the call. */
+/* What a call answers that may change the shelf: the bound of an operation or a build (0 for a load or drop), the steps that an operation made (0 for any
+ * other call and for a refusal), and the shelf after the call. A step is one row set updated by one letter E or Et of the rule; a forecast tells beforehand
+ * how many there will be. */
 typedef struct {
     uint8_t number;
     uint32_t bound;
     size_t offset;
+    size_t steps;
     tnb_shelf shelf;
 } tnb_answer;
 
-/* How many bytes were written, reversals counted, or rows a place has; 0 for a refusal. */
+/* How many bytes were written or will be, reversals counted, or rows a place has; 0 for a refusal. */
 typedef struct {
     uint8_t number;
     size_t offset;
     size_t length;
 } tnb_length;
+
+/* How many steps an operation will make; 0 for a refusal, and for a transpose. */
+typedef struct {
+    uint8_t number;
+    size_t offset;
+    size_t steps;
+} tnb_steps;
 
 /* Whether a call was accepted that answers nothing else. */
 typedef struct {
@@ -122,6 +132,9 @@ tnb_answer tnb_load(tnb_shelf shelf, size_t place, const uint8_t *bytes, size_t 
 /* Writes a place to lent bytes and answers the length, at most 449; no byte past it is changed. Refusals 1, 11, 10. */
 tnb_length tnb_write(tnb_shelf shelf, size_t place, uint8_t *out, size_t room);
 
+/* How many bytes tnb_write of a place will take, exactly. Nothing is written. Refusals 1, 11. */
+tnb_length tnb_byte_length(tnb_shelf shelf, size_t place);
+
 /* Empties a place, which can then be filled again. Refusals 1, 11. */
 tnb_answer tnb_drop(tnb_shelf shelf, size_t place);
 
@@ -140,6 +153,15 @@ tnb_answer tnb_submatrix(tnb_shelf shelf, size_t source, uint8_t rows, uint8_t c
 
 /* The transpose of a place, to an empty place; no rounding, bound 0. Refusals 1, 11, 12. */
 tnb_answer tnb_transpose(tnb_shelf shelf, size_t source, size_t target);
+
+/* The steps that an operation will make, without working it: what it answers where it is accepted. They depend on the rows of its sources and on how many
+ * rows are chosen, on nothing else. No target is named. A forecast is refused where the operation would be for its sources or sets; with a target that is
+ * empty, the operation itself can then be refused only by 14 or, of a submatrix, 17. Refusals 1, 11 and, of a product, 13, of a submatrix, 8. */
+tnb_steps tnb_forecast_product(tnb_shelf shelf, size_t left, size_t right);
+tnb_steps tnb_forecast_inverse(tnb_shelf shelf, size_t source);
+tnb_steps tnb_forecast_converse(tnb_shelf shelf, size_t source);
+tnb_steps tnb_forecast_transpose(tnb_shelf shelf, size_t source);
+tnb_steps tnb_forecast_submatrix(tnb_shelf shelf, size_t source, uint8_t rows, uint8_t columns);
 
 /* Fills an empty place from time stamps: with n of them, 1 to 8, the matrix whose row i holds the powers 0 to n - 1 of stamp i, as a polynomial through
  * positions at those times needs it. Stamps are positive, strictly increasing and below 2^32; they go in as 64-bit numbers, so that a larger one is refused

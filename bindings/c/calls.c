@@ -31,6 +31,13 @@ static tnb_shelf accepted(tnb_answer a, uint32_t bound, const char *call)
     return a.shelf;
 }
 
+/* an operation, with the steps that were foretold */
+static tnb_shelf operated(tnb_answer a, uint32_t bound, tnb_steps told, size_t steps, const char *call)
+{
+    want(told.number == TNB_ACCEPTED && told.steps == steps && a.steps == steps, call);
+    return accepted(a, bound, call);
+}
+
 /* place holds two rows, all factors of mantissa m, with these exponents */
 static int square(const tnb_shelf *s, size_t place, uint64_t m, int64_t a, int64_t b, int64_t c, int64_t d)
 {
@@ -42,20 +49,32 @@ static int square(const tnb_shelf *s, size_t place, uint64_t m, int64_t a, int64
 static tnb_shelf operations(tnb_shelf s)
 {
     const uint64_t m = 2147483648u;
-    s = accepted(tnb_product(s, 0, 0, 2), 51, "product");
+    s = operated(tnb_product(s, 0, 0, 2), 51, tnb_forecast_product(s, 0, 0), 24, "product");
     want(factor(&s, 2, 1, 1, m, -30) && factor(&s, 2, 1, 2, 3221225472u, -31) && factor(&s, 2, 2, 2, m, -32), "product");
     want(tnb_product(s, 0, 1, 3).number == TNB_SIZES_DIFFER, "product, sizes differ");
     want(tnb_product(s, 0, 0, 1).number == TNB_TARGET_FULL, "product, target full");
-    s = accepted(tnb_inverse(s, 0, 3), 27, "inverse");
+    s = operated(tnb_inverse(s, 0, 3), 27, tnb_forecast_inverse(s, 0), 12, "inverse");
     want(square(&s, 3, m, -30, -32, -32, -32), "inverse");
-    s = accepted(tnb_converse(s, 0, 4), 27, "converse");
+    s = operated(tnb_converse(s, 0, 4), 27, tnb_forecast_converse(s, 0), 12, "converse");
     want(square(&s, 4, m, -30, -32, -32, -32), "converse");
-    s = accepted(tnb_submatrix(s, 1, 6, 3, 5), 63, "submatrix");
+    s = operated(tnb_submatrix(s, 1, 6, 3, 5), 63, tnb_forecast_submatrix(s, 1, 6, 3), 42, "submatrix");
     want(square(&s, 5, m, -31, -30, -31, -31), "submatrix");
-    s = accepted(tnb_transpose(s, 5, 6), 0, "transpose");
+    s = operated(tnb_transpose(s, 5, 6), 0, tnb_forecast_transpose(s, 5), 0, "transpose");
     want(square(&s, 6, m, -31, -31, -30, -31), "transpose");
-    want(tnb_submatrix(s, 1, 6, 1, 7).number == TNB_BAD_SETS, "submatrix, unequal sets");
+    want(tnb_submatrix(s, 1, 6, 1, 7).number == TNB_BAD_SETS && tnb_submatrix(s, 1, 6, 1, 7).steps == 0, "submatrix, unequal sets");
     return s;
+}
+
+/* forecasts, and the bytes of a place: places 0 and 1 hold two and three rows, place 7 nothing */
+static void foretold(tnb_shelf s)
+{
+    want(tnb_forecast_product(s, 0, 1).number == TNB_SIZES_DIFFER && tnb_forecast_product(s, 0, 1).steps == 0, "forecast, sizes differ");
+    want(tnb_forecast_product(s, 7, 8).number == TNB_PLACE_ABOVE_7, "forecast, place above 7");
+    want(tnb_forecast_inverse(s, 7).number == TNB_SOURCE_EMPTY && tnb_forecast_converse(s, 7).number == TNB_SOURCE_EMPTY, "forecast, empty");
+    want(tnb_forecast_transpose(s, 8).number == TNB_PLACE_ABOVE_7, "forecast of a transpose");
+    want(tnb_forecast_submatrix(s, 1, 6, 1).number == TNB_BAD_SETS, "forecast, unequal sets");
+    want(tnb_byte_length(s, 0).length == 13 && tnb_byte_length(s, 1).length == 28, "byte length");
+    want(tnb_byte_length(s, 7).number == TNB_SOURCE_EMPTY && tnb_byte_length(s, 8).number == TNB_PLACE_ABOVE_7, "byte length, refused");
 }
 
 /* the matrix 1 1 0, 1 2 1, 0 1 2, whose factors far from the diagonal are zero: read and written, its submatrices and minors, and a broken pattern */
@@ -68,6 +87,7 @@ static void zeros(void)
     tnb_value v = tnb_minor(s, 0, 1, 4);
     want(v.number == TNB_ACCEPTED && v.mantissa == 0 && v.exponent == 0, "minor, zero");
     want(tnb_submatrix(s, 0, 1, 4, 1).number == TNB_SINGULAR && tnb_submatrix(s, 0, 1, 4, 1).offset == 0, "submatrix, singular");
+    want(tnb_forecast_submatrix(s, 0, 1, 4).steps == 6, "forecast, singular");
     s = accepted(tnb_submatrix(s, 0, 3, 6, 1), 63, "submatrix, a zero stays");
     want(factor(&s, 1, 1, 1, 2147483648u, -31) && factor(&s, 1, 1, 2, 0, 0) && factor(&s, 1, 2, 1, 2147483648u, -30), "submatrix, a zero stays");
     tnb_answer a = tnb_load(s, 2, broken, sizeof broken);
@@ -238,6 +258,8 @@ static void foreign(void)
     want(tnb_rows(s, 0).number == TNB_FOREIGN_SHELF && tnb_rows(s, 0).length == 0, "rows, foreign shelf");
     want(tnb_factor(s, 0, 1, 1).number == TNB_FOREIGN_SHELF && tnb_factor(s, 0, 1, 1).mantissa == 0, "factor, foreign shelf");
     want(tnb_build(s, 0, NULL, 0).number == TNB_FOREIGN_SHELF, "build, foreign shelf");
+    want(tnb_forecast_inverse(s, 0).number == TNB_FOREIGN_SHELF && tnb_forecast_inverse(s, 0).steps == 0, "forecast, foreign shelf");
+    want(tnb_byte_length(s, 0).number == TNB_FOREIGN_SHELF && tnb_byte_length(s, 0).length == 0, "byte length, foreign shelf");
 }
 
 int main(void)
@@ -248,6 +270,7 @@ int main(void)
     want(tnb_load(s, 2, two, 14).number == TNB_BYTES_BEHIND_MATRIX && tnb_load(s, 2, two, 14).offset == 13, "load, bytes behind");
     want(tnb_rest(two, 14) == 1 && tnb_rest(two, 5) == 5, "rest");
     s = operations(s);
+    foretold(s);
     zeros();
     building(s);
     reading(s);

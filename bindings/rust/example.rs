@@ -13,6 +13,7 @@ pub struct Answer {
     pub number: u8,
     pub bound: u32,
     pub offset: usize,
+    pub steps: usize,
     pub shelf: Shelf,
 }
 

@@ -219,9 +219,9 @@ def banded_carries(rng, rounds):
 
 def by_sets(choose):
     """The rule with other sets R: choose(minor, i, j) gives both."""
-    def side(minor, arithmetic, i, j):
+    def side(minor, worked, arithmetic, i, j):
         above, below = quotient(i, j, *choose(minor, i, j))
-        numbers = [[minor(*sets) for sets in line] for line in (above, below)]
+        numbers = [[worked(*sets) for sets in line] for line in (above, below)]
         if numbers[0][0] == ZERO or ZERO in numbers[1]:
             return ZERO
         return arithmetic.divide(*(arithmetic.multiply(*line) for line in numbers))

@@ -59,9 +59,9 @@ def marked_calls(rng, rounds):
     shelf.load(0, encode(single(LOW, 1000)))
     shelf.load(1, encode(single(*ONE)))
     shelf.load(2, encode(single(*number(2))))
-    same(shelf.product(0, 1, 3), 11)
+    same(shelf.product(0, 1, 3), (11, 0))
     shelf.load(5, encode(ones(3)))
-    same(shelf.submatrix(5, 0b110, 0b011, 6), 63)
+    same(shelf.submatrix(5, 0b110, 0b011, 6), (63, 42))
     same(refused(shelf.product, 0, 2, 4), (14, 0))
     same(refused(shelf.one_source, "inverse", 0, 4), (14, 0))
     same(carry(ones(2), [(1,) + ONE, (-1,) + ONE]), [ITEM_ZERO, (-1,) + ONE])
@@ -226,7 +226,7 @@ def byte_faults(rng, rounds):
 def console(rng, rounds):
     """Lines and answers of the console as its description gives them."""
     session = Console()
-    talk = [("load 0 02ca0700ca0700ca0700ca0700", "loaded"), ("product 0 0 1", "bound 51"),
+    talk = [("load 0 02ca0700ca0700ca0700ca0700", "loaded"), ("product 0 0 1", "bound 51 steps 24"),
             ("show 1", "matrix 2 2147483648 -30 3221225472 -31 3221225472 -31 2147483648 -32"), ("show 8", "refused 1 at 0"),
             ("show 7", "empty"), ("write 0 15", "wrote 13 02ca0700ca0700ca0700ca0700a5a5"), ("write 0 2", "refused 10 at 0 a5a5"),
             ("write 0 0", "refused 10 at 0 -"), ("carry 0 3 1,2147483648,-31 -1,2147483648,-31",
@@ -235,7 +235,7 @@ def console(rng, rounds):
                                                                               "reversals 1"),
             ("rest 01ca0700ff", "rest ff"), ("rest 01ca0700", "rest -"), ("rest -", "rest -"), ("rest 01ca", "rest 01ca"),
             ("minor 0 1 1", "number 2147483648 -31"), ("minor 0 0 0", "refused 8 at 0"), ("drop 4294967295", "refused 1 at 0"),
-            ("transpose 0 2", "bound 0"), ("drop 2", "dropped"), ("submatrix 0 3 3 2", "bound 27"), ("", "bad request"),
+            ("transpose 0 2", "bound 0 steps 0"), ("drop 2", "dropped"), ("submatrix 0 3 3 2", "bound 27 steps 12"), ("", "bad request"),
             ("load 0", "bad request"), ("load 0 0", "bad request"), ("show  0", "bad request"), ("drop -1", "bad request"),
             ("minor 0 256 1", "bad request"), ("write 0 513", "bad request"), ("reversals 0,0", "bad request"),
             ("reversals 1,-5,0", "refused 9 at 0"), ("reversals -9223372036854775808,9223372036854775807,0", "refused 9 at 0"),

@@ -6,6 +6,7 @@ console answers to a batch. first_difference, shrunk: where they part, and a sho
 import subprocess
 import time
 from collections import Counter
+from itertools import count
 
 from console_model import Console, parse
 from model import PLACES
@@ -13,6 +14,8 @@ from model import PLACES
 CHANGING = {"load", "build", "drop", "product", "inverse", "converse", "transpose", "submatrix"}
 SHOW_ALL_EVERY = 100
 SECONDS_PER_BATCH = 120
+# Of the table's first column.
+WIDEST = 18
 
 
 def touched(line):
@@ -25,21 +28,26 @@ def touched(line):
     return sorted({place for place in named if place < PLACES})
 
 
-def batch(lines_of, length):
-    """About `length` requests and the model's answers. lines_of is given the model's shelf and hands out lines."""
-    console = Console()
+def batch(lines_of, length, last=lambda shelf: ()):
+    """About `length` requests and the model's answers, and then all of `last`. Both are given the model's shelf and hand out lines."""
+    console, made = Console(), count(1)
     asked, wanted = [], []
 
     def ask(line):
         asked.append(line)
         wanted.append(console.answer(line))
 
-    for made, line in enumerate(lines_of(console.shelf), 1):
+    def put(line):
         ask(line)
-        for place in touched(line) if made % SHOW_ALL_EVERY else range(PLACES):
+        for place in touched(line) if next(made) % SHOW_ALL_EVERY else range(PLACES):
             ask(f"show {place}")
+
+    for line in lines_of(console.shelf):
+        put(line)
         if len(asked) >= length:
             break
+    for line in last(console.shelf):
+        put(line)
     return asked, wanted
 
 
@@ -114,7 +122,7 @@ class Tally:
         """A table: a row for each call, a column for accepted (0) and each refusal number."""
         numbers = sorted({number for _, number in self.outcomes})
         calls = sorted({call for call, _ in self.outcomes})
-        yield "call".ljust(14) + "".join(("accepted" if k == 0 else f"no. {k}").rjust(9) for k in numbers)
+        yield "call".ljust(WIDEST) + "".join(("accepted" if k == 0 else f"no. {k}").rjust(9) for k in numbers)
         for call in calls:
-            yield call.ljust(14) + "".join(str(self.outcomes[call, k] or "").rjust(9) for k in numbers)
-        yield "in all".ljust(14) + "".join(str(sum(self.outcomes[c, k] for c in calls)).rjust(9) for k in numbers)
+            yield call.ljust(WIDEST) + "".join(str(self.outcomes[call, k] or "").rjust(9) for k in numbers)
+        yield "in all".ljust(WIDEST) + "".join(str(sum(self.outcomes[c, k] for c in calls)).rjust(9) for k in numbers)

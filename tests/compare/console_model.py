@@ -1,14 +1,14 @@
 #!/usr/bin/env python3
 """The console's model: for each request line its answer line, over one shelf. Run by itself it is such a console.
 
-Console.answer: the answer to a line, without its end. parse: the call and its arguments, or None for a bad request.
+Console.answer: the answer to a line, without its end. parse: the call and its arguments, or None for a bad request; the call of a forecast is two words.
 doubtful: whether the description leaves open if a line is taken; the generator keeps clear of those.
 """
 import re
 import sys
 
 from encoding import Refusal
-from model import ONE_SOURCE, PLACES, WORKED, Shelf
+from model import FORECASTS, ONE_SOURCE, PLACES, WORKED, Shelf
 
 LONGEST_LINE = 4096
 MOST_PLACE, MOST_MASK, MOST_LENT, MOST_STAMP, MOST_LISTED = 2 ** 32 - 1, 255, 512, 2 ** 64 - 1, 16
@@ -32,8 +32,12 @@ HEX = re.compile(r"(?:[0-9a-f]{2})+\Z")
 FORMS = {
     "load": "PB", "write": "PC", "drop": "P", "product": "PPP", "inverse": "PP", "converse": "PP", "transpose": "PP",
     "submatrix": "PMMP", "minor": "PMM", "carry": "PCI", "reversals": "I", "rest": "B", "show": "P",
-    "add": "NN", "multiply": "NN", "divide": "NN", "build": "PS", "sentence": "CWWL",
+    "add": "NN", "multiply": "NN", "divide": "NN", "build": "PS", "sentence": "CWWL", "length": "P",
 }
+# A forecast has the operation's words without the last, its target.
+FORMS |= {call: FORMS[kind][:-1] for call, kind in FORECASTS.items()}
+# The later description limits places to 2^32 - 1, so of these calls a larger one is no place and the line a bad request.
+LIMITED = ("length", *FORECASTS)
 
 
 def whole(text, most):
@@ -73,12 +77,19 @@ def members(kind, texts):
     return None if None in found or len(found) > MOST_LISTED else found
 
 
+def divided(line):
+    """The call, the words behind it, and what they are; nothing is known to follow a word that is no call."""
+    call, *texts = line.split(" ")
+    if call == "forecast" and texts:
+        call, texts = f"forecast {texts[0]}", texts[1:]
+    return call, texts, FORMS.get(call)
+
+
 def parse(line):
     """The call and its arguments, in the console's order; None for a bad request."""
     if len(line) > LONGEST_LINE:
         return None
-    call, *texts = line.split(" ")
-    form = FORMS.get(call)
+    call, texts, form = divided(line)
     if form is None:
         return None
     kinds = form.rstrip("ISL")
@@ -92,12 +103,12 @@ def parse(line):
 
 def doubtful(line):
     """Leading zeros, plus signs, minus zero, and places that only some types hold. A stamp has no sign, nor has a number of a sentence."""
-    call, *texts = line.split(" ")
-    form = FORMS.get(call, "")
+    call, texts, form = divided(line)
+    form = form or ""
     for kind, text in zip(form.ljust(len(texts), form[-1:] or "?"), texts):
         if kind == "B":
             continue
-        if kind == "P" and WHOLE.match(text) and MOST_PLACE < int(text) < BEYOND:
+        if kind == "P" and call not in LIMITED and WHOLE.match(text) and MOST_PLACE < int(text) < BEYOND:
             return True
         if any(re.match(r"0[0-9]" if kind in UNSIGNED else r"[-+]?0[0-9]|\+|-0", part) for part in text.split(",")):
             return True
@@ -133,6 +144,8 @@ class Console:
                 return self.one_source(call, *arguments)
             if call in WORKED:
                 return self.work(call, arguments)
+            if call in FORECASTS:
+                return f"steps {self.shelf.forecast(FORECASTS[call], *arguments)}"
             return getattr(self, call)(*arguments)
         except Refusal as fault:
             return f"refused {fault.number} at {fault.offset}" + self.lent(call, arguments)
@@ -162,13 +175,16 @@ class Console:
         return "dropped"
 
     def product(self, left, right, target):
-        return f"bound {self.shelf.product(left, right, target)}"
+        return "bound %d steps %d" % self.shelf.product(left, right, target)
 
     def one_source(self, call, place, target):
-        return f"bound {self.shelf.one_source(call, place, target)}"
+        return "bound %d steps %d" % self.shelf.one_source(call, place, target)
 
     def submatrix(self, place, rows, columns, target):
-        return f"bound {self.shelf.submatrix(place, rows, columns, target)}"
+        return "bound %d steps %d" % self.shelf.submatrix(place, rows, columns, target)
+
+    def length(self, place):
+        return f"length {self.shelf.length(place)}"
 
     def minor(self, place, rows, columns):
         return "number %d %d" % self.shelf.minor(place, rows, columns)

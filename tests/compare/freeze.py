@@ -4,9 +4,9 @@
 freeze.py [--seed S] [--count N] [--check]: about N requests, the same for the same seed. It covers every call, each refusal of
 each call, every pair of refusals that a call can meet at once, each operation in all sizes, every number of stamps and every fault
 of them that can stand alone, every way that a sum, a product and a quotient can be rounded, the sentence of every number in lent
-bytes bytes that just suffice and in one less, and banded places in every call and every place that breaks their pattern, or it fails. A line
-that is too long lies across the end of a program's first read, and the last line lacks its end. With --check nothing is written: the
-files are held to what would be.
+bytes that just suffice and in one less, and banded places in every call and every place that breaks their pattern, or it fails. Behind
+these N come forecasts and lengths: each operation in all sizes foretold and run. A line that is too long lies across the end of a
+program's first read, and the last line lacks its end. With --check nothing is written: the files are held to what would be.
 """
 import argparse
 import os
@@ -21,12 +21,14 @@ from banded_sweeps import banded_tour, every_break, every_order_of_singular, eve
 from comparison import Tally, batch
 from console_model import LARGEST, LEAST, LONGEST_LINE, MOST_LISTED, MOST_PLACE, MOST_STAMP, Console, call_words, doubtful, parse, text_of_bytes, text_of_items
 from encoding import encode
+from forecast_cases import unforetold
+from forecast_sweeps import every_forecast
 from garbage import ODD_LINES
 from list_lines import counted_carry
-from model import ORDER, WORKED, conditions, pair_good
+from model import FORECASTS, OPERATIONS, ORDER, WORKED, conditions, pair_good
 from number import HIGH, LOW, ONE
 from pairs import cases, every_case, pair
-from requests import Stream, stream
+from requests import DIRECT, Stream, stream
 from sentence_lines import every_sentence_case, sentence_cases, sentences
 from sources import far_apart, good_masks, spread_number, unit_items
 from stamp_lists import build_line, lone_faults, rising
@@ -35,7 +37,6 @@ from words import Matrix
 
 HERE = os.path.dirname(os.path.abspath(__file__))
 FOLDER = os.path.join(os.path.dirname(os.path.dirname(HERE)), "crates", "tnb_console")
-OPERATIONS = ("product", "inverse", "converse", "transpose", "submatrix")
 COUNT = 7700
 TWO, THREE = (LOW, -30), (LOW + (1 << 30), -30)
 READ = 65536
@@ -177,7 +178,12 @@ def lines(seed, shelf):
         yield from sweep(maker)
     yield from worded(maker)
     yield from banded(maker)
-    yield from stream(f"frozen {seed}", shelf)
+    yield from stream(f"frozen {seed}", shelf, DIRECT)
+
+
+def covering(seed, count):
+    """Requests and the model's answers: about `count` of `lines`, then forecasts and lengths, in a part of their own that leaves those before it alone."""
+    return batch(lambda shelf: lines(seed, shelf), count, lambda shelf: every_forecast(Stream(random.Random(f"foretold {seed}"), shelf)))
 
 
 def together(asked):
@@ -227,8 +233,8 @@ def wanted_pairs():
     alone = [{2, 3, 4, 5, 6, 7, 16}, {13, 14}, {8, 14, 17}, {9, 14}]
     for call, order in ORDER.items():
         for pair in combinations(order, 2):
-            # A place above 7 holds nothing, and an empty source leaves nothing to be judged but the target.
-            lone = call in ("write", "drop", "minor", "carry") and pair[0] in (1, 11)
+            # A place above 7 holds nothing, and an empty source leaves nothing to be judged but the target. A forecast has none.
+            lone = call in ("write", "drop", "minor", "carry", "length", *FORECASTS) and pair[0] in (1, 11) and (call, *pair) != ("forecast product", 1, 11)
             hidden = pair[0] == 11 and set(pair[1:]) & {8, 9, 10, 13, 14, 17} or call in ("load", "build") and pair == (1, 12)
             if not lone and not hidden and not any(set(pair) <= group for group in alone):
                 yield (call,) + pair
@@ -238,15 +244,15 @@ def missing(asked, wanted, tally):
     """What the transcript ought to cover and doesn't."""
     for call, order in ORDER.items():
         yield from (f"{call} {number}" for number in (0, *order) if not tally.outcomes[call, number])
-    sizes = {(line.split(" ")[0], answer) for line, answer in zip(asked, wanted)}
+    sizes = {(line.split(" ")[0], *answer.split(" ")[:2]) for line, answer in zip(asked, wanted)}
     for call in OPERATIONS:
-        bounds = {answer for name, answer in sizes if name == call and answer.startswith("bound")}
-        if len(bounds) < (1 if call == "transpose" else 8):
+        if sum(size[:2] == (call, "bound") for size in sizes) < (1 if call == "transpose" else 8):
             yield f"{call} in all sizes"
     yield from (f"{call}, {case}" for call, case in uncovered(asked))
     yield from (f"build, {case}" for case in unbuilt(asked, wanted))
     yield from (f"sentence, {case}" for case in unsaid(asked))
     yield from unbanded(asked)
+    yield from unforetold(asked)
     pairs = together(asked)
     yield from (f"{call} {first} with {second}" for call, first, second in wanted_pairs() if not pairs[call, first, second])
 
@@ -267,7 +273,7 @@ def main():
     parser.add_argument("--count", type=int, default=COUNT)
     parser.add_argument("--check", action="store_true", help="hold the files to what would be written")
     chosen = parser.parse_args()
-    asked, wanted = across_a_read(*map(list, batch(lambda shelf: lines(chosen.seed, shelf), chosen.count)))
+    asked, wanted = across_a_read(*covering(chosen.seed, chosen.count))
     tally = Tally()
     for line, answer in zip(asked, wanted):
         tally.count(line, answer)

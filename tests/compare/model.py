@@ -1,7 +1,8 @@
 """Document 01, with what document 02 adds to it, as a program: the shelf and its calls, over number.py, words.py, stamps.py, encoding.py and sentences.py.
 
 Shelf: places 0 to 7. Each call returns its answer or raises Refusal with the number and the offset, in document 01's
-order of tests, and then the shelf is as before. conditions: every condition of the two tables that holds for a call.
+order of tests, and then the shelf is as before. An operation returns its bound and the steps it made. conditions: every condition
+of the two tables that holds for a call; the call of a forecast is "forecast" and the operation's word.
 shown: what the program of "Shown in full" prints.
 """
 from encoding import Refusal, encode, read_single, rest
@@ -10,18 +11,23 @@ from number import HIGH, ITEM_ZERO, LOW, stored, worked
 from patterns import reached
 from sentences import answered, sentence_faults
 from stamps import BUILT_BOUND, built, stamp_faults, stamps_good
-from words import bound, carry, count, interval, minor, operate, reversals, transpose, word
+from words import bound, carry, count, foretold, interval, minor, operate, operate_counted, reversals, transpose, word
 
 PLACES = 8
 ONE_SOURCE = ("inverse", "converse", "transpose")
+OPERATIONS = ("product", "submatrix") + ONE_SOURCE
 WORKED = ("add", "multiply", "divide")
 # The tests of each call, in order. A load reads its bytes (2 to 7 and 16) from the left, last.
 ORDER = {
     "load": (1, 12, 2, 3, 4, 5, 6, 16, 7), "build": (1, 12, 15), "write": (1, 11, 10), "drop": (1, 11),
     "product": (1, 11, 12, 13, 14), "inverse": (1, 11, 12, 14), "converse": (1, 11, 12, 14), "transpose": (1, 11, 12),
     "submatrix": (1, 11, 12, 8, 17, 14), "minor": (1, 11, 8, 14), "carry": (1, 11, 9, 14, 10), "reversals": (9,), "rest": (),
-    "add": (9,), "multiply": (9,), "divide": (9,), "sentence": (9, 10),
+    "add": (9,), "multiply": (9,), "divide": (9,), "sentence": (9, 10), "length": (1, 11),
 }
+# A forecast tests as the operation does, without these.
+UNTESTED = (12, 14, 17, 20)
+FORECASTS = {f"forecast {kind}": kind for kind in OPERATIONS}
+ORDER |= {call: tuple(k for k in ORDER[kind] if k not in UNTESTED) for call, kind in FORECASTS.items()}
 
 
 def sets_good(n, rows, columns):
@@ -63,11 +69,11 @@ class Shelf:
         if self.places[place] is not None:
             raise Refusal(12)
 
-    def keep(self, place, matrix, k):
+    def keep(self, place, matrix, returned):
         if not in_range(matrix):
             raise Refusal(14)
         self.places[place] = matrix
-        return k
+        return returned
 
     def load(self, place, data):
         self.known(place)
@@ -99,14 +105,15 @@ class Shelf:
         self.free(target)
         if sources[0].n != sources[1].n:
             raise Refusal(13)
-        return self.keep(target, operate("product", sources), bound("product", sources[0].n))
+        result, steps = operate_counted("product", sources)
+        return self.keep(target, result, (bound("product", sources[0].n), steps))
 
     def one_source(self, kind, place, target):
         self.known(place, target)
         source = self.source(place)
         self.free(target)
-        result = transpose(source) if kind == "transpose" else operate(kind, [source])
-        return self.keep(target, result, bound(kind, source.n))
+        result, steps = (transpose(source), 0) if kind == "transpose" else operate_counted(kind, [source])
+        return self.keep(target, result, (bound(kind, source.n), steps))
 
     def submatrix(self, place, rows, columns, target):
         self.known(place, target)
@@ -116,7 +123,24 @@ class Shelf:
             raise Refusal(8)
         if singular(source, rows, columns):
             raise Refusal(17)
-        return self.keep(target, operate("submatrix", [source], rows, columns), bound("submatrix", source.n))
+        result, steps = operate_counted("submatrix", [source], rows, columns)
+        return self.keep(target, result, (bound("submatrix", source.n), steps))
+
+    def forecast(self, kind, *words):
+        """The steps that an operation takes. The words are its own without the target, and none of its work is done."""
+        places = words[:2] if kind == "product" else words[:1]
+        self.known(*places)
+        sizes = [self.source(place).n for place in places]
+        if len(set(sizes)) > 1:
+            raise Refusal(13)
+        if kind == "submatrix" and not sets_good(*sizes, *words[1:]):
+            raise Refusal(8)
+        return foretold(kind, sizes[0], count(words[1]) if kind == "submatrix" else sizes[0])
+
+    def length(self, place):
+        """How many bytes writing the place takes."""
+        self.known(place)
+        return len(encode(self.source(place)))
 
     def minor(self, place, rows, columns):
         self.known(place)
@@ -168,7 +192,9 @@ def places_named(call, words):
     """The sources and the target (or None) that a call names."""
     if call in ("load", "build"):
         return [], words[0]
-    if call in ("write", "drop", "minor", "carry"):
+    if call in FORECASTS:
+        return list(words[:1] if FORECASTS[call] != "product" else words[:2]), None
+    if call in ("write", "drop", "minor", "carry", "length"):
         return [words[0]], None
     if call in ("reversals", "rest", "sentence") + WORKED:
         return [], None
@@ -208,9 +234,18 @@ def conditions(shelf, call, words):
     return found
 
 
+def forecast_conditions(held, words):
+    """13 where there are two sources, 8 where there are sets."""
+    if len(held) == 2 and held[0].n != held[1].n:
+        return {13}
+    return {8} if len(words) == 3 and not sets_good(held[0].n, *words[1:]) else set()
+
+
 def conditions_of_work(call, held, words):
     """Those that concern what the sources hold: 8, 9, 10, 13, 14, 17."""
     n = held[0].n
+    if call in FORECASTS:
+        return forecast_conditions(held, words)
     if call == "product":
         if held[0].n != held[1].n:
             return {13}

@@ -1,18 +1,22 @@
 """Request lines from a seed.
 
 stream(seed, shelf): lines for ever. The shelf is the model's, looked at to choose places that hold a matrix or are free; the
-line given out must be answered by the model before the next is asked for. Each scenario in SCENARIOS gives a few lines.
+line given out must be answered by the model before the next is asked for. Each scenario in SCENARIOS gives a few lines; those of
+DIRECT know nothing of forecasts and lengths.
 """
 import random
 
 import banded_sweeps
 import byte_lines
+import forecast_lines
+import forecast_sweeps
 import list_lines
 import sweeps
 from banded import any_matrix, any_sets
 from banded_lines import operations, readings
 from console_model import text_of_bytes, text_of_items
 from encoding import encode
+from forecast_lines import foretold
 from garbage import garbled
 from model import ONE_SOURCE, PLACES
 from sentence_lines import sentences
@@ -196,7 +200,7 @@ class Stream:
 
 
 # Each scenario with how often it is taken.
-SCENARIOS = (
+DIRECT = (
     (Stream.fill, 30), (Stream.operate, 80), (Stream.chain, 14), (Stream.edge, 24), (Stream.faults, 60), (Stream.drop, 14),
     (Stream.minor, 14), (sweeps.every_minor, 0.1), (Stream.write, 12), (sweeps.every_length, 0.5), (list_lines.carry, 25),
     (list_lines.counted_carry, 8), (list_lines.no_items, 1), (list_lines.reversals, 4), (list_lines.standstills, 4), (list_lines.work, 40),
@@ -207,11 +211,17 @@ SCENARIOS = (
     (sweeps.every_cut, 0.3), (sweeps.every_flip, 0.1), (sweeps.every_order, 0.1), (sweeps.every_gap, 0.1), (sweeps.every_distance, 0.1),
     (sweeps.every_pair, 0.1), (sentences, 36), (sweeps.every_sentence, 0.1), (sweeps.every_lent, 0.1), (sweeps.every_fault_of_sentences, 0.1),
 )
+SCENARIOS = DIRECT + (
+    (foretold(Stream.operate), 30), (foretold(Stream.chain), 6), (foretold(Stream.edge), 10), (foretold(Stream.faults), 24), (foretold(Stream.build), 8),
+    (foretold(operations), 14), (foretold(readings), 10), (forecast_lines.anywhere, 36), (forecast_lines.lengths, 16), (forecast_lines.misread, 24),
+    (forecast_sweeps.every_zero_foretold, 0.1), (forecast_sweeps.every_refusal_foretold, 0.1), (forecast_sweeps.every_order_of_forecasts, 0.2),
+    (forecast_sweeps.every_place_foretold, 0.1), (forecast_sweeps.every_length_foretold, 0.1),
+)
 
 
-def stream(seed, shelf):
+def stream(seed, shelf, chosen=SCENARIOS):
     """Request lines for ever, chosen by the seed and by what the shelf holds."""
     maker = Stream(random.Random(seed), shelf)
-    scenarios, weights = zip(*SCENARIOS)
+    scenarios, weights = zip(*chosen)
     while True:
         yield from maker.rng.choices(scenarios, weights)[0](maker)

@@ -9,10 +9,12 @@ import sys
 
 import check_banded  # noqa: F401
 import check_directed  # noqa: F401
+import check_forecasts  # noqa: F401
 import check_marked  # noqa: F401
 import check_pattern  # noqa: F401
 import check_random  # noqa: F401
 import check_sentences  # noqa: F401
+import check_spoilt  # noqa: F401
 import check_stamps  # noqa: F401
 from checks import CHECKS
 

@@ -3,7 +3,8 @@
 Matrix: n and its n * n factors, row by row. A letter is ("E", j, w), ("Et", j, w), or ("D", entries, divides), the
 entries of the positions 1 to n. word, inverse_word, converse_word; factors_by: the new factors from minors, in any arithmetic;
 latest, quotient: the set R of document 02, (e), and the minors that a new factor is made of. Walker: minors of a word by the
-rounded rule, one walk for each column set. plain_walk, plain_minor: the same rule said letter by letter for any arithmetic.
+rounded rule, one walk for each column set, and the steps of document 02, (k). plain_walk, plain_minor: the same rule said letter by
+letter for any arithmetic. operate_counted: the new factors with the steps that they took; foretold: the steps by the sizes alone.
 Row sets are masks, bit 0 for row 1.
 """
 from collections import namedtuple
@@ -93,12 +94,14 @@ def quotient(i, j, here, before):
     return [(here | bit(i), full), (before, less)], [(here, less), (before | bit(i - 1), full)]
 
 
-def side_factor(minor, arithmetic, i, j):
-    """The new factor (i, j) below the diagonal. Its first minor is tested before anything is divided: v(i-1, j) may be zero with v(i, j)."""
-    above, below = quotient(i, j, latest(minor, arithmetic.zero, i, j), latest(minor, arithmetic.zero, i - 1, j))
-    if minor(*above[0]) == arithmetic.zero:
+def side_factor(minor, worked, arithmetic, i, j):
+    """The new factor (i, j) below the diagonal: `minor` finds the sets R, `worked` gives the minors of the quotient, all four of them for a zero factor too.
+    The first is tested before anything is divided: v(i-1, j) may be zero with v(i, j)."""
+    lines = quotient(i, j, latest(minor, arithmetic.zero, i, j), latest(minor, arithmetic.zero, i - 1, j))
+    above, below = [[worked(*sets) for sets in line] for line in lines]
+    if above[0] == arithmetic.zero:
         return arithmetic.zero
-    return arithmetic.divide(*(arithmetic.multiply(*(minor(*sets) for sets in line)) for line in (above, below)))
+    return arithmetic.divide(arithmetic.multiply(*above), arithmetic.multiply(*below))
 
 
 def chosen(mask, rows):
@@ -106,19 +109,23 @@ def chosen(mask, rows):
     return sum(bit(rows[place - 1]) for place in rows_of(mask))
 
 
-def factors_by(minor, arithmetic, rows, columns):
-    """The new factors, row by row, with the sets of the formulas counted among the chosen rows and columns."""
-    def plain(r, c):
-        return minor(chosen(r, rows), chosen(c, columns))
+def factors_by(minor, arithmetic, rows, columns, worked=None):
+    """The new factors, row by row, with the sets of the formulas counted among the chosen rows and columns. The minors of the quotients are taken from
+    `worked`, where it is given, and all others from `minor`."""
+    def plain(work):
+        return lambda r, c: work(chosen(r, rows), chosen(c, columns))
 
-    def exchanged(c, r):
+    def exchanged(work):
         """For the factors above the diagonal: the same minors, rows and columns exchanged."""
-        return plain(r, c)
+        return lambda c, r: work(chosen(r, rows), chosen(c, columns))
+
+    works = minor, worked or minor
+    below, above = [plain(work) for work in works], [exchanged(work) for work in works]
 
     def new_factor(i, j):
         if i == j:
-            return arithmetic.divide(plain(interval(1, i), interval(1, i)), plain(interval(1, i - 1), interval(1, i - 1)))
-        return side_factor(plain, arithmetic, i, j) if i > j else side_factor(exchanged, arithmetic, j, i)
+            return arithmetic.divide(*(below[1](interval(1, k), interval(1, k)) for k in (i, i - 1)))
+        return side_factor(*below, arithmetic, i, j) if i > j else side_factor(*above, arithmetic, j, i)
 
     places = range(1, len(rows) + 1)
     return tuple(new_factor(i, j) for i in places for j in places)
@@ -137,12 +144,16 @@ def sets(n, size):
 
 
 class Walker:
-    """Minors of a word over n rows by the rounded rule. One walk from a column set gives its minors for all row sets."""
+    """Minors of a word over n rows by the rounded rule. One walk from a column set gives its minors for all row sets, and the row sets updated on the way are
+    counted in it; `steps` adds them up anew for each minor that is worked."""
 
     def __init__(self, letters, n):
         self.n = n
         self.letters = letters[::-1]
         self.walks = {0: {0: ONE}}
+        # The steps of each walk; the empty minor takes none.
+        self.efforts = {0: 0}
+        self.steps = 0
 
     def minor(self, rows, columns):
         numbers = self.walks.get(columns)
@@ -150,8 +161,14 @@ class Walker:
             numbers = self.walks[columns] = self.walk(columns)
         return numbers[rows]
 
+    def worked(self, rows, columns):
+        """A minor whose steps count, as if it were worked afresh."""
+        number = self.minor(rows, columns)
+        self.steps += self.efforts[columns]
+        return number
+
     def walk(self, columns):
-        n, size = self.n, count(columns)
+        n, size, steps = self.n, count(columns), 0
         numbers = [ZERO] * (1 << n)
         numbers[columns] = ONE
         for kind, j, w in self.letters:
@@ -165,9 +182,12 @@ class Walker:
                         numbers[s] = x
             else:
                 for s, t in updates(n, size, kind, j):
+                    # The set is updated, a step, whether or not zero is added.
+                    steps += 1
                     x = numbers[t]
                     if x[0]:
                         numbers[s] = add(numbers[s], multiply(w, x))
+        self.efforts[columns] = steps
         return numbers
 
 
@@ -197,13 +217,27 @@ def minor(matrix, rows, columns):
     return Walker(word(matrix), matrix.n).minor(rows, columns)
 
 
-def operate(kind, sources, rows=None, columns=None):
-    """The new factors of a product, inverse, converse or submatrix that is not singular, by the rounded rule, whatever their exponents."""
+def operate_counted(kind, sources, rows=None, columns=None):
+    """The new factors of a product, inverse, converse or submatrix that is not singular, by the rounded rule, whatever their exponents; and the steps made."""
     n = sources[0].n
     every = rows_of(interval(1, n))
     rows, columns = (rows_of(rows), rows_of(columns)) if kind == "submatrix" else (every, every)
     walker = Walker(operation_word(kind, sources), n)
-    return Matrix(len(rows), factors_by(walker.minor, ROUNDED, rows, columns))
+    return Matrix(len(rows), factors_by(walker.minor, ROUNDED, rows, columns, walker.worked)), walker.steps
+
+
+def operate(kind, sources, rows=None, columns=None):
+    return operate_counted(kind, sources, rows, columns)[0]
+
+
+@lru_cache(None)
+def foretold(kind, n, size):
+    """The steps of an operation on n rows, `size` of them chosen for a submatrix: counted where all factors are one, so that no minor is zero. A singular
+    choice has the same number, as the formulas ask for minors of the same sizes."""
+    if kind == "transpose":
+        return 0
+    ones, first = Matrix(n, (ONE,) * (n * n)), interval(1, size)
+    return operate_counted(kind, [ones, ones], first, first)[1]
 
 
 def transpose(matrix):

@@ -1,4 +1,4 @@
--- HOW LONG ANSWERS ARE at most: a number has 21 bytes and a space before it, so a report has so many for each value (`report-short`, `worked-short`), items
+-- HOW LONG ANSWERS ARE at most: a number has 21 bytes and a space before it, so a report has so many for each value (`report-short`, `two-short`), items
 -- three times as many each (`items-short`), and what a place holds is a report for each of its factors (`place-short`).
 use Prim.Native.Nat.{ℕ, zero, suc, _+_, _-_, _*_, _≤_}
 use native.Mathlib.Omega.{arith}
@@ -17,7 +17,7 @@ use Rattle.places.specs.Shelf.{rowsAt}
 use Rattle.places.specs.Tests.{empty}
 use Rattle.shelf.specs.Calls.{rowsCall, factorCall}
 use Rattle.shelf.proofs.Returns.{valuesOf}
-use Rattle.answers.specs.Answers.{integerText, valuesText, reportText, workedText}
+use Rattle.answers.specs.Answers.{integerText, valuesText, reportText, twoTexts}
 use Rattle.answers.specs.Items.{itemText, moreItems, itemsText}
 use Rattle.answers.specs.Matrix.{factorText, rowText, factorsText, placeText}
 
@@ -33,10 +33,11 @@ pub report-short : (word : List ℕ) (r : Report) → length (reportText word r)
 report-short word (accepted values) = simp length-append (omega (arith, values-short values))
 report-short word (refused number offset) = omega (arith, refusal-short number offset)
 
-pub worked-short : (r : Report) → length (workedText r) ≤ 11 + 22 * length (valuesOf r) + 52
-worked-short (accepted values) =
-    simp length-append (omega (arith, values-short (take 2 values), values-short (drop 2 values), length-take 2 values, length-drop 2 values))
-worked-short (refused number offset) = omega (arith, refusal-short number offset)
+pub two-short : (word : List ℕ) (k : ℕ) (other : List ℕ) (r : Report)
+    → length (twoTexts word k other r) ≤ length word + length other + 22 * length (valuesOf r) + 52
+two-short word k other (accepted values) =
+    simp length-append (omega (arith, values-short (take k values), values-short (drop k values), length-take k values, length-drop k values))
+two-short word k other (refused number offset) = omega (arith, refusal-short number offset)
 
 -- ---- items
 item-short : (s m e : ℤ) → length (itemText s m e) ≤ 65

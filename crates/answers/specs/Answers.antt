@@ -1,5 +1,6 @@
 -- The lines that programs answer with. The text of what a call reports (`reportText`) is the word of its answer and the values that it returned, each behind a
--- space; of a call that was turned down it is the refusal (`refusalText`). A result with its rest has two words (`workedText`).
+-- space; of a call that was turned down it is the refusal (`refusalText`). A result with its rest has two words (`workedText`), and so has an operation
+-- (`performedText`).
 use Prim.Native.Nat.{ℕ}
 use mathlib.Core.List.{List, _++_}
 use lib.IntN.{ℤ, natAbs}
@@ -22,10 +23,18 @@ abbrev pub reportText : (word : List ℕ) → Report → List ℕ
 reportText word (accepted values) = word ++ valuesText values
 reportText word (refused number offset) = refusalText number offset
 
--- of a result with its rest: the first two values are the result's, and the others the rest's
+-- with two words: one before the first k values, and one before the others
+abbrev pub twoTexts : (word : List ℕ) → ℕ → (other : List ℕ) → Report → List ℕ
+twoTexts word k other (accepted values) = reportText word (accepted (take k values)) ++ reportText other (accepted (drop k values))
+twoTexts word k other (refused number offset) = refusalText number offset
+
+-- of a result with its rest
 abbrev pub workedText : Report → List ℕ
-workedText (accepted values) = reportText (ascii "number") (accepted (take 2 values)) ++ reportText (ascii " rest") (accepted (drop 2 values))
-workedText (refused number offset) = refusalText number offset
+workedText = twoTexts (ascii "number") 2 (ascii " rest")
+
+-- of an operation: its bound and its steps
+abbrev pub performedText : Report → List ℕ
+performedText = twoTexts (ascii "bound") 1 (ascii " steps")
 
 -- a text, and bytes behind it
 abbrev pub withBytes : (text bytes : List ℕ) → List ℕ

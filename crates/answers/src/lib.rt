@@ -7,11 +7,14 @@ ghost use Rattle.verdict.specs.Report.{accepted, verdictReport};
 ghost use Rattle.writer.specs.Encoding.{writtenReport};
 ghost use Rattle.lists.specs.Lists.{reversalsReport};
 ghost use Rattle.arithmetic.specs.Arithmetic.{workedReport};
-ghost use Rattle.operations.specs.Reports.{boundedReport, valuedReport};
+ghost use Rattle.operations.specs.Reports.{boundedReport, performedReport, valuedReport};
+ghost use Rattle.operations.specs.Forecast.{foretoldReport};
 ghost use Rattle.notices.specs.Sentence.{refusalText};
-ghost use Rattle.answers.specs.Answers.{integerText, valuesText, reportText, workedText, withBytes, badText};
+ghost use Rattle.answers.specs.Answers.{integerText, valuesText, reportText, performedText, workedText, withBytes, badText};
 use number::integer;
 use shelf::Bounded;
+use shelf::Foretold;
+use shelf::Performed;
 use shelf::Refusal;
 use shelf::Reversals;
 use shelf::Valued;
@@ -82,6 +85,29 @@ fn put_count(out: &mut [u8], at: usize, word: &[u8], n: u64) -> usize
     put_value(out, space, n)
 }
 
+// `bound K steps N`.
+pub fn put_performed(out: &mut [u8], at: usize, answer: Performed) -> usize
+    ensures { λ r. ⌜ Puts (now (out .entry)) at (performedText (performedReport answer)) (now (out .exit)) r ⌝ }
+{
+    match answer {
+        Performed::Done { bound, steps } => {
+            let behind = put_count(out, at, b"bound", bound as u64);
+            put_count(out, behind, b" steps", steps as u64)
+        }
+        Performed::Refused(why) => put_refusal(out, at, why),
+    }
+}
+
+// `steps N`.
+pub fn put_foretold(out: &mut [u8], at: usize, answer: Foretold) -> usize
+    ensures { λ r. ⌜ Puts (now (out .entry)) at (reportText (ascii "steps") (foretoldReport answer)) (now (out .exit)) r ⌝ }
+{
+    match answer {
+        Foretold::Steps(n) => put_count(out, at, b"steps", n as u64),
+        Foretold::Refused(why) => put_refusal(out, at, why),
+    }
+}
+
 // `bound K`.
 pub fn put_bounded(out: &mut [u8], at: usize, answer: Bounded) -> usize
     ensures { λ r. ⌜ Puts (now (out .entry)) at (reportText (ascii "bound") (boundedReport answer)) (now (out .exit)) r ⌝ }
@@ -92,12 +118,12 @@ pub fn put_bounded(out: &mut [u8], at: usize, answer: Bounded) -> usize
     }
 }
 
-// `wrote N`.
-pub fn put_written(out: &mut [u8], at: usize, answer: Written) -> usize
-    ensures { λ r. ⌜ Puts (now (out .entry)) at (reportText (ascii "wrote") (writtenReport answer)) (now (out .exit)) r ⌝ }
+// `wrote N` or `length N`, by the word.
+pub fn put_written(out: &mut [u8], at: usize, word: &[u8], answer: Written) -> usize
+    ensures { λ r. ⌜ Puts (now (out .entry)) at (reportText (now (word .entry)) (writtenReport answer)) (now (out .exit)) r ⌝ }
 {
     match answer {
-        Written::Length(n) => put_count(out, at, b"wrote", n as u64),
+        Written::Length(n) => put_count(out, at, word, n as u64),
         Written::Refused(why) => put_refusal(out, at, why),
     }
 }

@@ -15,7 +15,7 @@ use Rattle.number.specs.declared.Number.{Number}
 use Rattle.number.specs.Number.{bias, rounded, value, Stored, reach}
 use Rattle.number.proofs.Value.{value-positive}
 use Rattle.words.specs.RowSet.{RowSet, equal}
-use Rattle.words.specs.Word.{Factors}
+use Rattle.words.specs.Word.{Factors, total}
 use Rattle.words.specs.Walk.{State, oneAt, walk, minor}
 use Rattle.words.specs.Formula.{newFactor, Divisible}
 use Rattle.words.specs.Operation.{Step, step, plain, stepWord, joinedWord, Operation, joined, submatrix, steps, boundOf, size, Fit, askedMinor, result}
@@ -23,7 +23,7 @@ use Rattle.words.specs.Operation.{eachSteps}
 use Rattle.words.specs.Sources.{Sources, Walkable}
 use Rattle.words.proofs.Walks.{walk-append}
 use Rattle.words.proofs.Operations.{length-rowsOf}
-use Rattle.words.proofs.Related.{total, letterCost, after, after-measure, walk-related}
+use Rattle.words.proofs.Related.{letterCost, after, after-measure, walk-related}
 use Rattle.words.proofs.Alike.{AlikeStep, alike, letters-joined}
 use Rattle.words.proofs.Counts.{joined-cost, joined-square, row-square}
 use Rattle.minors.specs.Matrix.{In}

@@ -14,10 +14,10 @@ use Rattle.number.specs.declared.signed.Signed.{Signed}
 use Rattle.number.proofs.Signs.{signed-product-comm}
 use Rattle.number.proofs.SignedReach.{signed-ranged-more, signed-ranged-plain, signed-ranged-sum, signed-ranged-product}
 use Rattle.words.specs.RowSet.{In}
-use Rattle.words.specs.Word.{Factors, Letter, E, Et, D, Dinv, Word}
+use Rattle.words.specs.Word.{Factors, Letter, E, Et, D, Dinv, Word, total}
 use Rattle.words.specs.Walk.{carry, carryLetter}
 use Rattle.words.proofs.Counts.{word-cost}
-use Rattle.words.proofs.Related.{total, letterCost}
+use Rattle.words.proofs.Related.{letterCost}
 use Rattle.words.proofs.Stages.{word-all}
 use Rattle.words.specs.Sources.{Each}
 use Rattle.words.proofs.Walks.{All}

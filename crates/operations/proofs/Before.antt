@@ -27,12 +27,13 @@ use Rattle.verdict.specs.Verdict.{firstOf, after, when, orElse}
 use Rattle.verdict.specs.Report.{reportOf}
 use Rattle.verdict.proofs.Verdicts.{first-last}
 use Rattle.places.specs.declared.Shelf.{Shelf}
-use Rattle.places.specs.Shelf.{rowsAt, factorsAt, withTable, Good}
+use Rattle.places.specs.Shelf.{rowsAt, factorsAt, holding, withTable, Good}
 use Rattle.places.specs.Outcome.{Outcome, outcome}
 use Rattle.places.specs.Tests.{oneSource, twoSources}
 use Rattle.places.proofs.Verdicts.{Source, one-accepted, two-accepted}
-use Rattle.operations.specs.Operations.{resulting, operationCall, productAt, takenAt, submatrixAt, singular, chosenTests, submatrixTests}
-use Rattle.operations.specs.Before.{WithoutZeros, oldFactors, oldCall, CallsBefore}
+use Rattle.operations.specs.Operations.{resulting, done, operationVerdict, operationCall, productAt, takenAt, submatrixAt}
+use Rattle.operations.specs.Operations.{singular, chosenTests, submatrixTests}
+use Rattle.operations.specs.Before.{WithoutZeros, oldFactors, oldCall, boundAlone, withoutSteps, CallsBefore}
 use Rattle.operations.proofs.Results.{chosen-fit}
 
 -- ONE CALL, with the tests L now and M before, which give one verdict
@@ -51,13 +52,20 @@ module _ (s : Shelf) (t n : ℕ) (o : Operation Number) where
       ap₂ (left Accepted) (row-by-row-same zeroNumber (size n o) _ _ same) (table-same (size n o) _ _ same)
   by-verdict (Refused w) h = refl
 
-  call-before : (L M : List Verdict) → firstOf L ≡ firstOf M → (firstOf M ≡ Accepted → AsBefore n o) → operationCall s L t n o ≡ oldCall s M t n o
+  -- a report behind a verdict, with its bound alone
+  bound-alone : (b e : ℕ) (v : Verdict) → boundAlone (reportOf v (done b e)) ≡ reportOf v (pos b ∷ [])
+  bound-alone b e Accepted = refl
+  bound-alone b e (Refused w) = refl
+
+  call-before : (L M : List Verdict) → firstOf L ≡ firstOf M → (firstOf M ≡ Accepted → AsBefore n o)
+      → withoutSteps (operationCall s L t n o) ≡ oldCall s M t n o
   unfolding operationCall left
   call-before L M same h =
-      ap (λ (v : Verdict). resulting s t v (size n o) (bound n o) (result rounded n o))
+      ap (outcome (after (operationVerdict L n o) s (holding s t (size n o) (result rounded n o)))) (bound-alone (bound n o) _ (operationVerdict L n o))
+      ∙ ap (λ (v : Verdict). resulting s t v (size n o) (pos (bound n o) ∷ []) (result rounded n o))
       (first-last L _ ∙ ap (λ (v : Verdict). orElse v (when (outside (rowByRow (size n o) (result rounded n o))) 14)) same)
       ∙ by-verdict (firstOf M) h
-      ∙ sym (ap (λ (v : Verdict). resulting s t v (size n o) (bound n o) (oldFactors n o)) (first-last M _))
+      ∙ sym (ap (λ (v : Verdict). resulting s t v (size n o) (pos (bound n o) ∷ []) (oldFactors n o)) (first-last M _))
 
 module _ (s : Shelf) (good : Good s) where
   -- an operation on sources of the rows of a place, whose factors are all stored

@@ -1,9 +1,10 @@
 -- A PLACE FILLED FROM TIME STAMPS. Where the tests passed, the factors fit the place (`build-fits`), and so the shelf stays good (`build-good`) and what is
 -- promised of the stamps holds (`build-done`). No exponent is out of range: with 14 tested behind 15 the verdict would be the same (`build-ranged`).
 use Prim.Native.Nat.{ℕ, _<_}
-use mathlib.Core.Path.{_≡_, refl, sym, ap, _∙_}
+use mathlib.Core.Path.{_≡_, refl, sym, ap, _∙_, subst}
 use mathlib.Core.Bool.{Bool, false}
 use mathlib.Core.List.{List, [], _∷_, _++_}
+use lib.IntN.{pos}
 use lib.ListN.{length}
 use Rattle.number.specs.declared.Number.{Number}
 use Rattle.words.specs.Word.{Factors}
@@ -25,12 +26,23 @@ use Rattle.places.proofs.Holding.{fits-table}
 use Rattle.places.proofs.Verdicts.{target-accepted}
 use Rattle.operations.specs.declared.Proposed.{Proposed}
 use Rattle.operations.specs.declared.Operated.{Operated}
-use Rattle.operations.specs.declared.Bounded.the-variants as bound
-use Rattle.operations.specs.Operations.{buildTests, buildCall}
-use Rattle.operations.specs.Reports.{operatedOutcome}
-use Rattle.operations.specs.Proposed.{turnedDown, proposal, buildProposal, kept, Keepable}
+use Rattle.operations.specs.declared.Filled.{Filled}
+use Rattle.operations.specs.declared.Performed.{Performed}
+use Rattle.operations.specs.declared.Performed.the-variants as answer
+use Rattle.operations.specs.Operations.{resulting, buildTests, buildCall}
+use Rattle.operations.specs.Reports.{filledOutcome}
+use Rattle.operations.specs.Proposed.{turnedDown, proposal, buildProposal, kept, filledAnswer, filledBy, Keepable}
 use Rattle.operations.specs.Promise.{Built, BuildPromised}
-use Rattle.operations.proofs.Proposals.{result-answered, result-good, result-held, result-done}
+use Rattle.operations.proofs.Proposals.{result-answered, result-good, result-held}
+
+-- a build's answer has the shelf that was kept
+filled-shelf : (y : Operated) → filledBy y .shelf ≡ y .shelf
+unfolding filledBy
+filled-shelf y = by (y .shelf) (y .answer)
+  where
+    by : (s : Shelf) (a : Performed) → filledAnswer s a .shelf ≡ s
+    by s (answer.Done e d) = refl
+    by s (answer.Refused w) = refl
 
 module _ (s : Shelf) (t : ℕ) (stamps : List ℕ) where
   abbrev n : ℕ
@@ -62,32 +74,49 @@ module _ (s : Shelf) (t : ℕ) (stamps : List ℕ) where
       by (Refused w) e = refl
 
   answered : (x : Proposed) → x ≡ buildProposal s t stamps → (x ≡ buildProposal s t stamps) × Keepable t x
-  answered = result-answered t n stampBound b verdict build-fits
+  answered = result-answered t n stampBound 0 b verdict build-fits
 
   -- the two ways in which a build is answered
   pub build-turned : (w : Refusal) (x : Proposed) → firstOf (buildTests s t stamps) ≡ Refused w → x ≡ turnedDown w
       → (x ≡ buildProposal s t stamps) × Keepable t x
-  build-turned w x e f = answered x (f ∙ ap (λ (v : Verdict). proposal v n stampBound b) (sym e))
+  build-turned w x e f = answered x (f ∙ ap (λ (v : Verdict). proposal v n stampBound 0 b) (sym e))
 
   pub build-worked : (l : List Number) → firstOf (buildTests s t stamps) ≡ Accepted → l ≡ tableOf (length stamps) (builtFactors stamps)
-      → (let x : Proposed = record { answer = bound.Bound stampBound; rows = length stamps; factors = l } in
+      → (let x : Proposed = record { answer = answer.Done stampBound 0; rows = length stamps; factors = l } in
       (x ≡ buildProposal s t stamps) × Keepable t x)
   build-worked l e f =
       answered _
-      (ap (λ (l : List Number). let r : Proposed = record { answer = bound.Bound stampBound; rows = n; factors = l } in r) f
-      ∙ ap (λ (v : Verdict). proposal v n stampBound b) (sym e))
+      (ap (λ (l : List Number). let r : Proposed = record { answer = answer.Done stampBound 0; rows = n; factors = l } in r) f
+      ∙ ap (λ (v : Verdict). proposal v n stampBound 0 b) (sym e))
 
   module _ (good : Good s) where
     pub build-good : Good (buildCall s t stamps .shelf)
     unfolding buildCall
-    build-good = result-good t n stampBound b verdict build-fits s good
+    build-good = result-good t n b verdict build-fits s good (pos stampBound ∷ [])
 
     pub build-met : firstOf (buildTests s t stamps) ≡ Accepted
         → Built (holding s t (length stamps) (builtFactors stamps)) t stamps stampBound
     build-met e =
-        record { bound-is = refl; held = result-held t n stampBound b verdict build-fits s good e; stamped = stamped stamps (build-accepted e .1) }
+        record { bound-is = refl; held = result-held t n b verdict build-fits s good e; stamped = stamped stamps (build-accepted e .1) }
 
-    pub build-done : (x : Proposed) (y : Operated) → x ≡ buildProposal s t stamps → (y ≡ kept s t x) × Good (y .shelf)
-        → (operatedOutcome y ≡ buildCall s t stamps) × (Good (y .shelf) × BuildPromised (y .shelf) t stamps (y .answer))
+    -- without steps
+    filled-by : (v : Verdict) → (v ≡ Accepted → Built (holding s t n b) t stamps stampBound)
+        → (let y = filledBy (kept s t (proposal v n stampBound 0 b)) in
+        (filledOutcome y ≡ resulting s t v n (pos stampBound ∷ []) b) × BuildPromised (y .shelf) t stamps (y .answer))
+    unfolding kept filledBy
+    filled-by Accepted h = (refl, h refl)
+    filled-by (Refused w) h = (refl, tt)
+
+    pub build-done : (x : Proposed) (y : Operated) (z : Filled) → x ≡ buildProposal s t stamps → (y ≡ kept s t x) × Good (y .shelf) → z ≡ filledBy y
+        → (filledOutcome z ≡ buildCall s t stamps) × (Good (z .shelf) × BuildPromised (z .shelf) t stamps (z .answer))
     unfolding buildCall
-    build-done = result-done (λ s k. Built s t stamps k) s t n stampBound b verdict build-met
+    build-done x y z f g e =
+        let r = filled-by verdict build-met in
+        let h : z ≡ filledBy (kept s t (buildProposal s t stamps)) = e ∙ ap filledBy (g .0 ∙ ap (kept s t) f) in
+        let shelf : z .shelf ≡ y .shelf = ap (λ (x : Filled). x .shelf) e ∙ filled-shelf y in (
+          ap filledOutcome h ∙ r .0,
+          (
+            subst Good (sym shelf) (g .1),
+            subst (λ (x : Filled). BuildPromised (x .shelf) t stamps (x .answer)) (sym h) (r .1),
+          ),
+        )

@@ -1,7 +1,7 @@
 -- The rule's operations on places. Where the tests of the places passed, the rule can be run (`Ready`, `product-ready`, `whole-ready`, `submatrix-ready`) and
--- demand 3 holds (`ready-demand`); what is accepted can be kept, the shelf stays good, and what was promised holds (`operation-fits`, `operation-good`,
--- `operation-met`). The result by what was found: `operation-turned`, `operation-ranged`. A submatrix is singular where its rounded minor is zero
--- (`singular-tested`), which is how its tests are worked (`chosen-tested`).
+-- demand 3 holds (`ready-demand`), and the steps made are those foretold (`ready-foretold`); what is accepted can be kept, the shelf stays good, and what was
+-- promised holds (`operation-fits`, `operation-good`, `operation-met`). The result by what was found: `operation-turned`, `operation-ranged`. A submatrix is
+-- singular where its rounded minor is zero (`singular-tested`), which is how its tests are worked (`chosen-tested`).
 use Prim.Native.Nat.{ℕ, _<_, _≤_}
 use native.Mathlib.Omega.{arith}
 use mathlib.Core.Path.{_≡_, refl, sym, ap, ap₂, _∙_, subst}
@@ -19,8 +19,10 @@ use Rattle.words.specs.Walk.{minor}
 use Rattle.words.specs.Operation.{Way, Step, joinedWord, Operation, joined, steps, size, bound, rowByRow, result, eachSteps}
 use Rattle.words.specs.Sources.{Each, Banded, BandedNumbers}
 use Rattle.words.proofs.RowSets.{length-rows}
+use Rattle.words.specs.Effort.{stepsMade, stepsForetold}
 use Rattle.words.proofs.Chosen.{among-whole}
 use Rattle.words.proofs.Banded.{banded-like}
+use Rattle.words.proofs.Foretold.{steps-foretold}
 use Rattle.rowset.proofs.Masks.{ofMask-length}
 use Rattle.rowset.proofs.Counts.{mask-count, count-to, countTo-le}
 use Rattle.fraction.specs.Fraction.{Fraction}
@@ -41,8 +43,8 @@ use Rattle.verdict.proofs.Verdicts.{first-last, first-passed, when-passed}
 use Rattle.places.proofs.Verdicts.{Source, Fit, one-accepted, two-accepted, sets-accepted}
 use Rattle.operations.specs.declared.Proposed.{Proposed}
 use Rattle.operations.specs.declared.Operated.{Operated}
-use Rattle.operations.specs.declared.Bounded.the-variants as answer
-use Rattle.operations.specs.Operations.{factorTest, operationVerdict, operationCall, productAt, takenAt, submatrixAt, minorAt}
+use Rattle.operations.specs.declared.Performed.the-variants as answer
+use Rattle.operations.specs.Operations.{done, factorTest, operationVerdict, operationCall, productAt, takenAt, submatrixAt, minorAt}
 use Rattle.operations.specs.Operations.{singular, chosenTests, submatrixTests}
 use Rattle.operations.specs.Reports.{operatedOutcome}
 use Rattle.operations.specs.Proposed.{turnedDown, proposal, proposed, kept, rangedOf, Keepable}
@@ -64,7 +66,13 @@ ready-demand {t} {n} {o} w = demand n o (w .some) (w .few) (w .six) (w .proper) 
 
 -- WHAT THE RULE'S CODE HANDS BACK for an operation
 abbrev pub resultOf : ℕ → Operation Number → Refactored
-resultOf n o = record { factors = tableOf (size n o) (result rounded n o); rows = size n o; bound = bound n o }
+resultOf n o = record { factors = tableOf (size n o) (result rounded n o); rows = size n o; bound = bound n o; steps = stepsMade rounded n o }
+
+-- the steps that it makes are those foretold
+pub ready-foretold : {t n : ℕ} {o : Operation Number} → Ready t n o → stepsMade rounded n o ≡ stepsForetold n o
+ready-foretold {t} {n} {o} w =
+    let d = ready-demand w in
+    steps-foretold rounded n o (w .some) (w .proper .fit) (d .divisors-below) (d .divisors-above)
 
 -- what is not judged to be zero is above it
 above-zero : (x : Fraction) → eqb (x .top) 0 ≡ false → AboveZero x
@@ -180,12 +188,12 @@ module _ (L : List Verdict) (t n : ℕ) (o : Operation Number) (ready : firstOf 
   unfolding proposed
   operation-turned w e =
       let v : operationVerdict L n o ≡ Refused w = first-last L (factorTest n o) ∙ ap (λ (u : Verdict). orElse u (factorTest n o)) e in
-      ap (λ (u : Verdict). proposal u (size n o) (bound n o) (result rounded n o)) (sym v)
+      ap (λ (u : Verdict). proposal u (size n o) (bound n o) (stepsMade rounded n o) (result rounded n o)) (sym v)
 
   by-range : (t : Bool)
       → cond t (turnedDown (record { number = 14; offset = 0 }))
-      (record { answer = answer.Bound (bound n o); rows = size n o; factors = tableOf (size n o) (result rounded n o) })
-      ≡ proposal (when t 14) (size n o) (bound n o) (result rounded n o)
+      (record { answer = answer.Done (bound n o) (stepsMade rounded n o); rows = size n o; factors = tableOf (size n o) (result rounded n o) })
+      ≡ proposal (when t 14) (size n o) (bound n o) (stepsMade rounded n o) (result rounded n o)
   by-range true = refl
   by-range false = refl
 
@@ -196,12 +204,12 @@ module _ (L : List Verdict) (t n : ℕ) (o : Operation Number) (ready : firstOf 
       let v : operationVerdict L n o ≡ factorTest n o = first-last L (factorTest n o) ∙ ap (λ (u : Verdict). orElse u (factorTest n o)) e in
       ap rangedOf f
       ∙ by-range (outside (tableOf (size n o) b))
-      ∙ ap (λ (t : Bool). proposal (when t 14) (size n o) (bound n o) b) (outside-table (size n o) b (ready e .fits))
-      ∙ ap (λ (u : Verdict). proposal u (size n o) (bound n o) b) (sym v)
+      ∙ ap (λ (t : Bool). proposal (when t 14) (size n o) (bound n o) (stepsMade rounded n o) b) (outside-table (size n o) b (ready e .fits))
+      ∙ ap (λ (u : Verdict). proposal u (size n o) (bound n o) (stepsMade rounded n o) b) (sym v)
 
   answered : (y : Proposed) → y ≡ proposed L n o → (y ≡ proposed L n o) × Keepable t y
   unfolding proposed
-  answered = result-answered t (size n o) (bound n o) (result rounded n o) (operationVerdict L n o) operation-fits
+  answered = result-answered t (size n o) (bound n o) (stepsMade rounded n o) (result rounded n o) (operationVerdict L n o) operation-fits
 
   -- the two ways in which a result is answered
   pub answered-turned : (w : Refusal) (y : Proposed) → firstOf L ≡ Refused w → y ≡ turnedDown w → (y ≡ proposed L n o) × Keepable t y
@@ -213,12 +221,15 @@ module _ (L : List Verdict) (t n : ℕ) (o : Operation Number) (ready : firstOf 
   module _ (s : Shelf) (good : Good s) where
     pub operation-good : Good (operationCall s L t n o .shelf)
     unfolding operationCall
-    operation-good = result-good t (size n o) (bound n o) (result rounded n o) (operationVerdict L n o) operation-fits s good
+    operation-good =
+        result-good t (size n o) (result rounded n o) (operationVerdict L n o) operation-fits s good (done (bound n o) (stepsMade rounded n o))
 
-    pub operation-met : operationVerdict L n o ≡ Accepted → Met (holding s t (size n o) (result rounded n o)) t n o (bound n o)
+    pub operation-met : operationVerdict L n o ≡ Accepted → Met (holding s t (size n o) (result rounded n o)) t n o (bound n o) (stepsMade rounded n o)
     operation-met e = record {
       bound-is = refl;
-      held = result-held t (size n o) (bound n o) (result rounded n o) (operationVerdict L n o) operation-fits s good e;
+      steps-are = refl;
+      foretold = ready-foretold (ready (verdict e .0));
+      held = result-held t (size n o) (result rounded n o) (operationVerdict L n o) operation-fits s good e;
       demand = operation-demand (verdict e .0);
     }
 
@@ -226,7 +237,7 @@ module _ (L : List Verdict) (t n : ℕ) (o : Operation Number) (ready : firstOf 
         → (operatedOutcome y ≡ operationCall s L t n o) × (Good (y .shelf) × Promised (y .shelf) t n o (y .answer))
     unfolding operationCall proposed
     operation-done =
-        result-done (λ s k. Met s t n o k) s t (size n o) (bound n o) (result rounded n o) (operationVerdict L n o) operation-met
+        result-done (λ s k e. Met s t n o k e) s t (size n o) (bound n o) (stepsMade rounded n o) (result rounded n o) (operationVerdict L n o) operation-met
 
 -- THE TESTS OF A SUBMATRIX: those of its places and sets (`chosen-verdict`, `chosen-fit`), and then that it is not singular (`chosen-turned`, `chosen-tested`)
 module _ (s : Shelf) (p I J t : ℕ) where

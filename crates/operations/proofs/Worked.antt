@@ -19,17 +19,20 @@ use Rattle.words.specs.Sources.{BandedNumbers, Walkable, Sources}
 use Rattle.words.proofs.Steps.{sources-weaken}
 use Rattle.words.proofs.Banded.{banded-walkable}
 use Rattle.words.proofs.Chosen.{count-all, among-all}
+use Rattle.words.specs.Effort.{stepsMade, minorForetold, resultSteps}
+use Rattle.words.proofs.Effort.{walk-steps}
+use Rattle.words.proofs.Sums.{sums-same, quotient-steps}
 use Rattle.words.proofs.Formulas.{divisible-equal, newFactor-equal}
 use Rattle.walk.specs.declared.Joined.{Joined}
 use Rattle.walk.specs.Lent.{stepsOf, stepAt, numbered, AllSpelled}
 use Rattle.table.specs.Table.{tableOf}
 use Rattle.walk.proofs.Minors.{steps-length}
 use Rattle.rule.specs.declared.Refactored.{Refactored}
-use Rattle.rule.specs.Chosen.{chosenOf, chosenMinor, chosenFactors, turnedBy, Workable}
+use Rattle.rule.specs.Chosen.{chosenOf, chosenMinor, chosenFactors, chosenSteps, turnedBy, Workable}
 use Rattle.rule.specs.Result.{workOf}
 use Rattle.table.proofs.Table.{table-same}
 use Rattle.operations.proofs.Made.{Made}
-use Rattle.operations.proofs.Results.{Ready, ready-demand, resultOf}
+use Rattle.operations.proofs.Results.{Ready, ready-demand, ready-foretold, resultOf}
 
 -- the masks p and q give the rows and the columns of an operation on sources of n rows
 pub record Sets (n : ℕ) (o : Operation Number) (p q : ℕ) : Type 0 where
@@ -117,10 +120,22 @@ module _ (t : ℕ) (o : Operation Number) (w : Joined) (s : List ℕ) (p q : ℕ
   own-count : w .count ≡ length (steps o)
   own-count = sym (steps-length (stepAt w s) numbered (w .count) six) ∙ ap length same
 
+  -- the walks' steps are the operation's: both are those foretold
+  own-steps : resultSteps (chosenSteps (chosenOf w p q) s) (maskCount p) ≡ stepsMade rounded n o
+  unfolding chosenSteps
+  own-steps =
+      sums-same (maskCount p) _ _ (λ i j x y. quotient-steps _ _ (λ k. walk-steps n k (stepsOf w s) (ready .some)
+      ∙ ap (λ (L : List (Step Number)). minorForetold (length L) n k) same) i j)
+      ∙ ap (resultSteps (minorForetold (length (steps o)) n)) (sets .rows-many) ∙ sym (ready-foretold ready)
+
   own-result : workOf (chosenOf w p q) s ≡ resultOf n o
   own-result =
-      ap₂ (λ (f : List Number) (k : ℕ). let r : Refactored = record { factors = f; rows = k; bound = boundOf (w .count) n } in r) own-factors (sets .rows-many)
-      ∙ ap (λ (m : ℕ). let r : Refactored = record { factors = tableOf (size n o) (result rounded n o); rows = size n o; bound = boundOf m n } in r) own-count
+      let d : ℕ = resultSteps (chosenSteps (chosenOf w p q) s) (maskCount p) in
+      ap₂ (λ (f : List Number) (k : ℕ). let r : Refactored = record { factors = f; rows = k; bound = boundOf (w .count) n; steps = d } in r)
+      own-factors (sets .rows-many)
+      ∙ ap₂
+      (λ (m e : ℕ). let r : Refactored = record { factors = tableOf (size n o) (result rounded n o); rows = size n o; bound = boundOf m n; steps = e } in r)
+      own-count own-steps
 
 -- A WORD MADE of the operation's steps, with its letters l
 module _ (t n : ℕ) (o : Operation Number) {w : Joined} {l s : List ℕ} {p q : ℕ} (made : Made n (steps o) w l s) (sets : Sets n o p q)

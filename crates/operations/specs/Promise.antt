@@ -1,5 +1,6 @@
 -- What an accepted product, re-signed inverse, converse or submatrix promises (`Promised`): demand 3 of the operation on the sources as the call found them,
--- with the bound that is returned and the factors that are stored. What an accepted build promises of its stamps (`BuildPromised`).
+-- with the bound that is returned and the factors that are stored, and that the steps returned are those made and those foretold. What an accepted build
+-- promises of its stamps (`BuildPromised`).
 use mathlib.Core.Path.{_≡_}
 use mathlib.Core.List.{List}
 use Prim.Native.Nat.{ℕ}
@@ -9,31 +10,36 @@ use Rattle.number.specs.Number.{rounded}
 use Rattle.words.specs.RowSet.{In}
 use Rattle.words.specs.Word.{Factors}
 use Rattle.words.specs.Operation.{Operation, size, bound, result}
+use Rattle.words.specs.Effort.{stepsMade, stepsForetold}
 use Rattle.factors.specs.Demand.{Demand}
 use Rattle.stamps.specs.Stamps.{builtFactors, stampBound, Stamped}
 use Rattle.places.specs.declared.Shelf.{Shelf}
 use Rattle.places.specs.Shelf.{rowsAt, factorsAt}
 use Rattle.operations.specs.declared.Bounded.{Bounded}
 use Rattle.operations.specs.declared.Bounded.the-variants as answer
+use Rattle.operations.specs.declared.Performed.{Performed}
+use Rattle.operations.specs.declared.Performed.the-variants as performed
 
 -- place t of the shelf holds n rows with the factors b
 pub record Holds (s : Shelf) (t n : ℕ) (b : Factors Number) : Type 0 where
   pub rows : rowsAt s t ≡ n
   pub factors : (i j : ℕ) → In n i → In n j → factorsAt s t i j ≡ b i j
 
--- place t of the shelf holds the result of the operation o on sources of n rows, and k is the bound
-pub record Met (s : Shelf) (t n : ℕ) (o : Operation Number) (k : ℕ) : Type 0 where
+-- place t of the shelf holds the result of the operation o on sources of n rows, k is the bound, and e the steps that were made, which are those foretold
+pub record Met (s : Shelf) (t n : ℕ) (o : Operation Number) (k e : ℕ) : Type 0 where
   pub bound-is : k ≡ bound n o
+  pub steps-are : e ≡ stepsMade rounded n o
+  pub foretold : e ≡ stepsForetold n o
   pub held : Holds s t (size n o) (result rounded n o)
   pub demand : Demand n o
 
--- what an answer promises: of a bound k, P of the shelf and of k; of a refusal nothing
-abbrev pub PromisedBy : (Shelf → ℕ → Type 0) → Shelf → Bounded → Type 0
-PromisedBy P s (answer.Bound k) = P s k
-PromisedBy P s (answer.Refused w) = Unit {0}
+-- what an answer promises: of a bound and steps, P of the shelf and of them; of a refusal nothing
+abbrev pub PromisedBy : (Shelf → ℕ → ℕ → Type 0) → Shelf → Performed → Type 0
+PromisedBy P s (performed.Done k e) = P s k e
+PromisedBy P s (performed.Refused w) = Unit {0}
 
-abbrev pub Promised : Shelf → ℕ → ℕ → Operation Number → Bounded → Type 0
-Promised s t n o = PromisedBy (λ s k. Met s t n o k) s
+abbrev pub Promised : Shelf → ℕ → ℕ → Operation Number → Performed → Type 0
+Promised s t n o = PromisedBy (λ s k e. Met s t n o k e) s
 
 -- place t of the shelf holds the factors of the stamps, as many rows as there are stamps, and k is the bound
 pub record Built (s : Shelf) (t : ℕ) (stamps : List ℕ) (k : ℕ) : Type 0 where
@@ -42,4 +48,5 @@ pub record Built (s : Shelf) (t : ℕ) (stamps : List ℕ) (k : ℕ) : Type 0 wh
   pub stamped : Stamped stamps
 
 abbrev pub BuildPromised : Shelf → ℕ → List ℕ → Bounded → Type 0
-BuildPromised s t stamps = PromisedBy (λ s k. Built s t stamps k) s
+BuildPromised s t stamps (answer.Bound k) = Built s t stamps k
+BuildPromised s t stamps (answer.Refused w) = Unit {0}

@@ -1,5 +1,5 @@
--- The code's own step between working a result and keeping it (`Proposed`): k rows with factors and a bound, or a refusal and no rows. Nothing that a caller
--- sees.
+-- The code's own step between working a result and keeping it (`Proposed`): k rows with factors, a bound and steps, or a refusal and no rows. Nothing
+-- that a caller sees.
 use Prim.Native.Nat.{ℕ, _<_}
 use mathlib.Core.Path.{_≡_}
 use mathlib.Core.Bool.{cond}
@@ -9,6 +9,7 @@ use Rattle.number.specs.declared.Number.{Number}
 use Rattle.number.specs.Number.{zeroNumber, rounded}
 use Rattle.words.specs.Word.{Factors, exchanged}
 use Rattle.words.specs.Operation.{Operation, size, bound, result}
+use Rattle.words.specs.Effort.{stepsMade}
 use Rattle.rule.specs.declared.Refactored.{Refactored}
 use Rattle.table.specs.Table.{tableOf}
 use Rattle.verdict.specs.declared.Refusal.{Refusal}
@@ -21,44 +22,54 @@ use Rattle.places.specs.Shelf.{rowsAt, factorsAt, withTable, Fits}
 use Rattle.places.specs.Tests.{oneSource}
 use Rattle.stamps.specs.Stamps.{builtFactors, stampBound}
 use Rattle.operations.specs.Operations.{buildTests, operationVerdict}
-use Rattle.operations.specs.declared.Bounded.{Bounded}
-use Rattle.operations.specs.declared.Bounded.the-variants as answer
+use Rattle.operations.specs.declared.Bounded.the-variants as bounded
+use Rattle.operations.specs.declared.Performed.{Performed}
+use Rattle.operations.specs.declared.Performed.the-variants as answer
+use Rattle.operations.specs.declared.Filled.{Filled}
 use Rattle.operations.specs.declared.Proposed.{Proposed}
 use Rattle.operations.specs.declared.Operated.{Operated}
 
 abbrev pub turnedDown : Refusal → Proposed
 turnedDown w = record { answer = answer.Refused w; rows = 0; factors = replicate 64 zeroNumber }
 
--- k rows with factors b, and the bound e, by a verdict
-abbrev pub proposal : Verdict → ℕ → ℕ → Factors Number → Proposed
-proposal Accepted k e b = record { answer = answer.Bound e; rows = k; factors = tableOf k b }
-proposal (Refused w) k e b = turnedDown w
+-- k rows with factors b, the bound e and x steps, by a verdict
+abbrev pub proposal : Verdict → ℕ → ℕ → ℕ → Factors Number → Proposed
+proposal Accepted k e x b = record { answer = answer.Done e x; rows = k; factors = tableOf k b }
+proposal (Refused w) k e x b = turnedDown w
 
 -- the transpose of place p, and the matrix of powers of time stamps, to place t
 abbrev pub transposeProposal : Shelf → ℕ → ℕ → Proposed
-transposeProposal s p t = proposal (firstOf (oneSource s p t)) (rowsAt s p) 0 (exchanged (factorsAt s p))
+transposeProposal s p t = proposal (firstOf (oneSource s p t)) (rowsAt s p) 0 0 (exchanged (factorsAt s p))
 
 abbrev pub buildProposal : Shelf → ℕ → List ℕ → Proposed
-buildProposal s t stamps = proposal (firstOf (buildTests s t stamps)) (length stamps) stampBound (builtFactors stamps)
+buildProposal s t stamps = proposal (firstOf (buildTests s t stamps)) (length stamps) stampBound 0 (builtFactors stamps)
 
 -- a result of the rule
 unfoldable pub proposed : List Verdict → ℕ → Operation Number → Proposed
-proposed L n o = proposal (operationVerdict L n o) (size n o) (bound n o) (result rounded n o)
+proposed L n o = proposal (operationVerdict L n o) (size n o) (bound n o) (stepsMade rounded n o) (result rounded n o)
 
 -- what the rule's code handed back, put to the test of its exponents
 unfoldable pub rangedOf : Refactored → Proposed
 rangedOf x =
     cond (outside (x .factors)) (turnedDown (record { number = 14; offset = 0 }))
-    (record { answer = answer.Bound (x .bound); rows = x .rows; factors = x .factors })
+    (record { answer = answer.Done (x .bound) (x .steps); rows = x .rows; factors = x .factors })
 
 -- a result kept at place t
-abbrev pub keptBy : Shelf → ℕ → Proposed → Bounded → Operated
-keptBy s t x (answer.Bound e) = record { shelf = withTable s t (x .rows) (x .factors); answer = answer.Bound e }
+abbrev pub keptBy : Shelf → ℕ → Proposed → Performed → Operated
+keptBy s t x (answer.Done e d) = record { shelf = withTable s t (x .rows) (x .factors); answer = answer.Done e d }
 keptBy s t x (answer.Refused w) = record { shelf = s; answer = answer.Refused w }
 
 unfoldable pub kept : Shelf → ℕ → Proposed → Operated
 kept s t x = keptBy s t x (x .answer)
 
+-- a build's answer, which has no steps
+abbrev pub filledAnswer : Shelf → Performed → Filled
+filledAnswer s (answer.Done e d) = record { shelf = s; answer = bounded.Bound e }
+filledAnswer s (answer.Refused w) = record { shelf = s; answer = bounded.Refused w }
+
+unfoldable pub filledBy : Operated → Filled
+filledBy x = filledAnswer (x .shelf) (x .answer)
+
 -- what can be kept: where it was not turned down, it fits a place of the shelf
 abbrev pub Keepable : ℕ → Proposed → Type 0
-Keepable t x = (e : ℕ) → x .answer ≡ answer.Bound e → (t < 8) × Fits (x .rows) (x .factors)
+Keepable t x = (e d : ℕ) → x .answer ≡ answer.Done e d → (t < 8) × Fits (x .rows) (x .factors)

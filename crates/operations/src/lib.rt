@@ -4,7 +4,8 @@ ghost use mathlib.Core.Path.{_≡_};
 ghost use Rattle.places.specs.Shelf.{rowsAt, Good};
 ghost use Rattle.operations.specs.Operations.{productAt, inverseAt, converseAt, submatrixAt};
 ghost use Rattle.operations.specs.Operations.{transposeCall, buildCall, productCall, inverseCall, converseCall, submatrixCall, minorCall};
-ghost use Rattle.operations.specs.Reports.{operatedOutcome, valuedReport};
+ghost use Rattle.operations.specs.Reports.{filledOutcome, operatedOutcome, valuedReport};
+ghost use Rattle.operations.specs.Forecast.{forecastCall, taskCall, foretoldReport, Foretelling};
 ghost use Rattle.operations.specs.Promise.{Promised, BuildPromised};
 use number::Number;
 use places::Shelf;
@@ -14,20 +15,50 @@ use verdict::Verdict;
 use verdict::test;
 use walk::Way;
 
+mod ahead; // ahead.rt: forecasts
+mod effort; // effort.rt: steps by sizes
 mod value; // value.rt: a minor
 mod work; // work.rt: results, and how they are kept
 
 pub enum Bounded {
-    // The result's factors are within so many unit roundings.
+    // The factors are within so many unit roundings.
     Bound(u32),
+    Refused(Refusal),
+}
+
+pub enum Performed {
+    // The result's factors are within so many unit roundings, and took so many steps.
+    Done { bound: u32, steps: usize },
     Refused(Refusal),
 }
 
 // The result of an operation before it is kept.
 pub struct Proposed {
-    answer: Bounded,
+    answer: Performed,
     rows: usize,
     factors: [Number; 64],
+}
+
+// An operation on places, without its target.
+pub enum Task {
+    Product {
+        left: usize,
+        right: usize,
+    },
+    Inverse(usize),
+    Converse(usize),
+    Transpose(usize),
+    Submatrix {
+        source: usize,
+        rows: u8,
+        columns: u8,
+    },
+}
+
+pub enum Foretold {
+    // The operation will make so many steps.
+    Steps(usize),
+    Refused(Refusal),
 }
 
 pub enum Valued {
@@ -38,6 +69,12 @@ pub enum Valued {
 
 // The shelf after an operation.
 pub struct Operated {
+    pub shelf: Shelf,
+    pub answer: Performed,
+}
+
+// The shelf after a place was filled from time stamps.
+pub struct Filled {
     pub shelf: Shelf,
     pub answer: Bounded,
 }
@@ -52,13 +89,13 @@ pub fn transpose(shelf: Shelf, source: usize, target: usize) -> Operated
 }
 
 // The matrix whose row i holds the powers 0 to n - 1 of stamp i, from n time stamps, 1 to 8, to an empty place.
-pub fn build(shelf: Shelf, target: usize, stamps: &[u64]) -> Operated
+pub fn build(shelf: Shelf, target: usize, stamps: &[u64]) -> Filled
     requires { ⌜ Good shelf ⌝ }
-    ensures { λ r. ⌜ operatedOutcome r ≡ buildCall shelf target (now (stamps .entry)) ⌝ }
+    ensures { λ r. ⌜ filledOutcome r ≡ buildCall shelf target (now (stamps .entry)) ⌝ }
     ensures { λ r. ⌜ Good (r .shelf) ⌝ }
     ensures { λ r. ⌜ BuildPromised (r .shelf) target (now (stamps .entry)) (r .answer) ⌝ }
 {
-    work::keep(shelf, target, work::built(shelf, target, stamps))
+    work::filled(work::keep(shelf, target, work::built(shelf, target, stamps)))
 }
 
 // The product of two places, left times right, to an empty place.
@@ -113,6 +150,44 @@ pub fn submatrix(shelf: Shelf, source: usize, rows: u8, columns: u8, target: usi
         target,
         work::submatrix(shelf, source, row_set, column_set, target),
     )
+}
+
+// An operation, to an empty place.
+pub fn perform(shelf: Shelf, task: Task, target: usize) -> Operated
+    requires { ⌜ Good shelf ⌝ }
+    ensures { λ r. ⌜ operatedOutcome r ≡ taskCall shelf task target ⌝ }
+    ensures { λ r. ⌜ Good (r .shelf) ⌝ }
+{
+    match task {
+        Task::Product { left, right } => product(shelf, left, right, target),
+        Task::Inverse(source) => inverse(shelf, source, target),
+        Task::Converse(source) => converse(shelf, source, target),
+        Task::Transpose(source) => transpose(shelf, source, target),
+        Task::Submatrix {
+            source,
+            rows,
+            columns,
+        } => submatrix(shelf, source, rows, columns, target),
+    }
+}
+
+// The steps that an operation will make, without working it.
+pub fn forecast(shelf: Shelf, task: Task) -> Foretold
+    requires { ⌜ Good shelf ⌝ }
+    ensures { λ r. ⌜ foretoldReport r ≡ forecastCall shelf task ⌝ }
+    ensures { λ r. ⌜ Foretelling shelf task (foretoldReport r) ⌝ }
+{
+    match task {
+        Task::Product { left, right } => ahead::product(shelf, left, right),
+        Task::Inverse(source) => ahead::whole(shelf, source),
+        Task::Converse(source) => ahead::whole(shelf, source),
+        Task::Transpose(source) => ahead::transpose(shelf, source),
+        Task::Submatrix {
+            source,
+            rows,
+            columns,
+        } => ahead::submatrix(shelf, source, rowset::wide(rows), rowset::wide(columns)),
+    }
 }
 
 // Any minor of a place, its row and column sets given as masks.

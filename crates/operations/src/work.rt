@@ -6,9 +6,11 @@ ghost use Rattle.places.specs.Shelf.{rowsAt, Good};
 ghost use Rattle.places.specs.Tests.{oneSource, twoSources};
 ghost use Rattle.verdict.specs.Verdict.{firstOf};
 ghost use Rattle.operations.specs.Operations.{productAt, takenAt, submatrixAt, submatrixTests};
-ghost use Rattle.operations.specs.Proposed.{turnedDown, transposeProposal, buildProposal, proposed, kept, rangedOf, Keepable};
+ghost use Rattle.operations.specs.Proposed.{turnedDown, transposeProposal, buildProposal, proposed, kept, filledBy, rangedOf, Keepable};
 use crate::Bounded;
+use crate::Filled;
 use crate::Operated;
+use crate::Performed;
 use crate::Proposed;
 use crate::value;
 use places::Shelf;
@@ -26,7 +28,7 @@ fn turned_down(why: Refusal) -> Proposed
 {
     let factors = table::blank();
     Proposed {
-        answer: Bounded::Refused(why),
+        answer: Performed::Refused(why),
         rows: 0,
         factors,
     }
@@ -40,22 +42,40 @@ pub fn keep(shelf: Shelf, target: usize, result: Proposed) -> Operated
 {
     let answer = result.answer;
     match answer {
-        Bounded::Bound(bound) => {
+        Performed::Done { bound, steps } => {
             let factors = result.factors;
             let after = places::with_table(shelf, target, result.rows, factors);
             Operated {
                 shelf: after,
-                answer: Bounded::Bound(bound),
+                answer: Performed::Done { bound, steps },
             }
         }
-        Bounded::Refused(why) => Operated {
+        Performed::Refused(why) => Operated {
+            shelf,
+            answer: Performed::Refused(why),
+        },
+    }
+}
+
+// What a build answers: it works no minor, so that there are no steps to tell.
+pub fn filled(x: Operated) -> Filled
+    ensures { λ r. ⌜ r ≡ filledBy x ⌝ }
+{
+    let shelf = x.shelf;
+    let answer = x.answer;
+    match answer {
+        Performed::Done { bound, steps: _ } => Filled {
+            shelf,
+            answer: Bounded::Bound(bound),
+        },
+        Performed::Refused(why) => Filled {
             shelf,
             answer: Bounded::Refused(why),
         },
     }
 }
 
-// The transpose: factors exchanged, no rounding.
+// The transpose: factors exchanged, no rounding and no steps.
 pub fn transposed(shelf: Shelf, source: usize, target: usize) -> Proposed
     requires { ⌜ Good shelf ⌝ }
     ensures { λ r. ⌜ r ≡ transposeProposal shelf source target ⌝ }
@@ -68,7 +88,7 @@ pub fn transposed(shelf: Shelf, source: usize, target: usize) -> Proposed
     let rows = places::rows_at(shelf, source);
     let factors = table::exchanged(places::table_at(shelf, source));
     Proposed {
-        answer: Bounded::Bound(0),
+        answer: Performed::Done { bound: 0, steps: 0 },
         rows,
         factors,
     }
@@ -87,7 +107,10 @@ pub fn built(shelf: Shelf, target: usize, stamps: &[u64]) -> Proposed
     }
     let factors = stamps::table(stamps);
     Proposed {
-        answer: Bounded::Bound(11),
+        answer: Performed::Done {
+            bound: 11,
+            steps: 0,
+        },
         rows: stamps.len(),
         factors,
     }
@@ -105,7 +128,10 @@ fn ranged(result: Refactored) -> Proposed
         });
     }
     Proposed {
-        answer: Bounded::Bound(result.bound),
+        answer: Performed::Done {
+            bound: result.bound,
+            steps: result.steps,
+        },
         rows: result.rows,
         factors,
     }

@@ -43,6 +43,10 @@ targetTests s t = when (above t) 1 ∷ when (full s t) 12 ∷ []
 abbrev pub oneSource : Shelf → ℕ → ℕ → List Verdict
 oneSource s p t = when (above p) 1 ∷ when (above t) 1 ∷ when (empty s p) 11 ∷ when (full s t) 12 ∷ []
 
+-- two sources alone
+abbrev pub bothSources : Shelf → ℕ → ℕ → List Verdict
+bothSources s l r = when (above l) 1 ∷ when (above r) 1 ∷ when (empty s l) 11 ∷ when (empty s r) 11 ∷ when (differ s l r) 13 ∷ []
+
 -- two sources and a target
 abbrev pub twoSources : Shelf → ℕ → ℕ → ℕ → List Verdict
 twoSources s l r t =

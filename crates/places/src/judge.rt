@@ -2,7 +2,7 @@
 ghost use mathlib.Core.Path.{_≡_};
 ghost use Prim.Native.Nat.{_≤_, _<_};
 ghost use Rattle.verdict.specs.Verdict.{firstOf};
-ghost use Rattle.places.specs.Tests.{unfit, sourceTests, targetTests, oneSource, twoSources};
+ghost use Rattle.places.specs.Tests.{unfit, sourceTests, targetTests, oneSource, bothSources, twoSources};
 use crate::Shelf;
 use crate::rows_at;
 use verdict::Verdict;
@@ -41,6 +41,21 @@ pub fn one_source(shelf: Shelf, source: usize, target: usize) -> Verdict
     v = test(v, 7 < target, 1);
     v = test(v, rows == 0, 11);
     v = test(v, there != 0, 12);
+    v
+}
+
+// Two sources alone.
+pub fn both_sources(shelf: Shelf, left: usize, right: usize) -> Verdict
+    ensures { λ r. ⌜ r ≡ firstOf (bothSources shelf left right) ⌝ }
+{
+    let first = rows_at(shelf, left);
+    let second = rows_at(shelf, right);
+    let mut v = Verdict::Accepted;
+    v = test(v, 7 < left, 1);
+    v = test(v, 7 < right, 1);
+    v = test(v, first == 0, 11);
+    v = test(v, second == 0, 11);
+    v = test(v, first != second, 13);
     v
 }
 

@@ -1,5 +1,5 @@
 -- A reply is given where its text was put and its shelf is handed back (`replied`), and one for an outcome is one for an equal outcome (`told-as`,
--- `bytes-as`). The answer to a line by its length (`answer-overlong`, `answer-asked`).
+-- `performed-as`, `bytes-as`). The answer to a line by its length (`answer-overlong`, `answer-asked`).
 use Prim.Native.Nat.{ℕ}
 use mathlib.Core.Path.{_≡_, refl, sym, _∙_}
 use mathlib.Core.Bool.{Bool, true, false}
@@ -14,7 +14,7 @@ use Rattle.shelf.specs.Calls.{writeCall, carryCall}
 use Rattle.shelf.specs.Run.{run, write, carry}
 use Rattle.requests.specs.Requests.{requestOf}
 use Rattle.replies.specs.declared.calls.Answered.{Answered}
-use Rattle.replies.specs.Replies.{Reply, Replied, told, toldBytes, reply, replyTo, overlong, answerTo}
+use Rattle.replies.specs.Replies.{Reply, Replied, told, toldPerformed, toldBytes, reply, replyTo, overlong, answerTo}
 
 module _ {out after : List ℕ} {at : ℕ} {r : Answered} where
   pub replied : {reply : Reply} {s : Shelf} {to : ℕ} →
@@ -23,6 +23,9 @@ module _ {out after : List ℕ} {at : ℕ} {r : Answered} where
 
   pub told-as : (word : List ℕ) (o : Outcome) {o′ : Outcome} → o ≡ o′ → Replied (told word o) out at after r → Replied (told word o′) out at after r
   told-as word o e p = rw e at p
+
+  pub performed-as : (o : Outcome) {o′ : Outcome} → o ≡ o′ → Replied (toldPerformed o) out at after r → Replied (toldPerformed o′) out at after r
+  performed-as o e p = rw e at p
 
   -- with the bytes that were lent
   pub bytes-as : (word : List ℕ) (o : Outcome) {s : Shelf} {report : Report} {bytes : List ℕ} → o .shelf ≡ s → report ≡ o .report → bytes ≡ o .bytes

@@ -1,6 +1,6 @@
 -- NO ANSWER IS LONG (`answer-short`): whatever the line, on a good shelf its answer has at most `longestAnswer` bytes. A call returns few values, and what it
 -- is lent stays as long as it was; the longest is a carry with 512 items lent, of 66 bytes each. By cases on the console's word.
-use Prim.Native.Nat.{ℕ, _≤_, _<_}
+use Prim.Native.Nat.{ℕ, _+_, _≤_, _<_}
 use native.Mathlib.Omega.{arith}
 use mathlib.Core.Bool.{Bool}
 use mathlib.Core.List.{List}
@@ -14,16 +14,21 @@ use Rattle.notices.proofs.Room.{refusal-short}
 use Rattle.places.specs.declared.Shelf.{Shelf}
 use Rattle.places.specs.Shelf.{Good}
 use Rattle.places.specs.Tests.{above}
-use Rattle.shelf.specs.Run.{Call, run}
+use Rattle.shelf.specs.Run.{Call, operate, run}
 use Rattle.shelf.proofs.Returns.{report-few, write-length, sentence-length, carry-length, rest-length}
-use Rattle.answers.proofs.Lengths.{report-short, worked-short, items-short, place-short}
+use Rattle.answers.proofs.Lengths.{report-short, two-short, items-short, place-short}
 use Rattle.requests.specs.declared.commands.Command.{Command}
-use Rattle.requests.specs.declared.commands.Command.the-variants.{Load, Write, Drop, Product, Inverse, Converse, Transpose, Submatrix, Build}
-use Rattle.requests.specs.declared.commands.Command.the-variants.{Minor, Carry, Reversals, Add, Multiply, Divide, Rest, Sentence, Show, Bad}
+use Rattle.requests.specs.declared.commands.Command.the-variants.{Load, Write, Length, Drop, Operation, Build, Minor, Carry, Reversals}
+use Rattle.requests.specs.declared.commands.Command.the-variants.{Add, Multiply, Divide, Rest, Sentence, Show, Bad}
+use Rattle.requests.specs.declared.commands.Kind.{Kind}
+use Rattle.requests.specs.declared.commands.Mode.{Mode}
+use Rattle.requests.specs.declared.commands.Mode.the-variants.{Direct, Foretold}
 use Rattle.requests.specs.Requests.{Asked, requestOf}
 use Rattle.requests.proofs.Tails.{request-bytes}
-use Rattle.replies.specs.Calls.{lentCount, lentBytes, lentItems, showText}
-use Rattle.replies.specs.Replies.{Reply, told, toldWorked, toldBytes, toldItems, replyBy, replyTo, overlong, answerTo, replyToLine, longestAnswer}
+use Rattle.replies.specs.Calls.{lentCount, lentBytes, lentItems, taskOf, showText}
+use Rattle.answers.specs.Answers.{twoTexts}
+use Rattle.replies.specs.Replies.{Reply, reply, told, toldWorked, toldBytes, toldItems, operationReply, replyBy, replyTo, overlong, answerTo}
+use Rattle.replies.specs.Replies.{replyToLine, longestAnswer}
 use Rattle.replies.proofs.Lent.{length-items}
 
 -- there is room for the end of the line
@@ -35,9 +40,13 @@ module _ (s : Shelf) (c : Call) where
   unfolding Short
   told-short word h = omega (arith, report-short word (run s c .report), report-few s c)
 
-  told-worked : Short (toldWorked (run s c))
+  told-two : (word : List ℕ) (k : ℕ) (other : List ℕ) → length word + length other ≤ 18
+      → Short (reply (run s c .shelf) (twoTexts word k other (run s c .report)))
   unfolding Short
-  told-worked = omega (arith, worked-short (run s c .report), report-few s c)
+  told-two word k other h = omega (arith, two-short word k other (run s c .report), report-few s c)
+
+  told-worked : Short (toldWorked (run s c))
+  told-worked = told-two (ascii "number") 2 (ascii " rest") (omega arith)
 
   told-bytes : (word : List ℕ) → length word ≤ 9 → length (run s c .bytes) ≤ 2048 → Short (toldBytes word (run s c))
   unfolding Short
@@ -61,6 +70,10 @@ show-short s g p =
     cond-cases (λ t. length t ≤ 6300) (above p) {a = refusalText 1 0} (λ e. omega (arith, refusal-short 1 0))
     (λ e. place-short s p (g .held p (omega (arith, ltb-false 7 p e)) .few))
 
+operation-short : (s : Shelf) (mode : Mode) (kind : Kind) (v : List ℕ) → Short (operationReply s mode kind v)
+operation-short s Direct kind v = told-two s (operate (taskOf kind v) (getD v 3 0)) (ascii "bound") 1 (ascii " steps") (omega arith)
+operation-short s Foretold kind v = told-short s _ (ascii "steps") (omega arith)
+
 -- THE CONSOLE'S WORDS
 by-short : (s : Shelf) → Good s → (c : Command) (v bytes : List ℕ) (items : List ℤ) (wholes : List ℕ) → length bytes ≤ 2048
     → Short (replyBy s c v bytes items wholes)
@@ -68,12 +81,9 @@ unfolding replyBy Short
 by-short s g Load v bytes items wholes h = told-short s _ (ascii "loaded") (omega arith)
 by-short s g Write v bytes items wholes h =
     told-bytes s _ (ascii "wrote") (omega arith) (omega (arith, write-length s (getD v 0 0) (lentBytes (lentCount (getD v 1 0))), lent-bytes (getD v 1 0)))
+by-short s g Length v bytes items wholes h = told-short s _ (ascii "length") (omega arith)
 by-short s g Drop v bytes items wholes h = told-short s _ (ascii "dropped") (omega arith)
-by-short s g Product v bytes items wholes h = told-short s _ (ascii "bound") (omega arith)
-by-short s g Inverse v bytes items wholes h = told-short s _ (ascii "bound") (omega arith)
-by-short s g Converse v bytes items wholes h = told-short s _ (ascii "bound") (omega arith)
-by-short s g Transpose v bytes items wholes h = told-short s _ (ascii "bound") (omega arith)
-by-short s g Submatrix v bytes items wholes h = told-short s _ (ascii "bound") (omega arith)
+by-short s g (Operation mode kind) v bytes items wholes h = operation-short s mode kind v
 by-short s g Build v bytes items wholes h = told-short s _ (ascii "bound") (omega arith)
 by-short s g Minor v bytes items wholes h = told-short s _ (ascii "number") (omega arith)
 by-short s g Carry v bytes items wholes h =

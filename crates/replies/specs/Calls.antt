@@ -1,11 +1,15 @@
--- What the console lends to a call (`lentBytes`, `lentItems`), and its answer to `show` (`showText`).
-use Prim.Native.Nat.{ℕ, zero, suc, min}
+-- What the console lends to a call (`lentBytes`, `lentItems`), the operation that a word names (`taskOf`), and the answer to `show` (`showText`).
+use Prim.Native.Nat.{ℕ, zero, suc, min, _%_}
 use mathlib.Core.Bool.{cond}
 use mathlib.Core.List.{List, [], _∷_}
 use lib.IntN.{ℤ, pos}
-use lib.ListN.{replicate}
+use lib.ListN.{replicate, getD}
+use Rattle.requests.specs.declared.commands.Kind.{Kind}
+use Rattle.requests.specs.declared.commands.Kind.the-variants as kind
 use Rattle.places.specs.declared.Shelf.{Shelf}
 use Rattle.places.specs.Tests.{above}
+use Rattle.operations.specs.declared.Task.{Task}
+use Rattle.operations.specs.declared.Task.the-variants.{Product, Inverse, Converse, Transpose, Submatrix}
 use Rattle.notices.specs.Sentence.{refusalText}
 use Rattle.answers.specs.Matrix.{placeText}
 
@@ -20,6 +24,21 @@ lentBytes n = replicate n 0xa5
 unfoldable pub lentItems : ℕ → List ℤ
 lentItems zero = []
 lentItems (suc n) = pos 1 ∷ pos 2147483648 ∷ pos 0 ∷ lentItems n
+
+-- a mask has eight bits
+abbrev pub mask : ℕ → ℕ
+mask n = n % 256
+
+-- an operation by its kind, with the first of its numbers
+abbrev pub taskBy : Kind → (a b c : ℕ) → Task
+taskBy kind.Product a b c = Product a b
+taskBy kind.Inverse a b c = Inverse a
+taskBy kind.Converse a b c = Converse a
+taskBy kind.Transpose a b c = Transpose a
+taskBy kind.Submatrix a b c = Submatrix a (mask b) (mask c)
+
+abbrev pub taskOf : Kind → List ℕ → Task
+taskOf kind v = taskBy kind (getD v 0 0) (getD v 1 0) (getD v 2 0)
 
 -- what a place holds
 unfoldable pub showText : Shelf → ℕ → List ℕ

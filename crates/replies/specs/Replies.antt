@@ -1,6 +1,6 @@
 -- What the console does with a line (`replyToLine`), by what it asks (`replyTo`): the shelf after it, and the text of its answer. A word of the console is one
 -- row (`replyBy`): the call that it asks for, the word of the answer, and whether the bytes or items that the call left follow that.
-use Prim.Native.Nat.{ℕ, _%_}
+use Prim.Native.Nat.{ℕ}
 use mathlib.Core.Path.{_≡_}
 use mathlib.Core.Bool.{Bool, cond, _||_}
 use mathlib.Core.List.{List, _++_}
@@ -13,16 +13,18 @@ use Rattle.rests.specs.declared.Operator.the-variants as Operator
 use Rattle.places.specs.declared.Shelf.{Shelf}
 use Rattle.places.specs.Outcome.{Outcome}
 use Rattle.notices.specs.Sentence.{notice}
-use Rattle.shelf.specs.Run.{run, load, write, drop, product, inverse, converse, transpose, submatrix, build, minor}
-use Rattle.shelf.specs.Run.{carry, reversals, arithmetic, rest, sentence}
-use Rattle.answers.specs.Answers.{reportText, workedText, withBytes, badText}
+use Rattle.shelf.specs.Run.{run, load, write, byteLength, drop, operate, forecast, build, minor, carry, reversals, arithmetic, rest, sentence}
+use Rattle.answers.specs.Answers.{reportText, performedText, workedText, withBytes, badText}
 use Rattle.answers.specs.Items.{withItems}
 use Rattle.replies.specs.declared.calls.Answered.{Answered}
 use Rattle.requests.specs.declared.commands.Command.{Command}
-use Rattle.requests.specs.declared.commands.Command.the-variants.{Load, Write, Drop, Product, Inverse, Converse, Transpose, Submatrix, Build}
-use Rattle.requests.specs.declared.commands.Command.the-variants.{Minor, Carry, Reversals, Add, Multiply, Divide, Rest, Sentence, Show, Bad}
+use Rattle.requests.specs.declared.commands.Command.the-variants.{Load, Write, Length, Drop, Operation, Build, Minor, Carry, Reversals}
+use Rattle.requests.specs.declared.commands.Command.the-variants.{Add, Multiply, Divide, Rest, Sentence, Show, Bad}
+use Rattle.requests.specs.declared.commands.Kind.{Kind}
+use Rattle.requests.specs.declared.commands.Mode.{Mode}
+use Rattle.requests.specs.declared.commands.Mode.the-variants.{Direct, Foretold}
 use Rattle.requests.specs.Requests.{Asked, requestOf}
-use Rattle.replies.specs.Calls.{lentCount, lentBytes, lentItems, showText}
+use Rattle.replies.specs.Calls.{lentCount, lentBytes, lentItems, mask, taskOf, showText}
 
 pub record Reply : Type 0 where
   pub shelf : Shelf
@@ -41,6 +43,10 @@ told word o = record { shelf = o .shelf; text = reportText word (o .report) }
 abbrev pub toldWorked : Outcome → Reply
 toldWorked o = record { shelf = o .shelf; text = workedText (o .report) }
 
+-- and for an operation, which has a bound and steps
+abbrev pub toldPerformed : Outcome → Reply
+toldPerformed o = record { shelf = o .shelf; text = performedText (o .report) }
+
 -- and behind that all the bytes, or items, as the call left them
 abbrev pub toldBytes : (word : List ℕ) → Outcome → Reply
 toldBytes word o = record { shelf = o .shelf; text = withBytes (reportText word (o .report)) (o .bytes) }
@@ -52,20 +58,18 @@ toldItems word o = record { shelf = o .shelf; text = withItems (reportText word 
 abbrev pub reply : Shelf → List ℕ → Reply
 reply s text = record { shelf = s; text = text }
 
--- a mask has eight bits
-abbrev pub mask : ℕ → ℕ
-mask n = n % 256
+-- AN OPERATION AS IT IS ASKED FOR, with its numbers v, of which the last is its target: worked, or foretold
+abbrev pub operationReply : Shelf → Mode → Kind → (v : List ℕ) → Reply
+operationReply s Direct kind v = toldPerformed (run s (operate (taskOf kind v) (getD v 3 0)))
+operationReply s Foretold kind v = told (ascii "steps") (run s (forecast (taskOf kind v)))
 
 -- THE CONSOLE'S WORDS, each with its numbers v, bytes, items and whole numbers
 unfoldable pub replyBy : Shelf → Command → (v bytes : List ℕ) → List ℤ → (wholes : List ℕ) → Reply
 replyBy s Load v bytes items wholes = told (ascii "loaded") (run s (load (getD v 0 0) bytes))
 replyBy s Write v bytes items wholes = toldBytes (ascii "wrote") (run s (write (getD v 0 0) (lentBytes (lentCount (getD v 1 0)))))
+replyBy s Length v bytes items wholes = told (ascii "length") (run s (byteLength (getD v 0 0)))
 replyBy s Drop v bytes items wholes = told (ascii "dropped") (run s (drop (getD v 0 0)))
-replyBy s Product v bytes items wholes = told (ascii "bound") (run s (product (getD v 0 0) (getD v 1 0) (getD v 2 0)))
-replyBy s Inverse v bytes items wholes = told (ascii "bound") (run s (inverse (getD v 0 0) (getD v 1 0)))
-replyBy s Converse v bytes items wholes = told (ascii "bound") (run s (converse (getD v 0 0) (getD v 1 0)))
-replyBy s Transpose v bytes items wholes = told (ascii "bound") (run s (transpose (getD v 0 0) (getD v 1 0)))
-replyBy s Submatrix v bytes items wholes = told (ascii "bound") (run s (submatrix (getD v 0 0) (mask (getD v 1 0)) (mask (getD v 2 0)) (getD v 3 0)))
+replyBy s (Operation mode kind) v bytes items wholes = operationReply s mode kind v
 replyBy s Build v bytes items wholes = told (ascii "bound") (run s (build (getD v 0 0) wholes))
 replyBy s Minor v bytes items wholes = told (ascii "number") (run s (minor (getD v 0 0) (mask (getD v 1 0)) (mask (getD v 2 0))))
 replyBy s Carry v bytes items wholes = toldItems (ascii "carried") (run s (carry (getD v 0 0) items (lentItems (lentCount (getD v 1 0)))))

@@ -6,9 +6,10 @@ ghost use Rattle.lines.specs.Text.{Puts};
 ghost use Rattle.places.specs.Shelf.{Good};
 ghost use Rattle.answers.specs.Answers.{badText};
 ghost use Rattle.requests.specs.Requests.{asked, requestOf};
-ghost use Rattle.replies.specs.Replies.{Replied, mask, replyBy, replyTo, overlong, answerTo, replyToLine};
+ghost use Rattle.replies.specs.Replies.{Replied, replyBy, replyTo, overlong, answerTo, replyToLine};
 use crate::calls;
 use crate::calls::Answered;
+use crate::tasks;
 use requests::Command;
 use requests::Request;
 use shelf::Operator;
@@ -16,14 +17,7 @@ use shelf::Shelf;
 
 pub const LONGEST: usize = 4096;
 
-// Masks are read as numbers of at most 255.
-fn mask(n: usize) -> u8
-    ensures { λ r. ⌜ r ≡ mask n ⌝ }
-{
-    (n % 256) as u8
-}
-
-fn bad(out: &mut [u8], at: usize) -> usize
+pub fn bad(out: &mut [u8], at: usize) -> usize
     ensures { λ r. ⌜ Puts (now (out .entry)) at badText (now (out .exit)) r ⌝ }
 {
     answers::put_bad(out, at)
@@ -68,20 +62,14 @@ fn to_command(
     let a = v[0];
     let b = v[1];
     let c = v[2];
-    let d = v[3];
-    let rows = mask(b);
-    let cols = mask(c);
     match command {
         Command::Load => calls::load(shelf, a, bytes, out, at),
         Command::Write => calls::write(shelf, a, b, out, at),
+        Command::Length => calls::length(shelf, a, out, at),
         Command::Drop => calls::drop(shelf, a, out, at),
-        Command::Product => calls::operated(shelf::product(shelf, a, b, c), out, at),
-        Command::Inverse => calls::operated(shelf::inverse(shelf, a, b), out, at),
-        Command::Converse => calls::operated(shelf::converse(shelf, a, b), out, at),
-        Command::Transpose => calls::operated(shelf::transpose(shelf, a, b), out, at),
-        Command::Submatrix => calls::operated(shelf::submatrix(shelf, a, rows, cols, d), out, at),
-        Command::Build => calls::operated(shelf::build(shelf, a, wholes), out, at),
-        Command::Minor => calls::minor(shelf, a, rows, cols, out, at),
+        Command::Operation { mode, kind } => tasks::answer(shelf, mode, kind, v, out, at),
+        Command::Build => calls::filled(shelf::build(shelf, a, wholes), out, at),
+        Command::Minor => calls::minor(shelf, a, tasks::mask(b), tasks::mask(c), out, at),
         Command::Carry => calls::carry(shelf, a, b, list, out, at),
         Command::Reversals => calls::reversals(shelf, list, out, at),
         Command::Add => calls::arithmetic(shelf, Operator::Add, list, out, at),

@@ -3,17 +3,17 @@ ghost use mathlib.Core.Path.{_≡_};
 ghost use Rattle.lines.specs.Ascii.{ascii};
 ghost use Rattle.lines.specs.Text.{Puts};
 ghost use Rattle.places.specs.Shelf.{Good};
-ghost use Rattle.operations.specs.Reports.{operatedOutcome};
+ghost use Rattle.operations.specs.Reports.{filledOutcome};
 ghost use Rattle.shelf.specs.Reports.{changedOutcome};
 ghost use Rattle.writer.specs.Encoding.{writtenReport};
 ghost use Rattle.notices.specs.Sentence.{notice};
-ghost use Rattle.shelf.specs.Run.{run, load, write, drop, minor, carry, reversals, arithmetic, rest, sentence};
+ghost use Rattle.shelf.specs.Run.{run, load, write, byteLength, drop, minor, carry, reversals, arithmetic, rest, sentence};
 ghost use Rattle.answers.specs.Answers.{reportText, withBytes};
 ghost use Rattle.replies.specs.Calls.{lentCount, lentBytes, lentItems, showText};
 ghost use Rattle.replies.specs.Replies.{Replied, told, toldWorked, toldBytes, toldItems, reply};
 use crate::items;
 use shelf::Changed;
-use shelf::Operated;
+use shelf::Filled;
 use shelf::Operator;
 use shelf::Refusal;
 use shelf::Shelf;
@@ -59,11 +59,11 @@ pub fn drop(shelf: Shelf, place: usize, out: &mut [u8], at: usize) -> Answered
     changed(shelf::drop_place(shelf, place), b"dropped", out, at)
 }
 
-// What an operation did.
-pub fn operated(done: Operated, out: &mut [u8], at: usize) -> Answered
+// What a build did.
+pub fn filled(done: Filled, out: &mut [u8], at: usize) -> Answered
     requires { ⌜ Good (done .shelf) ⌝ }
     ensures { λ r. ⌜ Good (r .shelf) ⌝ }
-    ensures { λ r. ⌜ Replied (told (ascii "bound") (operatedOutcome done)) (now (out .entry)) at (now (out .exit)) r ⌝ }
+    ensures { λ r. ⌜ Replied (told (ascii "bound") (filledOutcome done)) (now (out .entry)) at (now (out .exit)) r ⌝ }
 {
     let shelf = done.shelf;
     let answer = done.answer;
@@ -87,7 +87,7 @@ fn wrote(shelf: Shelf, answer: Written, bytes: &[u8], out: &mut [u8], at: usize)
     ensures { λ r. ⌜ Replied (reply shelf (withBytes (reportText (ascii "wrote") (writtenReport answer)) (now (bytes .entry))))
         (now (out .entry)) at (now (out .exit)) r ⌝ }
 {
-    let space = answers::put_written(out, at, answer);
+    let space = answers::put_written(out, at, b"wrote", answer);
     let buffer = lines::put(out, space, b" ");
     after(shelf, lines::put_bytes(out, buffer, bytes))
 }
@@ -112,6 +112,16 @@ pub fn write(shelf: Shelf, place: usize, count: usize, out: &mut [u8], at: usize
     let bytes: &mut [u8] = &mut memory;
     let n = lent(count);
     write_to(shelf, place, &mut bytes[0..n], out, at)
+}
+
+// How many bytes that takes.
+pub fn length(shelf: Shelf, place: usize, out: &mut [u8], at: usize) -> Answered
+    requires { ⌜ Good shelf ⌝ }
+    ensures { λ r. ⌜ Good (r .shelf) ⌝ }
+    ensures { λ r. ⌜ Replied (told (ascii "length") (run shelf (byteLength place))) (now (out .entry)) at (now (out .exit)) r ⌝ }
+{
+    let answer = shelf::length(shelf, place);
+    after(shelf, answers::put_written(out, at, b"length", answer))
 }
 
 // Writes the sentence of a refusal to lent bytes, which the answer ends with.

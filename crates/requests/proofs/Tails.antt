@@ -19,14 +19,17 @@ use Rattle.lines.specs.Hexadecimal.{hexadecimal, spelledBytes, bytesRead, bytes
 use Rattle.lines.proofs.Text.{cond-cases}
 use Rattle.requests.specs.declared.commands.Command.{Command}
 use Rattle.requests.specs.declared.commands.Form.{Form}
+use Rattle.requests.specs.declared.commands.Mode.{Mode}
+use Rattle.requests.specs.declared.commands.Mode.the-variants.{Direct, Foretold}
 use Rattle.requests.specs.declared.commands.Tail.{Tail}
 use Rattle.requests.specs.declared.commands.Tail.the-variants.{None, Bytes, Items, Two, Stamps, Places}
 use Rattle.requests.specs.declared.request.Request.{Request}
 use Rattle.requests.specs.Words.{wordsOf, wordsAt, firstWord, wordsBehind}
-use Rattle.requests.specs.Commands.{formOf}
+use Rattle.requests.specs.Commands.{modeOf, formBy}
 use Rattle.requests.specs.Items.{spelledItems}
 use Rattle.requests.specs.Wholes.{spelledWholes}
-use Rattle.requests.specs.Requests.{Asked, Values, askedAlone, askedBytes, askedItems, askedWholes, asked, bad, letterNumbers, requestOf}
+use Rattle.requests.specs.Requests.{Asked, Values, askedAlone, askedBytes, askedItems, askedWholes, asked, bad, letterNumbers}
+use Rattle.requests.specs.Requests.{ownWords, startOf, requestBy, requestOf}
 use Rattle.requests.specs.Requests.{withNothing, withBytes, withList, withItems, withTwo, withTail}
 use Rattle.requests.proofs.Listed.{Counted, take-sets}
 use Rattle.requests.proofs.Triples.{items-counted}
@@ -151,14 +154,22 @@ module _ (command : Command) (values : List ℕ) where
     pub two-other : (r .items ≡ 2 → ⊥) → bad ≡ withTwo command values ws
     two-other e = two-bad ws (λ six. e (omega (arith, read-length, length-take (r .items * 3) list)))
 
-module _ (line : List ℕ) (form : Form) (next : ℕ) (o : Option Values) where
-  pub request-is : form ≡ formOf (wordAt line 0) → next ≡ nextWord line 0 → o ≡ letterNumbers (form .letters) (wordsAt line next)
-      → withTail (form .command) (form .tail) o ≡ requestOf line
+own-words : (mode : Mode) (line : List ℕ) → wordsAt line (startOf mode line) ≡ ownWords mode (wordsOf line)
+own-words Direct line = words-all line
+own-words Foretold line = sym (words-behind line 0) ∙ ap wordsBehind (words-all line)
+
+module _ (line : List ℕ) (mode : Mode) (form : Form) (start next : ℕ) (o : Option Values) where
+  pub request-is : mode ≡ modeOf (wordAt line 0) → start ≡ startOf mode line → form ≡ formBy mode (wordAt line start) → next ≡ nextWord line start
+      → o ≡ letterNumbers (form .letters) (wordsAt line next) → withTail (form .command) (form .tail) o ≡ requestOf line
   unfolding requestOf
-  request-is ef en eo =
+  request-is em es ef en eo =
       let first : firstWord (wordsOf line) ≡ wordAt line 0 = ap firstWord (sym (words-all line)) ∙ first-word line 0 in
-      let behind : wordsBehind (wordsOf line) ≡ wordsAt line (nextWord line 0) = ap wordsBehind (sym (words-all line)) ∙ words-behind line 0 in
-      rw (eo, en, ef, first, behind)
+      let word : firstWord (ownWords mode (wordsOf line)) ≡ wordAt line (startOf mode line)
+      = ap firstWord (sym (own-words mode line)) ∙ first-word line (startOf mode line) in
+      let behind : wordsBehind (ownWords mode (wordsOf line)) ≡ wordsAt line (nextWord line (startOf mode line))
+      = ap wordsBehind (sym (own-words mode line)) ∙ words-behind line (startOf mode line) in
+      let same : withTail (form .command) (form .tail) o ≡ requestBy mode (wordsOf line) = rw (eo, en, ef, es, word, behind) in
+      same ∙ ap (λ m. requestBy m (wordsOf line)) (em ∙ ap modeOf (sym first))
 
 -- only a word in hexadecimal gives a request bytes, and at most 2048
 abbrev FewBytes : Asked → Type 0
@@ -190,4 +201,8 @@ tail-few command t (some v) = words-few command t (v .values) (v .left)
 
 pub request-bytes : (line : List ℕ) → length (requestOf line .bytes) ≤ 2048
 unfolding requestOf
-request-bytes line = let f = formOf (firstWord (wordsOf line)) in tail-few (f .command) (f .tail) (letterNumbers (f .letters) (wordsBehind (wordsOf line)))
+request-bytes line =
+    let mode = modeOf (firstWord (wordsOf line)) in
+    let ws = ownWords mode (wordsOf line) in
+    let f = formBy mode (firstWord ws) in
+    tail-few (f .command) (f .tail) (letterNumbers (f .letters) (wordsBehind ws))

@@ -1,12 +1,17 @@
--- The console's words (`firstForms`, `secondForms`): the form of each, and the form that a word names (`formOf`).
+-- The console's words (`operationForms`, `firstForms`, `secondForms`): the form of each, and the form that a word names (`formBy`). A word in front of an
+-- operation's words says how it is asked for (`modeOf`).
 use Prim.Native.Nat.{ℕ}
 use Prim.Native.String.{String}
 use mathlib.Core.Bool.{cond}
 use mathlib.Core.List.{List, [], _∷_}
+use lib.ListN.{set}
 use Rattle.lines.specs.Ascii.{ascii}
 use Rattle.requests.specs.declared.commands.Command.{Command}
-use Rattle.requests.specs.declared.commands.Command.the-variants.{Load, Write, Drop, Product, Inverse, Converse, Transpose, Submatrix, Build}
-use Rattle.requests.specs.declared.commands.Command.the-variants.{Minor, Carry, Reversals, Add, Multiply, Divide, Rest, Sentence, Show, Bad}
+use Rattle.requests.specs.declared.commands.Command.the-variants.{Load, Write, Length, Drop, Operation, Build, Minor, Carry, Reversals}
+use Rattle.requests.specs.declared.commands.Command.the-variants.{Add, Multiply, Divide, Rest, Sentence, Show, Bad}
+use Rattle.requests.specs.declared.commands.Kind.the-variants.{Product, Inverse, Converse, Transpose, Submatrix}
+use Rattle.requests.specs.declared.commands.Mode.{Mode}
+use Rattle.requests.specs.declared.commands.Mode.the-variants.{Direct, Foretold}
 use Rattle.requests.specs.declared.commands.Form.{Form}
 use Rattle.requests.specs.declared.commands.Tail.{Tail}
 use Rattle.requests.specs.declared.commands.Tail.the-variants.{None, Bytes, Items, Two, Stamps, Places}
@@ -21,16 +26,22 @@ pub record Entry : Type 0 where
 abbrev pub entry : String → Command → String → Tail → Entry
 entry word command letters tail = record { word = ascii word; form = record { command = command; letters = ascii letters; tail = tail } }
 
+-- the operations; the last number of each is its target
+abbrev pub operationForms : Mode → List Entry
+operationForms mode =
+    entry "product" (Operation mode Product) "PP-P" None
+    ∷ entry "inverse" (Operation mode Inverse) "P--P" None
+    ∷ entry "converse" (Operation mode Converse) "P--P" None
+    ∷ entry "transpose" (Operation mode Transpose) "P--P" None
+    ∷ entry "submatrix" (Operation mode Submatrix) "PMMP" None
+    ∷ []
+
 abbrev pub firstForms : List Entry
 firstForms =
     entry "load" Load "P---" Bytes
     ∷ entry "write" Write "PC--" None
+    ∷ entry "length" Length "P---" None
     ∷ entry "drop" Drop "P---" None
-    ∷ entry "product" Product "PPP-" None
-    ∷ entry "inverse" Inverse "PP--" None
-    ∷ entry "converse" Converse "PP--" None
-    ∷ entry "transpose" Transpose "PP--" None
-    ∷ entry "submatrix" Submatrix "PMMP" None
     ∷ entry "build" Build "P---" Stamps
     ∷ []
 
@@ -60,6 +71,15 @@ abbrev pub formFrom : List ℕ → List Entry → Form → Form
 formFrom w [] before = before
 formFrom w (e ∷ es) before = formFrom w es (entryForm w before (e .word) (e .form))
 
--- the form that a word names
-unfoldable pub formOf : List ℕ → Form
-formOf w = formFrom w secondForms (formFrom w firstForms noForm)
+-- how an operation is asked for, by the first word of a line: directly, or with a word in front of its own
+unfoldable pub modeOf : List ℕ → Mode
+modeOf w = cond (same w (ascii "forecast")) Foretold Direct
+
+-- a forecast names no target
+abbrev pub withoutTarget : Form → Form
+withoutTarget f = record { command = f .command; letters = set (f .letters) 3 45; tail = f .tail }
+
+-- the form that a word names: any, or behind a word in front an operation's
+unfoldable pub formBy : Mode → List ℕ → Form
+formBy Direct w = formFrom w secondForms (formFrom w firstForms (formFrom w (operationForms Direct) noForm))
+formBy Foretold w = withoutTarget (formFrom w (operationForms Foretold) noForm)

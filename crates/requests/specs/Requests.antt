@@ -15,12 +15,14 @@ use Rattle.lines.specs.Words.{wordAt, nextWord}
 use Rattle.requests.specs.declared.commands.Command.{Command}
 use Rattle.requests.specs.declared.commands.Command.the-variants.{Bad}
 use Rattle.requests.specs.declared.commands.Form.{Form}
+use Rattle.requests.specs.declared.commands.Mode.{Mode}
+use Rattle.requests.specs.declared.commands.Mode.the-variants.{Direct, Foretold}
 use Rattle.requests.specs.declared.commands.Tail.{Tail}
 use Rattle.requests.specs.declared.commands.Tail.the-variants.{None, Bytes, Items, Two, Stamps, Places}
 use Rattle.requests.specs.declared.request.Numbers.{Numbers}
 use Rattle.requests.specs.declared.request.Request.{Request}
 use Rattle.requests.specs.Words.{wordsOf, wordsAt, firstWord, wordsBehind}
-use Rattle.requests.specs.Commands.{formOf}
+use Rattle.requests.specs.Commands.{modeOf, formBy}
 use Rattle.requests.specs.Items.{spelledItems}
 use Rattle.requests.specs.Wholes.{spelledWholes}
 
@@ -152,5 +154,17 @@ withTail command Places (some v) = withWholes (2 ^ 32 - 1) command (v .values) (
 abbrev pub formRequest : Form → List (List ℕ) → Asked
 formRequest f ws = withTail (f .command) (f .tail) (letterNumbers (f .letters) ws)
 
+-- a line's words without the one in front of an operation's, and the index where they start
+abbrev pub ownWords : Mode → List (List ℕ) → List (List ℕ)
+ownWords Direct ws = ws
+ownWords Foretold ws = wordsBehind ws
+
+abbrev pub startOf : Mode → List ℕ → ℕ
+startOf Direct line = 0
+startOf Foretold line = nextWord line 0
+
+abbrev pub requestBy : Mode → List (List ℕ) → Asked
+requestBy mode ws = formRequest (formBy mode (firstWord (ownWords mode ws))) (wordsBehind (ownWords mode ws))
+
 unfoldable pub requestOf : List ℕ → Asked
-requestOf line = formRequest (formOf (firstWord (wordsOf line))) (wordsBehind (wordsOf line))
+requestOf line = requestBy (modeOf (firstWord (wordsOf line))) (wordsOf line)

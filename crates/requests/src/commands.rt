@@ -1,16 +1,29 @@
 // The words of the console, and what follows each: a table of forms.
 ghost use mathlib.Core.Path.{_≡_};
-ghost use Rattle.requests.specs.Commands.{firstForms, secondForms, noForm, entryForm, formFrom, formOf};
+ghost use Rattle.requests.specs.Commands.{operationForms, firstForms, secondForms, noForm, entryForm, formFrom, modeOf, withoutTarget, formBy};
 
-pub enum Command {
-    Load,
-    Write,
-    Drop,
+// The kinds of operations.
+pub enum Kind {
     Product,
     Inverse,
     Converse,
     Transpose,
     Submatrix,
+}
+
+// How an operation is asked for: directly, or with a word in front of its own.
+pub enum Mode {
+    Direct,
+    // `forecast`.
+    Foretold,
+}
+
+pub enum Command {
+    Load,
+    Write,
+    Length,
+    Drop,
+    Operation { mode: Mode, kind: Kind },
     Build,
     Minor,
     Carry,
@@ -67,17 +80,39 @@ fn named(
     before
 }
 
+fn operation(
+    word: &[u8],
+    before: Form,
+    name: &[u8],
+    mode: Mode,
+    kind: Kind,
+    letters: &[u8; 4],
+) -> Form
+    ensures { λ r. ⌜ r ≡ entryForm (now (word .entry)) before (now (name .entry))
+        (record { command = Command.Operation mode kind; letters = now (letters .entry); tail = Tail.None }) ⌝ }
+{
+    let command = Command::Operation { mode, kind };
+    named(word, before, name, command, letters, Tail::None)
+}
+
+// The last number of an operation is its target.
+fn operation_forms(w: &[u8], mode: Mode, before: Form) -> Form
+    ensures { λ r. ⌜ r ≡ formFrom (now (w .entry)) (operationForms mode) before ⌝ }
+{
+    let f = operation(w, before, b"product", mode, Kind::Product, b"PP-P");
+    let f = operation(w, f, b"inverse", mode, Kind::Inverse, b"P--P");
+    let f = operation(w, f, b"converse", mode, Kind::Converse, b"P--P");
+    let f = operation(w, f, b"transpose", mode, Kind::Transpose, b"P--P");
+    operation(w, f, b"submatrix", mode, Kind::Submatrix, b"PMMP")
+}
+
 fn first_forms(w: &[u8], before: Form) -> Form
     ensures { λ r. ⌜ r ≡ formFrom (now (w .entry)) firstForms before ⌝ }
 {
     let f = named(w, before, b"load", Command::Load, b"P---", Tail::Bytes);
     let f = named(w, f, b"write", Command::Write, b"PC--", Tail::None);
+    let f = named(w, f, b"length", Command::Length, b"P---", Tail::None);
     let f = named(w, f, b"drop", Command::Drop, b"P---", Tail::None);
-    let f = named(w, f, b"product", Command::Product, b"PPP-", Tail::None);
-    let f = named(w, f, b"inverse", Command::Inverse, b"PP--", Tail::None);
-    let f = named(w, f, b"converse", Command::Converse, b"PP--", Tail::None);
-    let f = named(w, f, b"transpose", Command::Transpose, b"PP--", Tail::None);
-    let f = named(w, f, b"submatrix", Command::Submatrix, b"PMMP", Tail::None);
     named(w, f, b"build", Command::Build, b"P---", Tail::Stamps)
 }
 
@@ -105,9 +140,37 @@ fn no_form() -> Form
     }
 }
 
-// The form that a word names.
-pub fn form_of(word: &[u8]) -> Form
-    ensures { λ r. ⌜ r ≡ formOf (now (word .entry)) ⌝ }
+// How an operation is asked for, by the first word of a line.
+pub fn mode_of(word: &[u8]) -> Mode
+    ensures { λ r. ⌜ r ≡ modeOf (now (word .entry)) ⌝ }
 {
-    second_forms(word, first_forms(word, no_form()))
+    if check::same(word, b"forecast") {
+        return Mode::Foretold;
+    }
+    Mode::Direct
+}
+
+fn without_target(form: Form) -> Form
+    ensures { λ r. ⌜ r ≡ withoutTarget form ⌝ }
+{
+    let command = form.command;
+    let mut letters = form.letters;
+    let tail = form.tail;
+    letters[3] = b'-';
+    Form {
+        command,
+        letters,
+        tail,
+    }
+}
+
+// The form that a word names: any, or behind a word in front an operation's.
+pub fn form_by(mode: Mode, word: &[u8]) -> Form
+    ensures { λ r. ⌜ r ≡ formBy mode (now (word .entry)) ⌝ }
+{
+    let operation = operation_forms(word, mode, no_form());
+    match mode {
+        Mode::Direct => second_forms(word, first_forms(word, operation)),
+        Mode::Foretold => without_target(operation),
+    }
 }

@@ -6,5 +6,7 @@ mod request; // request.rt: a line's command and numbers, and what stands behind
 mod wholes; // wholes.rt: lists of whole numbers
 
 pub use commands::Command;
+pub use commands::Kind;
+pub use commands::Mode;
 pub use request::Request;
 pub use request::of_line;

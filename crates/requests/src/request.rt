@@ -5,10 +5,11 @@ ghost use Prim.Native.Nat.{_≤_};
 ghost use Rattle.requests.specs.Words.{wordsAt};
 ghost use Rattle.requests.specs.Requests.{most, numberBy, indexBehind, letterNumbers, numbersRead};
 ghost use Rattle.requests.specs.Requests.{asked, Asks, AsksBytes, AsksItems, AsksWholes};
-ghost use Rattle.requests.specs.Requests.{bad, withNothing, withBytes, withItems, withTwo, withWholes, withTail, requestOf};
+ghost use Rattle.requests.specs.Requests.{bad, withNothing, withBytes, withItems, withTwo, withWholes, withTail, startOf, requestOf};
 use crate::commands;
 use crate::commands::Command;
 use crate::commands::Form;
+use crate::commands::Mode;
 use crate::commands::Tail;
 use crate::items;
 use crate::lists::ReadList;
@@ -245,6 +246,16 @@ fn with_tail(
     }
 }
 
+// Where a line's words start without the one in front of an operation's.
+fn start(line: &[u8], mode: Mode) -> usize
+    ensures { λ r. ⌜ r ≡ startOf mode (now (line .entry)) ⌝ }
+{
+    match mode {
+        Mode::Direct => 0,
+        Mode::Foretold => lines::next_word(line, 0),
+    }
+}
+
 // What a line asks. Its bytes, items or whole numbers go to the start of the buffers.
 pub fn of_line(
     line: &[u8],
@@ -254,8 +265,10 @@ pub fn of_line(
 ) -> Request
     ensures { λ r. ⌜ asked r (now (bytes .exit)) (now (list .exit)) (now (wholes .exit)) ≡ requestOf (now (line .entry)) ⌝ }
 {
-    let form = commands::form_of(lines::word(line, 0));
+    let mode = commands::mode_of(lines::word(line, 0));
+    let own = start(line, mode);
+    let form = commands::form_by(mode, lines::word(line, own));
     let letters = form.letters;
-    let read = read_numbers(line, letters, lines::next_word(line, 0));
+    let read = read_numbers(line, letters, lines::next_word(line, own));
     with_tail(line, form, read, bytes, list, wholes)
 }

@@ -1,14 +1,16 @@
--- Positions of masks among the masks with equally many rows: no two alike (position-injective), all below 70 (position-below).
+-- Positions of masks among the masks with equally many rows: no two alike (position-injective), all below 70 (position-below). How many
+-- masks of n rows have k of them (below-choose).
 use mathlib.Core.Path.{_≡_, refl, sym}
 use mathlib.Core.Bool.{Bool}
-use Prim.Native.Nat.{ℕ, suc, _≤_, _<_}
+use Prim.Native.Nat.{ℕ, suc, _^_, _≤_, _<_}
 use native.Mathlib.Decide.{decLt, le-ind}
 use native.Mathlib.Nat.{le-refl}
 use native.Mathlib.Omega.{arith}
 use borrow.Author.Tests.{eq-eqb}
-use lib.Dec.{T, leb, leb→le}
+use lib.Dec.{T, eqb, leb, leb→le, eqb→eq}
+use Rattle.words.specs.Effort.{choose}
 use Rattle.rowset.specs.Mask.{maskHas, countTo, maskCount, countBelow, positionOf}
-use Rattle.rowset.proofs.Finite.{all, all-at}
+use Rattle.rowset.proofs.Finite.{all, all-at, all₂, all₂-at}
 use Rattle.rowset.proofs.Counts.{countTo-le}
 
 -- NO TWO ALIKE
@@ -48,3 +50,15 @@ unfolding few maskCount
 position-below s h =
     let f : countBelow (maskCount s) 256 ≤ 70 = leb→le _ _ (all-at 9 few few-all (maskCount s) (omega (arith, countTo-le 8 s))) in
     omega (arith, below-suc s, below-mono (maskCount s) (suc s) 256 h)
+
+-- HOW MANY of the masks of n rows have k: a computed test
+chosen : ℕ → ℕ → Bool
+chosen n k = eqb (countBelow k (2 ^ n)) (choose n k)
+
+chosen-all : T (all₂ 8 9 chosen)
+unfolding chosen choose countBelow maskCount countTo maskHas
+chosen-all = tt
+
+pub below-choose : (n k : ℕ) → n ≤ 7 → k ≤ 8 → countBelow k (2 ^ n) ≡ choose n k
+unfolding chosen
+below-choose n k ln lk = eqb→eq _ _ (all₂-at 8 9 chosen chosen-all n k (omega arith) (omega arith))

@@ -1,5 +1,5 @@
 -- The minors that the formulas ask for: at masks that the walk takes (asked-ready), as the definition has them and fit to be multiplied and divided by
--- (asked-answer, chosen-ranged); of consecutive rows (run-ready, run-answer).
+-- (asked-answer, chosen-ranged), with as many rows (asked-rows); of consecutive rows (run-ready, run-answer, run-rows).
 use mathlib.Core.Path.{_≡_, refl, sym, ap, ap₂, _∙_, subst}
 use mathlib.Core.List.{List, []}
 use Prim.Native.Nat.{ℕ, suc, _+_, _-_, _*_, _^_, _≤_, _<_}
@@ -32,6 +32,10 @@ module _ (c : Chosen) {f : List ℕ} (P : Workable c f) where
   -- sets that count among the chosen rows, among the chosen columns
   asked-below : (s : ℕ) → (maskAmong (c .rows) s < 2 ^ c .word .n) × (maskAmong (c .columns) s < 2 ^ c .word .n)
   asked-below s = (among-below (c .word .n) (c .rows) s (P .few) (P .rows), among-below (c .word .n) (c .columns) s (P .few) (P .columns))
+
+  -- as many rows
+  pub asked-rows : (i i' : ℕ) → i < 2 ^ sizeOf c → i' ≡ maskAmong (c .rows) i → maskCount i' ≡ maskCount i
+  asked-rows i i' b e = ap maskCount e ∙ among-count (c .rows) i (omega (arith, P .rows, few-masks)) b
 
   asked-count : (i j : ℕ) → i < 2 ^ sizeOf c → j < 2 ^ sizeOf c → maskCount i ≡ maskCount j
       → maskCount (maskAmong (c .rows) i) ≡ maskCount (maskAmong (c .columns) j)
@@ -91,16 +95,20 @@ module _ (c : Chosen) {f : List ℕ} (P : Workable c f) where
 
   -- CONSECUTIVE ROWS a .. b and columns 1 .. m, s and t their masks
   module _ (a b m s t : ℕ) (ha : 1 ≤ a) (lb : b ≤ sizeOf c) (e : b + 1 ≡ a + m) (es : s ≡ maskRun a b) (et : t ≡ maskRun 1 m) where
+    pub run-rows : maskCount s ≡ m
+    run-rows =
+        let k = size-few in
+        let p : suc b - a ≡ m = omega arith in
+        ap maskCount es ∙ run-count a b ha (omega arith) (omega arith) ∙ p
+
     pub run-ready : Workable c f × (s < 2 ^ sizeOf c) × (t < 2 ^ sizeOf c) × (maskCount s ≡ maskCount t)
     run-ready =
         let k = size-few in
-        let p : suc b - a ≡ m = omega arith in
         let q : suc m - 1 ≡ m = omega arith in (
           P,
           subst (λ (x : ℕ). x < 2 ^ sizeOf c) (sym es) (run-below (sizeOf c) a b lb),
           subst (λ (x : ℕ). x < 2 ^ sizeOf c) (sym et) (run-below (sizeOf c) 1 m (omega arith)),
-          ap maskCount es ∙ run-count a b ha (omega arith) (omega arith) ∙ p
-              ∙ sym (ap maskCount et ∙ run-count 1 m (omega arith) (omega arith) (omega arith) ∙ q),
+          run-rows ∙ sym (ap maskCount et ∙ run-count 1 m (omega arith) (omega arith) (omega arith) ∙ q),
         )
 
     pub run-answer : {r : Number} (M : RowSet → RowSet → Number) → r ≡ M (ofMask (sizeOf c) s) (ofMask (sizeOf c) t)

@@ -1,19 +1,17 @@
 -- R by masks: what the search finds is the formula's set, of j - 1 rows (latest-mask, latest-mask-turned); the minors with R alone (alone-ready, alone-answer)
--- and with row i put in (with-ready, with-answer).
+-- and with row i put in (with-ready, with-answer, with-rows).
 use mathlib.Core.Path.{_≡_, sym, ap, ap₂, _∙_, subst}
-use mathlib.Core.Bool.{Bool, true, false, not}
+use mathlib.Core.Bool.{Bool, true, false}
 use mathlib.Core.List.{List}
 use Prim.Native.Nat.{ℕ, suc, _+_, _-_, _*_, _^_, _≤_, _<_}
 use native.Mathlib.Omega.{arith}
 use borrow.Author.Tests.{lt-ltb}
-use lib.Dec.{T, eqb, eqb→eq}
-use lib.Pow.{pow-mono, pow-pos}
+use lib.Pow.{pow-mono}
 use Rattle.number.specs.declared.Number.{Number}
 use Rattle.number.specs.Number.{rounded}
-use Rattle.rowset.specs.Mask.{digit, countTo, maskCount, maskRun, maskHas, maskPut, maskReplaced}
-use Rattle.rowset.proofs.Finite.{implies, implies-at, all₂, all₂-at}
+use Rattle.rowset.specs.Mask.{digit, maskCount, maskRun, maskHas, maskPut, maskReplaced}
 use Rattle.rowset.proofs.Bit.{has-beyond}
-use Rattle.rowset.proofs.Masks.{mask-put, put-below}
+use Rattle.rowset.proofs.Masks.{mask-put, put-below, ofMask-length}
 use Rattle.rowset.proofs.Counts.{mask-count, mask-run, run-below, run-count}
 use Rattle.words.specs.RowSet.{RowSet, count, put, allBefore, rows, ofMask}
 use Rattle.words.specs.Walk.{minor}
@@ -21,6 +19,7 @@ use Rattle.words.specs.Formula.{latestBefore, Divisible}
 use Rattle.words.specs.Operation.{joinedWord}
 use Rattle.words.proofs.RowSets.{length-rows}
 use Rattle.words.proofs.Runs.{count-rows}
+use Rattle.words.proofs.Foretold.{rows-before, count-put}
 use Rattle.words.proofs.Formulas.{latest-candidate}
 use Rattle.walk.specs.Lent.{stepsOf}
 use Rattle.presence.specs.Held.{latestHeld}
@@ -33,44 +32,17 @@ use Rattle.rule.proofs.Asked.{size-few}
 
 -- R has j - 1 rows: it is sought among the rows 1 .. j - 1 too
 module _ (k : ℕ) (few : k ≤ 8) (M : RowSet → RowSet → Number) (d : Divisible rounded k M) (i j : ℕ) (low : 1 ≤ j) (order : j ≤ i) (high : i ≤ k) where
-  lead-before : allBefore i (rows k 1 (j - 1)) ≡ true
-  unfolding maskRun
-  lead-before =
-      let g : j - 1 ≤ i - 1 = omega arith in
-      let p : 2 ^ (j - 1) ≤ 2 ^ (i - 1) = pow-mono g in
-      let z : 0 < 2 ^ (j - 1) = pow-pos (j - 1) in
-      let h : i - 1 ≤ k = omega arith in
-      let q : 2 ^ (i - 1) ≤ 2 ^ k = pow-mono h in
-      ap (allBefore i) (sym (mask-run k 1 (j - 1) few (omega arith) (omega arith)))
-      ∙ before-mask k i (maskRun 1 (j - 1)) few (omega arith) (omega arith) ∙ lt-ltb (maskRun 1 (j - 1)) (2 ^ (i - 1)) (omega arith)
-
   pub latest-rows : count (latestBefore rounded k M i j) ≡ j - 1
   latest-rows =
       latest-candidate rounded k M i j (rows k 1 (j - 1)) (length-rows k 1 (j - 1))
       (record {
-        before = lead-before;
+        before = rows-before k 1 (j - 1) i (omega arith);
         many = count-rows k 1 (j - 1) (omega arith) (omega arith) ∙ omega arith;
         nonzero = d .leading (j - 1) (omega arith);
       }) .many
 
 suc-pred : (i : ℕ) → 1 ≤ i → suc (i - 1) ≡ i
 suc-pred i l = omega arith
-
--- one row more: a computed test
-count-test : ℕ → ℕ → Bool
-count-test s i = implies (not (maskHas i s)) (eqb (maskCount (maskPut i true s)) (suc (maskCount s)))
-
-count-all : T (all₂ 256 8 (λ s i. count-test s (suc i)))
-unfolding count-test maskPut maskHas maskCount countTo
-count-all = tt
-
-count-put : (k i s : ℕ) → s < 2 ^ k → k ≤ 8 → 1 ≤ i → i ≤ k → maskHas i s ≡ false → count (put i true (ofMask k s)) ≡ suc (maskCount s)
-unfolding count-test
-count-put k i s l few low high f =
-    let h : 2 ^ k ≤ 2 ^ 8 = pow-mono few in
-    ap count (sym (mask-put k s l i true low high)) ∙ mask-count k (maskPut i true s) few (put-below k s l i true low high)
-    ∙ eqb→eq _ _ (implies-at (not (maskHas i s)) _ (subst (λ (x : ℕ). T (count-test s x)) (suc-pred i low)
-    (all₂-at 256 8 (λ s i. count-test s (suc i)) count-all s (i - 1) (omega arith) (omega arith))) (ap not f))
 
 -- WHAT THE SEARCH FINDS
 module _ (c : Chosen) {f : List ℕ} (P : Workable c f) (v : List Bool) (i j s : ℕ) (low : 1 ≤ j) (order : j ≤ i) (high : i ≤ sizeOf c) where
@@ -125,6 +97,9 @@ module _ (c : Chosen) {f : List ℕ} (P : Workable c f) (M : RowSet → RowSet �
   pub alone-answer : (t : ℕ) → t ≡ maskRun 1 (j - 1) → M (ofMask (sizeOf c) s) (ofMask (sizeOf c) t) ≡ aloneOf (sizeOf c) M i j
   alone-answer t e = ap₂ M (m .set) (ap (ofMask (sizeOf c)) e ∙ mask-run (sizeOf c) 1 (j - 1) (size-few c P) (omega arith) (omega (arith, size-few c P)))
 
+  before : allBefore i (ofMask (sizeOf c) s) ≡ true
+  before = before-mask (sizeOf c) i s (size-few c P) (omega (arith, size-few c P)) latest-below ∙ lt-ltb s (2 ^ (i - 1)) (m .below)
+
   free : maskHas i s ≡ false
   free = subst (λ (x : ℕ). maskHas x s ≡ false) (suc-pred i (omega arith)) (has-beyond (i - 1) (i - 1) s (m .below) (omega arith))
 
@@ -143,14 +118,18 @@ module _ (c : Chosen) {f : List ℕ} (P : Workable c f) (M : RowSet → RowSet �
     put-lt : u < 2 ^ sizeOf c
     put-lt = subst (λ (x : ℕ). x < 2 ^ sizeOf c) (sym put-is) (put-below (sizeOf c) s latest-below i true (omega arith) high)
 
+    pub with-rows : maskCount u ≡ j
+    with-rows =
+        sym (mask-count (sizeOf c) u (size-few c P) put-lt) ∙ ap count put-set
+        ∙ count-put i (ofMask (sizeOf c) s) (omega arith) (omega (arith, ofMask-length (sizeOf c) s)) before
+        ∙ ap suc (mask-count (sizeOf c) s (size-few c P) latest-below ∙ m .rows) ∙ omega arith
+
     pub with-ready : Workable c f × (u < 2 ^ sizeOf c) × (t < 2 ^ sizeOf c) × (maskCount u ≡ maskCount t)
     with-ready = (
       P,
       put-lt,
       subst (λ (x : ℕ). x < 2 ^ sizeOf c) (sym e) (run-below (sizeOf c) 1 j (omega arith)),
-      sym (mask-count (sizeOf c) u (size-few c P) put-lt) ∙ ap count put-set ∙ count-put (sizeOf c) i s latest-below (size-few c P) (omega arith) high free
-          ∙ ap suc (m .rows)
-          ∙ sym (ap maskCount e ∙ run-count 1 j (omega arith) (omega arith) (omega (arith, size-few c P)) ∙ omega arith),
+      with-rows ∙ sym (ap maskCount e ∙ run-count 1 j (omega arith) (omega arith) (omega (arith, size-few c P)) ∙ omega arith),
     )
 
     pub with-answer : M (ofMask (sizeOf c) u) (ofMask (sizeOf c) t) ≡ withRow (sizeOf c) M i j

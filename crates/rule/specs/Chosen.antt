@@ -1,4 +1,5 @@
--- A joined word with chosen rows and columns as the code holds it: the minors that the formulas ask for (chosenMinor), and the new factors (chosenFactors).
+-- A joined word with chosen rows and columns as the code holds it: the minors that the formulas ask for (chosenMinor), their steps (chosenSteps), and the new
+-- factors (chosenFactors).
 -- When the rule can be run (Workable): no divisor of the formulas is zero. What a run of it is lent (Lent).
 use mathlib.Core.Path.{_≡_}
 use mathlib.Core.Bool.{Bool, true, false}
@@ -13,6 +14,7 @@ use Rattle.words.specs.Walk.{minor}
 use Rattle.words.specs.Formula.{newFactor, Divisible}
 use Rattle.words.specs.Operation.{joinedWord}
 use Rattle.words.specs.Sources.{Walkable, Sources}
+use Rattle.words.specs.Effort.{walkSteps}
 use Rattle.rowset.specs.Sets.{Tables}
 use Rattle.walk.specs.declared.Joined.{Joined}
 use Rattle.walk.specs.Lent.{stepsOf, AllSpelled}
@@ -34,6 +36,10 @@ chosenColumns c = ofMask (c .word .n) (c .columns)
 -- the minor at sets that count among the chosen rows and columns, the word's factors being f
 unfoldable pub chosenMinor : Chosen → List ℕ → RowSet → RowSet → Number
 chosenMinor c f I J = minor rounded (joinedWord (c .word .n) (stepsOf (c .word) f)) (among (chosenRows c) I) (among (chosenColumns c) J)
+
+-- the steps of a minor of p rows: the walk is over the whole joined word
+unfoldable pub chosenSteps : Chosen → List ℕ → ℕ → ℕ
+chosenSteps c f p = walkSteps (c .word .n) p (joinedWord (c .word .n) (stepsOf (c .word) f))
 
 -- the new factors
 abbrev pub chosenFactors : Chosen → List ℕ → Factors Number

@@ -1,5 +1,5 @@
 // New factors (document 01, "The rounded rule"; with zeros, document 02, (e)): each from minors of a joined word, worked afresh, by the formulas; and `work`,
-// which every operation calls.
+// which every operation calls. The steps of the minors are added up (document 02, (k)).
 ghost use mathlib.Core.Path.{_≡_};
 ghost use mathlib.Core.Bool.{true, false};
 ghost use Prim.Native.Nat.{_+_, _-_, _^_, _≤_, _<_};
@@ -8,13 +8,15 @@ ghost use Rattle.rowset.specs.Mask.{maskCount};
 ghost use Rattle.words.specs.RowSet.{ofMask, rows};
 ghost use Rattle.words.specs.Formula.{onDiagonal, bandedBelow};
 ghost use Rattle.words.specs.Sources.{runReach};
+ghost use Rattle.words.specs.Effort.{fourSteps, quotientSteps, resultSteps};
 ghost use Rattle.walk.specs.Lent.{AllSpelled};
 ghost use Rattle.table.specs.Table.{cellAt, tableOf};
-ghost use Rattle.rule.specs.Chosen.{chosenOf, sizeOf, chosenMinor, chosenFactors, turnedBy, Workable, Lent};
+ghost use Rattle.rule.specs.Chosen.{chosenOf, sizeOf, chosenMinor, chosenFactors, chosenSteps, turnedBy, Workable, Lent};
 ghost use Rattle.rule.specs.Latest.{aloneOf, withRow, Sides, LatestMask};
-ghost use Rattle.rule.specs.Result.{workOf};
+ghost use Rattle.rule.specs.Result.{cellSteps, workOf};
 use number::Direction;
 use number::Number;
+use walk::Counted;
 use walk::Joined;
 
 mod bounds; // bounds.rt: the bounds by size
@@ -26,11 +28,18 @@ pub struct Chosen {
     pub columns: usize,
 }
 
-// The new factors, in rows of eight, how many rows they have, and their bound.
+// The new factors, in rows of eight, how many rows they have, their bound, and the steps that were made.
 pub struct Refactored {
     pub factors: [Number; 64],
     pub rows: usize,
     pub bound: u32,
+    pub steps: usize,
+}
+
+// New factors in rows of eight, and the steps that they took.
+struct Table {
+    factors: [Number; 64],
+    steps: usize,
 }
 
 impl Chosen {
@@ -43,11 +52,12 @@ impl Chosen {
         i: usize,
         j: usize,
         turned: bool,
-    ) -> Number
+    ) -> Counted
         requires { ⌜ Workable self (now sources) × (i < 2 ^ sizeOf self) × (j < 2 ^ sizeOf self) × (maskCount i ≡ maskCount j) ⌝ }
         requires { ⌜ Lent self (now tables) (now letters) ⌝ }
-        ensures { λ r. ⌜ r ≡ turnedBy turned (chosenMinor self (now (sources .entry))) (ofMask (sizeOf self) i) (ofMask (sizeOf self) j) ⌝ }
-        ensures { λ r. ⌜ Ranged (runReach 6 8) r ⌝ }
+        ensures { λ r. ⌜ r .number ≡ turnedBy turned (chosenMinor self (now (sources .entry))) (ofMask (sizeOf self) i) (ofMask (sizeOf self) j) ⌝ }
+        ensures { λ r. ⌜ Ranged (runReach 6 8) (r .number) ⌝ }
+        ensures { λ r. ⌜ (r .steps ≡ chosenSteps self (now (sources .entry)) (maskCount i)) × (r .steps ≤ 24000) ⌝ }
     {
         let word = self.word;
         if turned {
@@ -79,11 +89,12 @@ impl Chosen {
         b: usize,
         m: usize,
         turned: bool,
-    ) -> Number
+    ) -> Counted
         requires { ⌜ Workable self (now sources) × (1 ≤ a) × (b ≤ sizeOf self) × (b + 1 ≡ a + m) ⌝ }
         requires { ⌜ Lent self (now tables) (now letters) ⌝ }
-        ensures { λ r. ⌜ r ≡ turnedBy turned (chosenMinor self (now (sources .entry))) (rows (sizeOf self) a b) (rows (sizeOf self) 1 m) ⌝ }
-        ensures { λ r. ⌜ Ranged (runReach 6 8) r ⌝ }
+        ensures { λ r. ⌜ r .number ≡ turnedBy turned (chosenMinor self (now (sources .entry))) (rows (sizeOf self) a b) (rows (sizeOf self) 1 m) ⌝ }
+        ensures { λ r. ⌜ Ranged (runReach 6 8) (r .number) ⌝ }
+        ensures { λ r. ⌜ (r .steps ≡ chosenSteps self (now (sources .entry)) m) × (r .steps ≤ 24000) ⌝ }
     {
         let i = rowset::run(a, b);
         let j = rowset::run(1, m);
@@ -96,14 +107,18 @@ impl Chosen {
         letters: &[u16; 342],
         sources: &[u64; 768],
         i: usize,
-    ) -> Number
+    ) -> Counted
         requires { ⌜ Workable self (now sources) × (1 ≤ i) × (i ≤ sizeOf self) ⌝ }
         requires { ⌜ Lent self (now tables) (now letters) ⌝ }
-        ensures { λ r. ⌜ r ≡ onDiagonal rounded (sizeOf self) (chosenMinor self (now (sources .entry))) i ⌝ }
+        ensures { λ r. ⌜ r .number ≡ onDiagonal rounded (sizeOf self) (chosenMinor self (now (sources .entry))) i ⌝ }
+        ensures { λ r. ⌜ (r .steps ≡ chosenSteps self (now (sources .entry)) i + chosenSteps self (now (sources .entry)) (i - 1)) × (r .steps ≤ 96000) ⌝ }
     {
         let upper = self.run_minor(tables, letters, sources, 1, i, i, false);
         let lower = self.run_minor(tables, letters, sources, 1, i - 1, i - 1, false);
-        upper.div(lower, Direction::Nearest)
+        Counted {
+            number: upper.number.div(lower.number, Direction::Nearest),
+            steps: upper.steps + lower.steps,
+        }
     }
 
     // R: the latest set of j - 1 rows, all before row i, whose minor with the columns 1..j-1 is not zero; turned, of columns. v has the sets whose minors are
@@ -136,11 +151,12 @@ impl Chosen {
         i: usize,
         j: usize,
         turned: bool,
-    ) -> Number
+    ) -> Counted
         requires { ⌜ Workable self (now sources) × (1 ≤ j) × (j ≤ i) × (i ≤ sizeOf self) ⌝ }
         requires { ⌜ LatestMask (sizeOf self) (turnedBy turned (chosenMinor self (now sources))) i j s × Lent self (now tables) (now letters) ⌝ }
-        ensures { λ r. ⌜ r ≡ aloneOf (sizeOf self) (turnedBy turned (chosenMinor self (now (sources .entry)))) i j ⌝ }
-        ensures { λ r. ⌜ Ranged (runReach 6 8) r ⌝ }
+        ensures { λ r. ⌜ r .number ≡ aloneOf (sizeOf self) (turnedBy turned (chosenMinor self (now (sources .entry)))) i j ⌝ }
+        ensures { λ r. ⌜ Ranged (runReach 6 8) (r .number) ⌝ }
+        ensures { λ r. ⌜ (r .steps ≡ chosenSteps self (now (sources .entry)) (j - 1)) × (r .steps ≤ 24000) ⌝ }
     {
         self.minor(tables, letters, sources, s, rowset::run(1, j - 1), turned)
     }
@@ -155,11 +171,12 @@ impl Chosen {
         i: usize,
         j: usize,
         turned: bool,
-    ) -> Number
+    ) -> Counted
         requires { ⌜ Workable self (now sources) × (1 ≤ j) × (j ≤ i) × (i ≤ sizeOf self) ⌝ }
         requires { ⌜ LatestMask (sizeOf self) (turnedBy turned (chosenMinor self (now sources))) i j s × Lent self (now tables) (now letters) ⌝ }
-        ensures { λ r. ⌜ r ≡ withRow (sizeOf self) (turnedBy turned (chosenMinor self (now (sources .entry)))) i j ⌝ }
-        ensures { λ r. ⌜ Ranged (runReach 6 8) r ⌝ }
+        ensures { λ r. ⌜ r .number ≡ withRow (sizeOf self) (turnedBy turned (chosenMinor self (now (sources .entry)))) i j ⌝ }
+        ensures { λ r. ⌜ Ranged (runReach 6 8) (r .number) ⌝ }
+        ensures { λ r. ⌜ (r .steps ≡ chosenSteps self (now (sources .entry)) j) × (r .steps ≤ 24000) ⌝ }
     {
         self.minor(
             tables,
@@ -181,10 +198,11 @@ impl Chosen {
         i: usize,
         j: usize,
         turned: bool,
-    ) -> Number
+    ) -> Counted
         requires { ⌜ Workable self (now sources) × (1 ≤ j) × (j < i) × (i ≤ sizeOf self) ⌝ }
         requires { ⌜ Sides self (now sources) turned (now v) × Lent self (now tables) (now letters) ⌝ }
-        ensures { λ r. ⌜ r ≡ bandedBelow rounded (sizeOf self) (turnedBy turned (chosenMinor self (now (sources .entry)))) i j ⌝ }
+        ensures { λ r. ⌜ r .number ≡ bandedBelow rounded (sizeOf self) (turnedBy turned (chosenMinor self (now (sources .entry)))) i j ⌝ }
+        ensures { λ r. ⌜ (r .steps ≡ fourSteps (chosenSteps self (now (sources .entry))) j) × (r .steps ≤ 96000) ⌝ }
     {
         let s = self.latest(sources, v, i, j, turned);
         let t = self.latest(sources, v, i - 1, j, turned);
@@ -192,12 +210,20 @@ impl Chosen {
         let before = self.alone(tables, letters, sources, t, i - 1, j, turned);
         let run = self.alone(tables, letters, sources, s, i, j, turned);
         let above = self.with_row(tables, letters, sources, t, i - 1, j, turned);
-        if corner.m == 0 {
-            return Number::zero();
+        let steps = corner.steps + before.steps + (run.steps + above.steps);
+        if corner.number.m == 0 {
+            return Counted {
+                number: Number::zero(),
+                steps,
+            };
         }
-        corner
-            .mul(before, Direction::Nearest)
-            .div(run.mul(above, Direction::Nearest), Direction::Nearest)
+        Counted {
+            number: corner.number.mul(before.number, Direction::Nearest).div(
+                run.number.mul(above.number, Direction::Nearest),
+                Direction::Nearest,
+            ),
+            steps,
+        }
     }
 
     fn factor(
@@ -209,10 +235,11 @@ impl Chosen {
         upper: &[bool; 256],
         i: usize,
         j: usize,
-    ) -> Number
+    ) -> Counted
         requires { ⌜ Workable self (now sources) × (1 ≤ i) × (i ≤ sizeOf self) × (1 ≤ j) × (j ≤ sizeOf self) ⌝ }
         requires { ⌜ Sides self (now sources) false (now lower) × Sides self (now sources) true (now upper) × Lent self (now tables) (now letters) ⌝ }
-        ensures { λ r. ⌜ r ≡ chosenFactors self (now (sources .entry)) i j ⌝ }
+        ensures { λ r. ⌜ r .number ≡ chosenFactors self (now (sources .entry)) i j ⌝ }
+        ensures { λ r. ⌜ (r .steps ≡ quotientSteps (chosenSteps self (now (sources .entry))) i j) × (r .steps ≤ 96000) ⌝ }
     {
         if i == j {
             return self.on_diagonal(tables, letters, sources, i);
@@ -223,7 +250,7 @@ impl Chosen {
         self.off_diagonal(tables, letters, sources, upper, j, i, true)
     }
 
-    // The number at t of the new factors in rows of eight: zero past their k rows and columns.
+    // The number at t of the new factors in rows of eight: zero past their k rows and columns, which takes no steps.
     fn cell(
         self,
         tables: &[u8; 1408],
@@ -233,31 +260,34 @@ impl Chosen {
         upper: &[bool; 256],
         k: usize,
         t: usize,
-    ) -> Number
+    ) -> Counted
         requires { ⌜ Workable self (now sources) × (k ≡ sizeOf self) × (t < 64) ⌝ }
         requires { ⌜ Sides self (now sources) false (now lower) × Sides self (now sources) true (now upper) × Lent self (now tables) (now letters) ⌝ }
-        ensures { λ r. ⌜ r ≡ cellAt k (chosenFactors self (now (sources .entry))) t ⌝ }
+        ensures { λ r. ⌜ r .number ≡ cellAt k (chosenFactors self (now (sources .entry))) t ⌝ }
+        ensures { λ r. ⌜ (r .steps ≡ cellSteps k (chosenSteps self (now (sources .entry))) t) × (r .steps ≤ 96000) ⌝ }
     {
         let i = t / 8 + 1;
         let j = t % 8 + 1;
         if k < i {
-            return Number::zero();
+            return Counted {
+                number: Number::zero(),
+                steps: 0,
+            };
         }
         if k < j {
-            return Number::zero();
+            return Counted {
+                number: Number::zero(),
+                steps: 0,
+            };
         }
         self.factor(tables, letters, sources, lower, upper, i, j)
     }
 
     // The new factors, zero past their rows and columns, put over the 64 numbers of a table.
-    fn factors(
-        self,
-        letters: &[u16; 342],
-        sources: &[u64; 768],
-        table: [Number; 64],
-    ) -> [Number; 64]
+    fn factors(self, letters: &[u16; 342], sources: &[u64; 768], table: [Number; 64]) -> Table
         requires { ⌜ Workable self (now sources) × AllSpelled (self .word) (now letters) ⌝ }
-        ensures { λ r. ⌜ r ≡ tableOf (sizeOf self) (chosenFactors self (now (sources .entry))) ⌝ }
+        ensures { λ r. ⌜ r .factors ≡ tableOf (sizeOf self) (chosenFactors self (now (sources .entry))) ⌝ }
+        ensures { λ r. ⌜ r .steps ≡ resultSteps (chosenSteps self (now (sources .entry))) (sizeOf self) ⌝ }
     {
         let word = self.word;
         let n = word.n;
@@ -266,10 +296,14 @@ impl Chosen {
         let lower = presence::present(word, letters, sources, self.columns);
         let upper = presence::present_turned(word, letters, sources, self.rows);
         let mut b = table;
+        let mut steps: usize = 0;
         for t in 0..64usize {
-            b[t] = self.cell(&tables, letters, sources, &lower, &upper, k, t);
+            let x = self.cell(&tables, letters, sources, &lower, &upper, k, t);
+            let number = x.number;
+            b[t] = number;
+            steps += x.steps;
         }
-        b
+        Table { factors: b, steps }
     }
 }
 
@@ -290,9 +324,12 @@ pub fn work(
         rows,
         columns,
     };
+    let x = c.factors(letters, sources, table);
+    let factors = x.factors;
     Refactored {
-        factors: c.factors(letters, sources, table),
+        factors,
         rows: rowset::count(rows),
         bound: bounds::of_steps(word.count, word.n),
+        steps: x.steps,
     }
 }

@@ -7,7 +7,8 @@ use Rattle.number.specs.Number.{roundBy, renormalised, sumBy, productBy, quotie
 use Rattle.number.specs.Signed.{signedRound, signedSum, signedProduct, withSign}
 use Rattle.rowset.specs.Mask.{maskHas, countTo, maskCount, maskBeyond}
 use Rattle.words.specs.RowSet.{has, put, count, allBefore, equal, rows, ofMask, among}
-use Rattle.words.specs.Word.{ascending, descending, word, inverseWord, converseWord}
+use Rattle.words.specs.Word.{ascending, descending, word, inverseWord, converseWord, total}
+use Rattle.words.specs.Effort.{setsWith, updated, sumOver, factorSteps, stepsMade, choose, quotientSteps}
 use Rattle.words.specs.Walk.{oneAt, moved, scaled, act, walk, minor, carry, carryLetter}
 use Rattle.words.specs.Latest.{some, latest}
 use Rattle.words.specs.Formula.{latestBefore, onDiagonal, belowDiagonal, bandedBelow, factorsBy}
@@ -18,10 +19,11 @@ use Rattle.lists.specs.Lists.{carriedVector, anyOutside}
 use Rattle.table.specs.Table.{factorsOf, tableOf, squareOf, outside}
 use Rattle.places.specs.Shelf.{rowsAt, tableAt, withTable, emptyShelf}
 use Rattle.operations.specs.Operations.{operationCall, minorAt, minorCall}
+use Rattle.operations.specs.Forecast.{forecastCall}
 use Rattle.group.specs.Group.{groupIn, bytesIn}
 use Rattle.writer.specs.Encoding.{factorBytes, factorsBytes, encoding}
 use Rattle.reader.specs.Matrix.{itemAt, mantissaAt, judgedCode, factorAt, factorsFrom, matrixOf}
-use Rattle.shelf.specs.Calls.{loadCall, bytesAt, writeCall, carryCall}
+use Rattle.shelf.specs.Calls.{loadCall, bytesAt, writeCall, lengthCall, carryCall}
 use Rattle.shelf.specs.Run.{run}
 use Rattle.shelf.specs.Examples.{markedTable, bandedTable}
 
@@ -32,8 +34,38 @@ unfolding markedTable has put count equal rows ofMask among ascending descending
     signedRound signedSum signedProduct withSign size lib.Ieee.span lib.Ieee.climb xor maskHas countTo maskCount maskBeyond
     factorsOf tableOf outside rowsAt tableAt withTable emptyShelf firstBehind
     storable signedItem listOf listNumbers carriedVector anyOutside operationCall minorAt minorCall carryCall run
-marked-examples =
-    (refl, (refl, (refl, (refl, (refl, (refl, (refl, (refl, (refl, (refl, (refl, (refl, (refl, (refl, (refl, (refl, (refl, (refl, tt))))))))))))))))))
+    setsWith updated total sumOver factorSteps stepsMade choose quotientSteps forecastCall bytesIn factorBytes factorsBytes encoding bytesAt lengthCall
+marked-examples = (
+  refl,
+  (
+    refl,
+    (
+      refl,
+      (
+        refl,
+        (
+          refl,
+          (
+            refl,
+            (
+              refl,
+              (
+                refl,
+                (
+                  refl,
+                  (
+                    refl,
+                    (refl, (refl, (refl, (refl, (refl, (refl, (refl, (refl, (refl, (refl, tt)))))))))),
+                  ),
+                ),
+              ),
+            ),
+          ),
+        ),
+      ),
+    ),
+  ),
+)
 
 pub banded-examples : AllHold bandedTable
 unfolding bandedTable has put count equal rows ofMask among ascending descending word inverseWord joinedWord oneAt moved scaled act walk minor
@@ -43,4 +75,6 @@ unfolding bandedTable has put count equal rows ofMask among ascending descending
     factorsOf tableOf squareOf outside rowsAt tableAt withTable emptyShelf firstBehind
     groupIn bytesIn factorBytes factorsBytes encoding itemAt mantissaAt judgedCode factorAt factorsFrom matrixOf loadCall bytesAt writeCall
     storable signedItem listOf listNumbers carriedVector anyOutside operationCall minorAt minorCall carryCall run
-banded-examples = (refl, (refl, (refl, (refl, (refl, (refl, (refl, (refl, (refl, (refl, (refl, (refl, (refl, (refl, tt))))))))))))))
+    setsWith updated total sumOver factorSteps stepsMade choose quotientSteps forecastCall
+banded-examples =
+    (refl, (refl, (refl, (refl, (refl, (refl, (refl, (refl, (refl, (refl, (refl, (refl, (refl, (refl, (refl, (refl, tt))))))))))))))))

@@ -18,10 +18,14 @@ use Rattle.arithmetic.specs.Arithmetic.{arithmeticTests, arithmeticCall}
 use Rattle.lists.specs.Lists.{reversalsTests, reversalsCall}
 use Rattle.notices.specs.Sentence.{Notice, sentenceTests, sentenceOf, sentenceReport, bytesAfterSentence}
 use Rattle.places.specs.declared.Shelf.{Shelf}
-use Rattle.places.specs.Tests.{sourceTests, oneSource}
-use Rattle.operations.specs.Operations.{buildTests, minorTests, operationVerdict, transposeCall, buildCall, operationCall, minorCall}
-use Rattle.shelf.specs.Calls.{loadTests, writeTests, placeCarryTests, bytesAt, carriedAt, loadCall, dropCall, writeCall, carryCall, factorCall}
-use Rattle.shelf.specs.Run.{Call, load, write, drop, product, inverse, converse, submatrix, transpose, build, minor}
+use Rattle.places.specs.Tests.{sourceTests, bothSources, oneSource}
+use Rattle.operations.specs.declared.Task.{Task}
+use Rattle.operations.specs.declared.Task.the-variants.{Product, Inverse, Converse, Transpose, Submatrix}
+use Rattle.operations.specs.Forecast.{taskCall, forecastCall}
+use Rattle.operations.specs.Operations.{buildTests, setTests, minorTests, operationVerdict, transposeCall, buildCall, operationCall, minorCall}
+use Rattle.shelf.specs.Calls.{loadTests, writeTests, placeCarryTests, bytesAt, carriedAt}
+use Rattle.shelf.specs.Calls.{loadCall, dropCall, writeCall, lengthCall, carryCall, factorCall}
+use Rattle.shelf.specs.Run.{Call, load, write, byteLength, drop, operate, forecast, build, minor}
 use Rattle.shelf.specs.Run.{carry, reversals, arithmetic, rest, sentence, rows, factor, run}
 
 -- the values of a report, none of a refusal
@@ -37,17 +41,31 @@ operation-few : (s : Shelf) (L : List Verdict) (t n : ℕ) (o : Operation Number
 unfolding operationCall
 operation-few s L t n o = few (operationVerdict L n o) _ (omega arith)
 
+task-few : (s : Shelf) (o : Task) (t : ℕ) → length (valuesOf (taskCall s o t .report)) ≤ 4
+unfolding transposeCall
+task-few s (Product l r) t = operation-few s _ _ _ _
+task-few s (Inverse p) t = operation-few s _ _ _ _
+task-few s (Converse p) t = operation-few s _ _ _ _
+task-few s (Transpose p) t = few (firstOf (oneSource s p t)) _ (omega arith)
+task-few s (Submatrix p I J) t = operation-few s _ _ _ _
+
+forecast-few : (s : Shelf) (o : Task) → length (valuesOf (forecastCall s o)) ≤ 4
+unfolding forecastCall
+forecast-few s (Product l r) = few (firstOf (bothSources s l r)) _ (omega arith)
+forecast-few s (Inverse p) = few (firstOf (sourceTests s p)) _ (omega arith)
+forecast-few s (Converse p) = few (firstOf (sourceTests s p)) _ (omega arith)
+forecast-few s (Transpose p) = few (firstOf (sourceTests s p)) _ (omega arith)
+forecast-few s (Submatrix p I J) = few (firstOf (setTests s p I J)) _ (omega arith)
+
 -- a result with its rest has four values, no other call as many
 pub report-few : (s : Shelf) (c : Call) → length (valuesOf (run s c .report)) ≤ 4
-unfolding run loadCall dropCall writeCall carryCall factorCall transposeCall buildCall minorCall reversalsCall arithmeticCall sentenceReport
+unfolding run loadCall dropCall writeCall lengthCall carryCall factorCall buildCall minorCall reversalsCall arithmeticCall sentenceReport
 report-few s (load p bytes) = few (firstOf (loadTests s p bytes)) _ (omega arith)
 report-few s (write p out) = few (firstOf (writeTests s p out)) _ (omega arith)
+report-few s (byteLength p) = few (firstOf (sourceTests s p)) _ (omega arith)
 report-few s (drop p) = few (firstOf (sourceTests s p)) _ (omega arith)
-report-few s (product l r t) = operation-few s _ _ _ _
-report-few s (inverse p t) = operation-few s _ _ _ _
-report-few s (converse p t) = operation-few s _ _ _ _
-report-few s (submatrix p I J t) = operation-few s _ _ _ _
-report-few s (transpose p t) = few (firstOf (oneSource s p t)) _ (omega arith)
+report-few s (operate o t) = task-few s o t
+report-few s (forecast o) = forecast-few s o
 report-few s (build t stamps) = few (firstOf (buildTests s t stamps)) _ (omega arith)
 report-few s (minor p I J) = few (firstOf (minorTests s p I J)) _ (omega arith)
 report-few s (carry p items out) = few (firstOf (placeCarryTests s p items out)) _ (omega arith)

@@ -1,6 +1,7 @@
--- Load, drop, write and carry (document 01, "Shelf calls"): what each leaves and returns, refused calls included. Reading a place: its rows (`rowsCall`) and
--- factors (`factorCall`).
-use Prim.Native.Nat.{ℕ}
+-- Load, drop, write and carry (document 01, "Shelf calls"): what each leaves and returns, refused calls included. The bytes that writing takes (`lengthCall`).
+-- Reading a place: its rows (`rowsCall`) and factors (`factorCall`).
+use Prim.Native.Nat.{ℕ, _≤_, _<_}
+use mathlib.Core.Path.{_≡_}
 use mathlib.Core.Bool.{cond, _&&_}
 use mathlib.Core.List.{List, [], _∷_, _++_}
 use lib.Dec.{ltb, leb}
@@ -17,7 +18,7 @@ use Rattle.lists.specs.Lists.{carryTests, carriedList}
 use Rattle.verdict.specs.declared.Verdict.{Verdict}
 use Rattle.verdict.specs.declared.Verdict.the-variants.{Accepted}
 use Rattle.verdict.specs.Verdict.{firstOf, after, when, refusedAt}
-use Rattle.verdict.specs.Report.{Report, accepted, reportOf, verdictReport}
+use Rattle.verdict.specs.Report.{Report, accepted, refused, reportOf, verdictReport}
 use Rattle.places.specs.declared.Shelf.{Shelf}
 use Rattle.table.specs.Table.{squareOf}
 use Rattle.places.specs.Shelf.{rowsAt, factorsAt, holding, without}
@@ -60,6 +61,20 @@ writing s p out v = record { shelf = s; report = reportOf v (pos (length (bytesA
 
 unfoldable pub writeCall : Shelf → ℕ → List ℕ → Outcome
 writeCall s p out = writing s p out (firstOf (writeTests s p out))
+
+-- LENGTH: how many bytes writing a place takes (document 02, (k)); it is lent nothing
+unfoldable pub lengthCall : Shelf → ℕ → Report
+lengthCall s p = reportOf (firstOf (sourceTests s p)) (pos (length (bytesAt s p)) ∷ [])
+
+-- WHAT A LENGTH f TELLS of a write to so many lent bytes, which reports r: it is turned down alike; or it is done in just that length; or there is no room, 10
+pub data Measures (room : ℕ) (f r : Report) : Type 0 where
+  turned-down : (k o : ℕ) → f ≡ refused k o → r ≡ refused k o → Measures room f r
+  done-in : (k : ℕ) → f ≡ accepted (pos k ∷ []) → k ≤ room → r ≡ accepted (pos k ∷ []) → Measures room f r
+  no-room : (k : ℕ) → f ≡ accepted (pos k ∷ []) → room < k → r ≡ refused 10 0 → Measures room f r
+
+-- whatever is lent
+abbrev pub Measuring : Shelf → ℕ → Report → Type 0
+Measuring s p f = (out : List ℕ) → Measures (length out) f (writeCall s p out .report)
 
 -- CARRY a list through a place's word: the tests of the place, then 9, 14 and 10
 abbrev pub carriedAt : Shelf → ℕ → List ℤ → List ℤ

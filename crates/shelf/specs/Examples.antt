@@ -18,8 +18,9 @@ use Rattle.verdict.specs.Report.{accepted, refused}
 use Rattle.places.specs.declared.Shelf.{Shelf}
 use Rattle.places.specs.Shelf.{factorsAt, holding, emptyShelf}
 use Rattle.places.specs.Outcome.{Outcome}
+use Rattle.operations.specs.declared.Task.the-variants as Task
 use Rattle.operations.specs.Operations.{factorTest, submatrixAt, singular}
-use Rattle.shelf.specs.Run.{load, write, product, inverse, converse, submatrix, minor, carry, run}
+use Rattle.shelf.specs.Run.{load, write, product, inverse, converse, submatrix, minor, byteLength, forecast, carry, run}
 
 -- place 0 holds n rows with all factors one
 abbrev onesOf : ℕ → Shelf
@@ -43,16 +44,18 @@ markedTable =
     ∷ row (sumOf (down (2 ^ 31 + 1) 31) (down (2 ^ 31) 63)) (down 2147483650 31)  -- P2: (2 ^ 31 + 1) × 2 ^ -31 plus 2 ^ -32
     ∷ row (sumOf (up (2 ^ 32 - 1) 0) (down (2 ^ 31) 32)) (up (2 ^ 31) 1)  -- P3: (2 ^ 32 - 1) + 1 / 2
     ∷ row (productOf (up (2 ^ 32 - 1) 0) (up (2 ^ 32 - 1) 0)) (up 4294967294 32)  -- P4: (2 ^ 32 - 1) squared
-    ∷ row (run (onesOf 2) (product 0 0 7) .report) (accepted (pos 51 ∷ []))  -- P5: all ones, times itself
+    ∷ row (run (onesOf 2) (product 0 0 7) .report) (accepted (pos 51 ∷ pos 24 ∷ []))  -- P5: all ones, times itself
+    ∷ row (run (onesOf 2) (forecast (Task.Product 0 0)) .report) (accepted (pos 24 ∷ []))  -- its steps foretold (document 02, (k))
+    ∷ row (run (onesOf 2) (byteLength 0) .report) (accepted (pos 13 ∷ []))  -- and the bytes of a place
     ∷ row (held 2 (run (onesOf 2) (product 0 0 7))) (two ∷ threeHalves ∷ threeHalves ∷ half ∷ [])
     ∷ row (held 2 (run unlike (product 0 1 7))) (two ∷ fiveHalves ∷ threeHalves ∷ half ∷ [])  -- beside it: the left word, then the right word
     ∷ row (held 2 (run (onesOf 2) (inverse 0 7))) (two ∷ half ∷ half ∷ half ∷ [])  -- P6
     ∷ row (held 2 (run (onesOf 2) (converse 0 7))) (two ∷ half ∷ half ∷ half ∷ [])  -- P7
-    ∷ row (run (onesOf 3) (submatrix 0 6 3 7) .report) (accepted (pos 63 ∷ []))  -- P8: rows 2 and 3, columns 1 and 2; the bound goes by the source's rows
+    ∷ row (run (onesOf 3) (submatrix 0 6 3 7) .report) (accepted (pos 63 ∷ pos 42 ∷ []))  -- P8: rows 2, 3, columns 1, 2; the bound goes by the source's rows
     ∷ row (held 2 (run (onesOf 3) (submatrix 0 6 3 7))) (oneNumber ∷ two ∷ oneNumber ∷ oneNumber ∷ [])
     ∷ row (run (onesOf 3) (minor 0 5 5) .report) (accepted (pos 2684354560 ∷ negsuc 28 ∷ []))  -- P9: rows and columns 1 and 3: 5
     ∷ row (held 1 (run (singles three) (inverse 0 7))) (down 2863311531 33 ∷ [])  -- P10: the inverse of 3
-    ∷ row (run (singles large) (product 0 1 7) .report) (accepted (pos 11 ∷ []))  -- P11: times one
+    ∷ row (run (singles large) (product 0 1 7) .report) (accepted (pos 11 ∷ pos 0 ∷ []))  -- P11: times one
     ∷ row (run (singles large) (product 0 2 7) .report) (refused 14 0)  -- times two
     ∷ row (run (singles large) (inverse 0 7) .report) (refused 14 0)  -- its inverse
     ∷ row (run (onesOf 2) (carry 0 (plusOneItem ++ minusOneItem) lentSeven) .report) (accepted [])  -- P12: the list 1, -1
@@ -86,6 +89,8 @@ bandedTable =
     ∷ row (run emptyShelf (load 0 (3 ∷ 0 ∷ [])) .report) (refused 6 1)  -- a zero on the diagonal
     ∷ row (run banded (minor 0 1 4) .report) (accepted (pos 0 ∷ pos 0 ∷ []))  -- a minor may be zero: row 1, column 3
     ∷ row (run banded (submatrix 0 1 4 7) .report) (refused 17 0)  -- and then the submatrix is singular
+    ∷ row (run banded (forecast (Task.Submatrix 0 1 4)) .report) (accepted (pos 6 ∷ []))  -- which a forecast does not ask
+    ∷ row (run banded (inverse 0 7) .report) (accepted (pos 63 ∷ pos 120 ∷ []))  -- zeros count like other factors
     ∷ row (run banded (submatrix 0 9 12 7) .report) (refused 8 0)  -- 8 before 17: the same row and column with a fourth of each, which three rows do not have,
     ∷ row (singular 3 (submatrixAt banded 0 9 12)) true  -- and of which 17 would hold too
     ∷ row (run steep (submatrix 0 6 3 7) .report) (refused 17 0)  -- 17 before 14: rows 2 and 3, columns 1 and 2, which are 2 ^ 2062 1, 0 0,

@@ -13,20 +13,21 @@ use Rattle.verdict.specs.Report.{accepted}
 use Rattle.notices.specs.Sentence.{Notice, sentenceReport, bytesAfterSentence}
 use Rattle.places.specs.declared.Shelf.{Shelf}
 use Rattle.places.specs.Outcome.{Outcome, outcome}
-use Rattle.operations.specs.Operations.{transposeCall, buildCall, productCall, inverseCall, converseCall, submatrixCall, minorCall}
-use Rattle.shelf.specs.Calls.{loadCall, dropCall, writeCall, carryCall, rowsCall, factorCall}
+use Rattle.operations.specs.declared.Task.{Task}
+use Rattle.operations.specs.declared.Task.the-variants.{Product, Inverse, Converse, Transpose, Submatrix}
+use Rattle.operations.specs.Operations.{buildCall, minorCall}
+use Rattle.operations.specs.Forecast.{taskCall, forecastCall}
+use Rattle.shelf.specs.Calls.{loadCall, dropCall, writeCall, lengthCall, carryCall, rowsCall, factorCall}
 
--- a call with what it is given: places, masks, bytes, time stamps, an operator, items, what a sentence tells, and last the bytes or items that it is lent to
--- write to
+-- a call with what it is given: places, an operation with its places and masks, bytes, time stamps, an operator, items, what a sentence tells, and last the
+-- bytes or items that it is lent to write to. An operation has its target behind it; a forecast has none
 pub data Call : Type 0 where
   load : ℕ → List ℕ → Call
   write : ℕ → List ℕ → Call
+  byteLength : ℕ → Call
   drop : ℕ → Call
-  product : ℕ → ℕ → ℕ → Call
-  inverse : ℕ → ℕ → Call
-  converse : ℕ → ℕ → Call
-  submatrix : ℕ → ℕ → ℕ → ℕ → Call
-  transpose : ℕ → ℕ → Call
+  operate : Task → ℕ → Call
+  forecast : Task → Call
   build : ℕ → List ℕ → Call
   minor : ℕ → ℕ → ℕ → Call
   carry : ℕ → List ℤ → List ℤ → Call
@@ -37,16 +38,30 @@ pub data Call : Type 0 where
   rows : ℕ → Call
   factor : ℕ → ℕ → ℕ → Call
 
+-- the operations, each to a target
+abbrev pub product : (l r t : ℕ) → Call
+product l r t = operate (Product l r) t
+
+abbrev pub inverse : (p t : ℕ) → Call
+inverse p t = operate (Inverse p) t
+
+abbrev pub converse : (p t : ℕ) → Call
+converse p t = operate (Converse p) t
+
+abbrev pub transpose : (p t : ℕ) → Call
+transpose p t = operate (Transpose p) t
+
+abbrev pub submatrix : (p I J t : ℕ) → Call
+submatrix p I J t = operate (Submatrix p I J) t
+
 -- WHAT A CALL DOES; `rest` returns bytes: the part of those it is given behind the first matrix. The shelf has no part in a sentence
 unfoldable pub run : Shelf → Call → Outcome
 run s (load p bytes) = loadCall s p bytes
 run s (write p out) = writeCall s p out
+run s (byteLength p) = outcome s (lengthCall s p)
 run s (drop p) = dropCall s p
-run s (product l r t) = productCall s l r t
-run s (inverse p t) = inverseCall s p t
-run s (converse p t) = converseCall s p t
-run s (submatrix p I J t) = submatrixCall s p I J t
-run s (transpose p t) = transposeCall s p t
+run s (operate o t) = taskCall s o t
+run s (forecast o) = outcome s (forecastCall s o)
 run s (build t stamps) = buildCall s t stamps
 run s (minor p I J) = outcome s (minorCall s p I J)
 run s (carry p items out) = carryCall s p items out
@@ -61,12 +76,10 @@ run s (factor p i j) = outcome s (factorCall s p i j)
 abbrev pub Given : Call → Type 0
 Given (load p bytes) = Bytes bytes
 Given (write p out) = Unit {0}
+Given (byteLength p) = Unit {0}
 Given (drop p) = Unit {0}
-Given (product l r t) = Unit {0}
-Given (inverse p t) = Unit {0}
-Given (converse p t) = Unit {0}
-Given (submatrix p I J t) = Unit {0}
-Given (transpose p t) = Unit {0}
+Given (operate o t) = Unit {0}
+Given (forecast o) = Unit {0}
 Given (build t stamps) = Unit {0}
 Given (minor p I J) = Unit {0}
 Given (carry p items out) = Unit {0}

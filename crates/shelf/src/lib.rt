@@ -4,7 +4,7 @@ ghost use Rattle.places.specs.Shelf.{Good};
 ghost use Rattle.verdict.specs.Report.{verdictReport};
 ghost use Rattle.writer.specs.Encoding.{writtenReport};
 ghost use Rattle.lists.specs.Promise.{Steady};
-ghost use Rattle.shelf.specs.Calls.{changing, loadCall, dropCall, writeCall, carryCall, factorCall};
+ghost use Rattle.shelf.specs.Calls.{changing, loadCall, dropCall, writeCall, lengthCall, Measuring, carryCall, factorCall};
 ghost use Rattle.shelf.specs.Reports.{changedOutcome, factorReport};
 pub use arithmetic::Operator;
 pub use arithmetic::Worked;
@@ -12,12 +12,18 @@ pub use arithmetic::arithmetic;
 pub use lists::Reversals;
 pub use lists::count_reversals;
 pub use operations::Bounded;
+pub use operations::Filled;
+pub use operations::Foretold;
 pub use operations::Operated;
+pub use operations::Performed;
+pub use operations::Task;
 pub use operations::Valued;
 pub use operations::build;
 pub use operations::converse;
+pub use operations::forecast;
 pub use operations::inverse;
 pub use operations::minor;
+pub use operations::perform;
 pub use operations::product;
 pub use operations::submatrix;
 pub use operations::transpose;
@@ -118,6 +124,21 @@ pub fn write(shelf: Shelf, place: usize, out: &mut [u8]) -> Written
     let n = places::rows_at(shelf, place);
     let factors = table::packed(places::table_at(shelf, place), n);
     writer::write_matrix(factors, n, out)
+}
+
+// How many bytes writing a place will take. Nothing is written.
+pub fn length(shelf: Shelf, place: usize) -> Written
+    requires { ⌜ Good shelf ⌝ }
+    ensures { λ r. ⌜ writtenReport r ≡ lengthCall shelf place ⌝ }
+    ensures { λ r. ⌜ Measuring shelf place (writtenReport r) ⌝ }
+{
+    let first = judge::source(shelf, place);
+    if let Verdict::Refused(why) = first {
+        return Written::Refused(why);
+    }
+    let n = places::rows_at(shelf, place);
+    let factors = table::packed(places::table_at(shelf, place), n);
+    Written::Length(writer::matrix_length(factors, n))
 }
 
 // Carries a list of items through the word of a place, to a second list, past whose first n items nothing is changed.

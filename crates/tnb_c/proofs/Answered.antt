@@ -5,7 +5,9 @@ use Prim.Native.Nat.{ℕ}
 use native.Mathlib.Omega.{arith}
 use mathlib.Core.Path.{_≡_, refl, sym, ap, _∙_, subst}
 use mathlib.Core.List.{List, [], _∷_, _++_}
-use lib.ListN.{length}
+use lib.IntN.{ℤ, pos, natAbs}
+use lib.ListN.{length, getD}
+use Rattle.words.specs.Effort.{stepsMade}
 use Rattle.number.specs.declared.Number.{Number}
 use Rattle.number.specs.Number.{rounded}
 use Rattle.words.specs.Word.{Factors}
@@ -20,7 +22,7 @@ use Rattle.places.specs.Outcome.{Outcome}
 use Rattle.places.specs.Shelf.{rowsAt, holding, Good}
 use Rattle.places.specs.Tests.{above, empty, full, differ, unfit, targetTests, oneSource, twoSources}
 use Rattle.places.proofs.Checking.{good-tested}
-use Rattle.operations.specs.Operations.{resulting, factorTest, operationVerdict, operationCall, productAt, inverseAt, converseAt, submatrixAt}
+use Rattle.operations.specs.Operations.{resulting, done, factorTest, operationVerdict, operationCall, productAt, inverseAt, converseAt, submatrixAt}
 use Rattle.operations.specs.Operations.{singular, chosenTests, submatrixTests}
 use Rattle.operations.specs.Operations.{buildTests, buildCall}
 use Rattle.operations.specs.Promise.{Met, Built}
@@ -36,22 +38,23 @@ use Rattle.tnb_c.proofs.Numbers.{Numbered, AllNumbered, numbered, behin
 target-numbered : (s : Shelf) (t : ℕ) → AllNumbered (targetTests s t)
 target-numbered s t = (numbered (above t) 0, (numbered (full s t) 11, tt))
 
-one-numbered : (s : Shelf) (p t : ℕ) → AllNumbered (oneSource s p t)
+pub one-numbered : (s : Shelf) (p t : ℕ) → AllNumbered (oneSource s p t)
 one-numbered s p t = (numbered (above p) 0, (numbered (above t) 0, (numbered (empty s p) 10, (numbered (full s t) 11, tt))))
 
-two-numbered : (s : Shelf) (l r t : ℕ) → AllNumbered (twoSources s l r t)
+pub two-numbered : (s : Shelf) (l r t : ℕ) → AllNumbered (twoSources s l r t)
 two-numbered s l r t =
     let states : AllNumbered (when (empty s l) 11 ∷ when (empty s r) 11 ∷ when (full s t) 12 ∷ when (differ s l r) 13 ∷ []) =
     (numbered (empty s l) 10, (numbered (empty s r) 10, (numbered (full s t) 11, (numbered (differ s l r) 12, tt)))) in
     (numbered (above l) 0, (numbered (above r) 0, (numbered (above t) 0, states)))
 
--- A PROMISE P of the shelf and the bound
-module _ (P : Shelf → ℕ → Type 0) where
-  -- the shelf's own answer to a call whose tests have numbers: where it was accepted, P of what is held
-  resulting-promises : (s : Shelf) (t k e : ℕ) (b : Factors Number) (v : Verdict) → Numbered v → (v ≡ Accepted → P (holding s t k b) e)
-      → Promising P (answerOf (resulting s t v k e b))
-  resulting-promises s t k e b Accepted z h g = h refl
-  resulting-promises s t k e b (Refused w) z h g = absurd (omega (arith, z, g))
+-- A PROMISE P of the shelf, the bound and the steps
+module _ (P : Shelf → ℕ → ℕ → Type 0) where
+  -- the shelf's own answer to a call whose tests have numbers: where it was accepted, P of what is held and returned
+  resulting-promises : (s : Shelf) (t k : ℕ) (values : List ℤ) (b : Factors Number) (v : Verdict) → Numbered v
+      → (v ≡ Accepted → P (holding s t k b) (natAbs (getD values 0 (pos 0))) (natAbs (getD values 1 (pos 0))))
+      → Promising P (answerOf (resulting s t v k values b))
+  resulting-promises s t k values b Accepted z h g = h refl
+  resulting-promises s t k values b (Refused w) z h g = absurd (omega (arith, z, g))
 
   -- on a good shelf the call is run
   own-promises : (s : Shelf) → Good s → (c : Call) → Promising P (answerOf (run s c)) → Promising P (answerOf (checked s c))
@@ -68,19 +71,19 @@ module _ (P : Shelf → ℕ → Type 0) where
 -- DEMAND 3 of an operation o on sources of n rows, to place t
 module _ (a : Answer) (t n : ℕ) (o : Operation Number) where
   pub with-demand : (b : Answer) → a ≡ b → Answered b t n o → (a ≡ b) × Answered a t n o
-  with-demand b = with-promise (λ s k. Met s t n o k) a b
+  with-demand b = with-promise (λ s k e. Met s t n o k e) a b
 
   pub away-answered : (s : Shelf) → a ≡ answerOf (turnedAway s [] []) → Answered a t n o
-  away-answered = away-promising (λ s k. Met s t n o k) a
+  away-answered = away-promising (λ s k e. Met s t n o k e) a
 
 -- behind the tests L
 operation-answered : (L : List Verdict) (t n : ℕ) (o : Operation Number) → (firstOf L ≡ Accepted → Ready t n o) → AllNumbered L → (s : Shelf) → Good s
     → (c : Call) → run s c ≡ operationCall s L t n o → Answered (answerOf (checked s c)) t n o
 unfolding operationCall
 operation-answered L t n o ready numbers s good c e =
-    own-promises (λ s k. Met s t n o k) s good c
+    own-promises (λ s k e. Met s t n o k e) s good c
     (subst (λ (x : Outcome). Answered (answerOf x) t n o) (sym e)
-    (resulting-promises (λ s k. Met s t n o k) s t (size n o) (bound n o) (result rounded n o) (operationVerdict L n o)
+    (resulting-promises (λ s k e. Met s t n o k e) s t (size n o) (done (bound n o) (stepsMade rounded n o)) (result rounded n o) (operationVerdict L n o)
     (behind-numbered Accepted (L ++ (factorTest n o ∷ [])) tt (one-more L (outside (rowByRow (size n o) (result rounded n o))) 13 numbers))
     (operation-met L t n o ready s good)))
 
@@ -108,7 +111,7 @@ module _ (s : Shelf) (good : Good s) where
   pub build-answered : (t : ℕ) (stamps : List ℕ) → BuiltAnswer (answerOf (checked s (build t stamps))) t stamps
   unfolding run buildCall
   build-answered t stamps =
-      own-promises (λ s k. Built s t stamps k) s good (build t stamps)
-      (resulting-promises (λ s k. Built s t stamps k) s t (length stamps) stampBound (builtFactors stamps) (firstOf (buildTests s t stamps))
+      own-promises (λ s k e. Built s t stamps k) s good (build t stamps)
+      (resulting-promises (λ s k e. Built s t stamps k) s t (length stamps) (pos stampBound ∷ []) (builtFactors stamps) (firstOf (buildTests s t stamps))
       (behind-numbered Accepted (buildTests s t stamps) tt (one-more (targetTests s t) (mistimed stamps) 14 (target-numbered s t)))
       (build-met s t stamps good))

@@ -2,6 +2,7 @@
 pub mod Checked
 pub mod Numbers
 pub mod Answered
+pub mod Ahead
 pub mod Carried
 pub mod Logged
 pub mod Sentences

@@ -20,12 +20,14 @@ use Rattle.places.specs.Outcome.{Outcome}
 use Rattle.notices.specs.Sentence.{Notice, isUnsayable}
 use Rattle.notices.specs.Promise.{TellsOnly, sentenceRoom}
 use Rattle.lists.specs.Promise.{NoMoreReversals}
+use Rattle.operations.specs.declared.Task.{Task}
 use Rattle.operations.specs.Promise.{Met, Built}
-use Rattle.shelf.specs.Run.{Call, load, write, drop, product, inverse, converse, submatrix, transpose, build, minor, run, afterEach}
+use Rattle.shelf.specs.Run.{Call, load, write, byteLength, drop, operate, forecast, build, minor, run, afterEach}
 use Rattle.shelf.specs.Run.{carry, reversals, arithmetic, rest, sentence, rows, factor}
 use Rattle.tnb_c.specs.declared.Answer.{Answer}
 use Rattle.tnb_c.specs.declared.Length.{Length}
 use Rattle.tnb_c.specs.declared.Status.{Status}
+use Rattle.tnb_c.specs.declared.Steps.{Steps}
 use Rattle.tnb_c.specs.declared.Value.{Value}
 use Rattle.tnb_c.specs.declared.Worked.{Worked}
 
@@ -36,12 +38,10 @@ turnedAway s bytes items = record { shelf = s; report = refused 255 0; bytes = b
 abbrev pub foreign : Shelf → Call → Outcome
 foreign s (load p bytes) = turnedAway s [] []
 foreign s (write p out) = turnedAway s out []
+foreign s (byteLength p) = turnedAway s [] []
 foreign s (drop p) = turnedAway s [] []
-foreign s (product l r t) = turnedAway s [] []
-foreign s (inverse p t) = turnedAway s [] []
-foreign s (converse p t) = turnedAway s [] []
-foreign s (submatrix p I J t) = turnedAway s [] []
-foreign s (transpose p t) = turnedAway s [] []
+foreign s (operate o t) = turnedAway s [] []
+foreign s (forecast o) = turnedAway s [] []
 foreign s (build t stamps) = turnedAway s [] []
 foreign s (minor p I J) = turnedAway s [] []
 foreign s (carry p items out) = turnedAway s [] out
@@ -75,7 +75,13 @@ valueAt k (refused number offset) = pos 0
 
 -- THE STRUCTS
 abbrev pub answerOf : Outcome → Answer
-answerOf x = record { number = numberOf (x .report); bound = natAbs (valueAt 0 (x .report)); offset = offsetOf (x .report); shelf = x .shelf }
+answerOf x = record {
+  number = numberOf (x .report);
+  bound = natAbs (valueAt 0 (x .report));
+  offset = offsetOf (x .report);
+  steps = natAbs (valueAt 1 (x .report));
+  shelf = x .shelf;
+}
 
 abbrev pub lengthOf : Report → Length
 lengthOf r = record { number = numberOf r; offset = offsetOf r; length = natAbs (valueAt 0 r) }
@@ -96,17 +102,28 @@ workedOf r = record {
 abbrev pub statusOf : Report → Status
 statusOf r = record { number = numberOf r; offset = offsetOf r }
 
--- WHAT AN ANSWER PROMISES: where its number is 0, P of the shelf that is handed back and of the bound that is answered
-abbrev pub Promising : (Shelf → ℕ → Type 0) → Answer → Type 0
-Promising P a = a .number ≡ 0 → P (a .shelf) (a .bound)
+abbrev pub stepsOf : Report → Steps
+stepsOf r = record { number = numberOf r; offset = offsetOf r; steps = natAbs (valueAt 0 r) }
 
--- demand 3 of an operation o on sources of n rows: place t holds the result, within the bound
+-- WHAT AN ANSWER PROMISES: where its number is 0, P of the shelf that is handed back and of the bound and the steps that are answered
+abbrev pub Promising : (Shelf → ℕ → ℕ → Type 0) → Answer → Type 0
+Promising P a = a .number ≡ 0 → P (a .shelf) (a .bound) (a .steps)
+
+-- demand 3 of an operation o on sources of n rows: place t holds the result, within the bound; and its steps are those made and those foretold
 abbrev pub Answered : Answer → (t n : ℕ) → Operation Number → Type 0
-Answered a t n o = Promising (λ s k. Met s t n o k) a
+Answered a t n o = Promising (λ s k e. Met s t n o k e) a
 
 -- a build (document 02, request (a)): place t holds the factors of the stamps, within the bound
 abbrev pub BuiltAnswer : Answer → (t : ℕ) → (stamps : List ℕ) → Type 0
-BuiltAnswer a t stamps = Promising (λ s k. Built s t stamps k) a
+BuiltAnswer a t stamps = Promising (λ s k e. Built s t stamps k) a
+
+-- THE PROMISE OF A FORECAST (document 02, request (k)): to whatever place, an operation that is answered 0 was foretold, and made just those steps
+abbrev pub ForetoldAnswer : Shelf → Task → Steps → Type 0
+ForetoldAnswer s o f = (t : ℕ) → (let a = answerOf (checked s (operate o t)) in a .number ≡ 0 → (f .number ≡ 0) × (f .steps ≡ a .steps))
+
+-- and of a length: whatever is lent, a write that is answered 0 took just so many bytes
+abbrev pub MeasuredAnswer : Shelf → ℕ → Length → Type 0
+MeasuredAnswer s p f = (out : List ℕ) → (let w = lengthOf (checked s (write p out) .report) in w .number ≡ 0 → (f .number ≡ 0) × (f .length ≡ w .length))
 
 -- THE PROMISE OF A CARRY (document 02, request (b)): where its number is 0, the list that was written has no more reversals than the list that was given
 abbrev pub SteadyStatus : Status → (given out : List ℤ) → Type 0

@@ -6,17 +6,22 @@ ghost use Rattle.verdict.specs.Report.{accepted, refused, verdictReport};
 ghost use Rattle.writer.specs.Encoding.{writtenReport};
 ghost use Rattle.lists.specs.Lists.{reversalsReport};
 ghost use Rattle.arithmetic.specs.Arithmetic.{workedReport};
-ghost use Rattle.operations.specs.Reports.{operatedOutcome, valuedReport};
+ghost use Rattle.operations.specs.Reports.{filledOutcome, operatedOutcome, valuedReport};
+ghost use Rattle.operations.specs.Forecast.{foretoldReport};
 ghost use Rattle.shelf.specs.Reports.{changedOutcome, factorReport};
-ghost use Rattle.tnb_c.specs.Answers.{turnedAway, answerOf, lengthOf, valueOf, workedOf, statusOf};
+ghost use Rattle.tnb_c.specs.Answers.{turnedAway, answerOf, lengthOf, valueOf, workedOf, statusOf, stepsOf};
 use crate::Answer;
 use crate::Length;
 use crate::Status;
+use crate::Steps;
 use crate::Value;
 use crate::Worked;
 use lists::Reversals;
 use operations::Bounded;
+use operations::Filled;
+use operations::Foretold;
 use operations::Operated;
+use operations::Performed;
 use operations::Valued;
 use places::Shelf;
 use shelf::Changed;
@@ -32,6 +37,7 @@ pub fn foreign(shelf: Shelf) -> Answer
         number: 255,
         bound: 0,
         offset: 0,
+        steps: 0,
         shelf,
     }
 }
@@ -80,12 +86,14 @@ pub fn changed(x: Changed) -> Answer
             number: 0,
             bound: 0,
             offset: 0,
+            steps: 0,
             shelf,
         },
         Verdict::Refused(why) => Answer {
             number: why.number,
             bound: 0,
             offset: why.offset,
+            steps: 0,
             shelf,
         },
     }
@@ -97,17 +105,59 @@ pub fn operated(x: Operated) -> Answer
     let shelf = x.shelf;
     let answer = x.answer;
     match answer {
-        Bounded::Bound(bound) => Answer {
+        Performed::Done { bound, steps } => Answer {
             number: 0,
             bound,
             offset: 0,
+            steps,
+            shelf,
+        },
+        Performed::Refused(why) => Answer {
+            number: why.number,
+            bound: 0,
+            offset: why.offset,
+            steps: 0,
+            shelf,
+        },
+    }
+}
+
+pub fn filled(x: Filled) -> Answer
+    ensures { λ r. ⌜ r ≡ answerOf (filledOutcome x) ⌝ }
+{
+    let shelf = x.shelf;
+    let answer = x.answer;
+    match answer {
+        Bounded::Bound(k) => Answer {
+            number: 0,
+            bound: k,
+            offset: 0,
+            steps: 0,
             shelf,
         },
         Bounded::Refused(why) => Answer {
             number: why.number,
             bound: 0,
             offset: why.offset,
+            steps: 0,
             shelf,
+        },
+    }
+}
+
+pub fn foretold(x: Foretold) -> Steps
+    ensures { λ r. ⌜ r ≡ stepsOf (foretoldReport x) ⌝ }
+{
+    match x {
+        Foretold::Steps(k) => Steps {
+            number: 0,
+            offset: 0,
+            steps: k,
+        },
+        Foretold::Refused(why) => Steps {
+            number: why.number,
+            offset: why.offset,
+            steps: 0,
         },
     }
 }

@@ -8,21 +8,24 @@ ghost use Rattle.lists.specs.Lists.{reversalsCall};
 ghost use Rattle.arithmetic.specs.Arithmetic.{arithmeticCall};
 ghost use Rattle.notices.specs.Sentence.{notice, sentenceReport, bytesAfterSentence};
 ghost use Rattle.operations.specs.Operations.{productAt, inverseAt, converseAt, submatrixAt};
-ghost use Rattle.shelf.specs.Run.{load, drop, write, product, inverse, converse, submatrix, transpose, build, minor, carry, rows, factor};
-ghost use Rattle.tnb_c.specs.Answers.{checked, answerOf, lengthOf, valueOf, workedOf, statusOf};
-ghost use Rattle.tnb_c.specs.Answers.{Answered, BuiltAnswer, SteadyStatus, LoggedAnswer, SentenceAnswer};
+ghost use Rattle.shelf.specs.Run.{load, drop, write, byteLength, product, inverse, converse, submatrix, transpose, build, minor, forecast, carry, rows, factor};
+ghost use Rattle.tnb_c.specs.Answers.{checked, answerOf, lengthOf, valueOf, workedOf, statusOf, stepsOf};
+ghost use Rattle.tnb_c.specs.Answers.{Answered, BuiltAnswer, ForetoldAnswer, MeasuredAnswer, SteadyStatus, LoggedAnswer, SentenceAnswer};
 use arithmetic::Operator;
+use operations::Task;
 use places::Shelf;
 use places::check;
 
 mod answers; // answers.rt: the shelf's answers as structs
 
-// What a call answers that may change the shelf: 0, or the number of the refusal with its offset; the bound of an operation, else 0; and the shelf after it.
+// What a call answers that may change the shelf: 0, or the number of the refusal with its offset; the bound of an operation or a build and the steps of an
+// operation, else 0; and the shelf after it.
 #[repr(C)]
 pub struct Answer {
     pub number: u8,
     pub bound: u32,
     pub offset: usize,
+    pub steps: usize,
     pub shelf: Shelf,
 }
 
@@ -33,12 +36,20 @@ pub struct Status {
     pub offset: usize,
 }
 
-// How many bytes were written, reversals counted, or rows a place has.
+// How many bytes were written or will be, reversals counted, or rows a place has.
 #[repr(C)]
 pub struct Length {
     pub number: u8,
     pub offset: usize,
     pub length: usize,
+}
+
+// How many steps an operation will make.
+#[repr(C)]
+pub struct Steps {
+    pub number: u8,
+    pub offset: usize,
+    pub steps: usize,
 }
 
 // The mantissa and the exponent of a minor or a factor.
@@ -99,6 +110,18 @@ pub extern "C" fn tnb_write(shelf: Shelf, place: usize, out: &mut [u8]) -> Lengt
 {
     if check::is_good(shelf) {
         return answers::written(shelf::write(shelf, place, out));
+    }
+    answers::no_length(255, 0)
+}
+
+// How many bytes writing a place will take.
+#[no_mangle]
+pub extern "C" fn tnb_byte_length(shelf: Shelf, place: usize) -> Length
+    ensures { λ r. ⌜ r ≡ lengthOf (checked shelf (byteLength place) .report) ⌝ }
+    ensures { λ r. ⌜ MeasuredAnswer shelf place r ⌝ }
+{
+    if check::is_good(shelf) {
+        return answers::written(shelf::length(shelf, place));
     }
     answers::no_length(255, 0)
 }
@@ -168,6 +191,78 @@ pub extern "C" fn tnb_transpose(shelf: Shelf, source: usize, target: usize) -> A
     answers::foreign(shelf)
 }
 
+// The steps that an operation will make.
+fn foretold(shelf: Shelf, task: Task) -> Steps
+    ensures { λ r. ⌜ r ≡ stepsOf (checked shelf (forecast task) .report) ⌝ }
+    ensures { λ r. ⌜ ForetoldAnswer shelf task r ⌝ }
+{
+    if check::is_good(shelf) {
+        return answers::foretold(operations::forecast(shelf, task));
+    }
+    Steps {
+        number: 255,
+        offset: 0,
+        steps: 0,
+    }
+}
+
+// The steps that the product of two places will make.
+#[no_mangle]
+pub extern "C" fn tnb_forecast_product(shelf: Shelf, left: usize, right: usize) -> Steps
+    ensures { λ r. ⌜ r ≡ stepsOf (checked shelf (forecast (Task.Product left right)) .report) ⌝ }
+    ensures { λ r. ⌜ ForetoldAnswer shelf (Task.Product left right) r ⌝ }
+{
+    foretold(shelf, Task::Product { left, right })
+}
+
+// The steps that the re-signed inverse of a place will make.
+#[no_mangle]
+pub extern "C" fn tnb_forecast_inverse(shelf: Shelf, source: usize) -> Steps
+    ensures { λ r. ⌜ r ≡ stepsOf (checked shelf (forecast (Task.Inverse source)) .report) ⌝ }
+    ensures { λ r. ⌜ ForetoldAnswer shelf (Task.Inverse source) r ⌝ }
+{
+    foretold(shelf, Task::Inverse(source))
+}
+
+// The steps that the converse of a place will make.
+#[no_mangle]
+pub extern "C" fn tnb_forecast_converse(shelf: Shelf, source: usize) -> Steps
+    ensures { λ r. ⌜ r ≡ stepsOf (checked shelf (forecast (Task.Converse source)) .report) ⌝ }
+    ensures { λ r. ⌜ ForetoldAnswer shelf (Task.Converse source) r ⌝ }
+{
+    foretold(shelf, Task::Converse(source))
+}
+
+// The steps that the transpose of a place will make: none.
+#[no_mangle]
+pub extern "C" fn tnb_forecast_transpose(shelf: Shelf, source: usize) -> Steps
+    ensures { λ r. ⌜ r ≡ stepsOf (checked shelf (forecast (Task.Transpose source)) .report) ⌝ }
+    ensures { λ r. ⌜ ForetoldAnswer shelf (Task.Transpose source) r ⌝ }
+{
+    foretold(shelf, Task::Transpose(source))
+}
+
+// The steps that the chosen rows and columns of a place, given as masks, will make.
+#[no_mangle]
+pub extern "C" fn tnb_forecast_submatrix(
+    shelf: Shelf,
+    source: usize,
+    rows: u8,
+    columns: u8,
+) -> Steps
+    ensures { λ r. ⌜ r ≡ stepsOf (checked shelf (forecast (Task.Submatrix source rows columns)) .report) ⌝ }
+    ensures { λ r. ⌜ ForetoldAnswer shelf (Task.Submatrix source rows columns) r ⌝ }
+{
+    foretold(
+        shelf,
+        Task::Submatrix {
+            source,
+            rows,
+            columns,
+        },
+    )
+}
+
 // The matrix whose row i holds the powers 0 to n - 1 of stamp i, from n time stamps, 1 to 8, to an empty place.
 #[no_mangle]
 pub extern "C" fn tnb_build(shelf: Shelf, target: usize, stamps: &[u64]) -> Answer
@@ -175,7 +270,7 @@ pub extern "C" fn tnb_build(shelf: Shelf, target: usize, stamps: &[u64]) -> Answ
     ensures { λ r. ⌜ BuiltAnswer r target (now (stamps .entry)) ⌝ }
 {
     if check::is_good(shelf) {
-        return answers::operated(operations::build(shelf, target, stamps));
+        return answers::filled(operations::build(shelf, target, stamps));
     }
     answers::foreign(shelf)
 }

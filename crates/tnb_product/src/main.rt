@@ -11,9 +11,9 @@ ghost use Rattle.shelf.specs.Reports.{factorReport};
 ghost use Rattle.tnb_product.specs.Printed.{factorLine, rowLines, factorLines, resultText, refusalLine, printed, unlessRefused, longestText, programText};
 use libc::STDERR_FILENO;
 use libc::STDOUT_FILENO;
-use shelf::Bounded;
 use shelf::Factor;
 use shelf::Operated;
+use shelf::Performed;
 use shelf::Refusal;
 use shelf::Shelf;
 use shelf::Verdict;
@@ -134,8 +134,8 @@ fn put_product(out: &mut [u8], product: Operated) -> usize
     let shelf = product.shelf;
     let answer = product.answer;
     match answer {
-        Bounded::Bound(_) => put_result(out, shelf),
-        Bounded::Refused(why) => put_refused(out, why),
+        Performed::Done { bound: _, steps: _ } => put_result(out, shelf),
+        Performed::Refused(why) => put_refused(out, why),
     }
 }
 

@@ -10,4 +10,5 @@ pub mod Stages
 pub mod Acts
 pub mod Walking
 pub mod Minors
+pub mod Counting
 pub mod Steps

@@ -26,6 +26,7 @@ use Rattle.words.specs.Word.{Letter, E, Et, D, Dinv, Word}
 use Rattle.words.specs.Walk.{State, oneAt, moved, movedIf, scaled, act, walk, minor}
 use Rattle.words.specs.Operation as words
 use Rattle.words.specs.Operation.{stepWord, joinedWord}
+use Rattle.words.proofs.RowSets.{has-none}
 use Rattle.words.proofs.Steps.{sources-drop, step-rows, walk-joined}
 use Rattle.words.specs.Sources.{Walkable, Sources}
 use Rattle.words.proofs.Exponents.{walk-ranged}
@@ -105,16 +106,6 @@ minor-held n k i L J v p ln b c e h =
     ap (λ (x : ℕ). getD v x absent) e ∙ sym (held-back v n i b) ∙ h .same (ofMask n i) (ofMask-length n i) (mask-count n i ln b ∙ c)
 
 -- THE EMPTY MINOR: no letter changes the number of a set without rows
-none-has : (i : ℕ) (S : RowSet) → count S ≡ 0 → has i S ≡ false
-unfolding has count
-none-has i [] e = refl
-none-has i (true ∷ S) e = absurd (omega arith)
-none-has i (false ∷ S) e = by (eqb i (suc (length S))) (none-has i S e)
-  where
-    by : (b : Bool) → has i S ≡ false → cond b false (has i S) ≡ false
-    by true h = refl
-    by false h = h
-
 none-equal : (S T : RowSet) → length S ≡ length T → count S ≡ 0 → count T ≡ 0 → equal S T ≡ true
 unfolding equal count
 none-equal [] [] e c d = refl
@@ -129,7 +120,7 @@ module _ (K : Arithmetic) where
 
   none-moved : (a o : ℕ) (w : Num) (ω : State K) (S : RowSet) → count S ≡ 0 → moved K a o w ω S ≡ ω S
   unfolding moved
-  none-moved a o w ω S e = ap (λ (b : Bool). movedIf K (b && not (has o S)) a o w ω S) (none-has a S e)
+  none-moved a o w ω S e = ap (λ (b : Bool). movedIf K (b && not (has o S)) a o w ω S) (has-none a S e)
 
   none-scaled : (op : Num → Num → Num) (e : ℕ → Num) (S : RowSet) (x : Num) → count S ≡ 0 → scaled K op e S x ≡ x
   unfolding scaled count
@@ -153,7 +144,7 @@ module _ (K : Arithmetic) where
   unfolding minor oneAt
   minor-empty W I J e c d = none-walk W (oneAt K J) I c ∙ ap (λ (b : Bool). cond b (K .one) (K .zero)) (none-equal J I (sym e) d c)
 
-empty-rows : maskCount 0 ≡ 0
+pub empty-rows : maskCount 0 ≡ 0
 unfolding maskCount countTo maskHas
 empty-rows = refl
 

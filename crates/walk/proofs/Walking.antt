@@ -15,12 +15,12 @@ use Rattle.number.specs.Number.{rounded, zeroNumber, Ranged, Stored}
 use Rattle.number.specs.declared.Number.{Number}
 use Rattle.number.proofs.Reach.{ranged-more, ranged-zero}
 use Rattle.words.specs.RowSet.{RowSet, count}
-use Rattle.words.specs.Word.{Letter, Word}
+use Rattle.words.specs.Word.{Letter, Word, total}
 use Rattle.words.specs.Walk.{State, act, walk}
 use Rattle.words.specs.Operation as words
 use Rattle.words.specs.Operation.{stepWord, joinedWord}
 use Rattle.words.proofs.Walks.{Rows, All, all-behind}
-use Rattle.words.proofs.Related.{total, letterCost}
+use Rattle.words.proofs.Related.{letterCost}
 use Rattle.words.proofs.Counts.{total-append, joined-square}
 use Rattle.words.proofs.Steps.{Weights, step-rows, step-weights}
 use Rattle.words.specs.Sources.{Walkable, Source}

@@ -1,5 +1,6 @@
 // Minors (document 01, "The rounded rule"): a number for every set of k rows is held, and the letters of a word are applied from right to left.
-// The numbers are held in words, changed in place; the tables of row sets, the letters and the factors are lent by the caller, who made them once.
+// The sets that letters update are counted. The numbers are held in words, changed in place; the tables of row sets, the letters and the factors are lent by
+// the caller, who made them once.
 ghost use mathlib.Core.Path.{_≡_};
 ghost use mathlib.Core.Bool.{cond};
 ghost use Prim.Native.Nat.{_+_, _-_, _*_, _^_, _≤_, _<_};
@@ -10,6 +11,7 @@ ghost use Rattle.rowset.specs.Sets.{Neighbours, beginOf, Tables};
 ghost use Rattle.words.specs.RowSet.{ofMask};
 ghost use Rattle.words.specs.Walk.{moved, scaled, act, walk, minor};
 ghost use Rattle.words.specs.Operation.{stepWord, joinedWord};
+ghost use Rattle.words.specs.Effort.{letterSteps, walkSteps};
 ghost use Rattle.words.specs.Sources.{Walkable, Source, Sources};
 ghost use Rattle.walk.specs.Letters.{middle};
 ghost use Rattle.walk.specs.Packed.{heldBy};
@@ -43,6 +45,13 @@ pub struct Joined {
     pub steps: [Step; 6],
     pub count: usize,
     pub n: usize,
+}
+
+// A number, and the steps that it took: how many row sets letters E and Et were applied to for it (document 02, (k)), those among them whose number a zero
+// left as it was. (`steps` of `Joined` are sources, each with its way.)
+pub struct Counted {
+    pub number: Number,
+    pub steps: usize,
 }
 
 // Each set with row a and without row o gets its number plus w times that of the set with o in place of a, the product rounded first.
@@ -177,7 +186,7 @@ fn diagonal(
     }
 }
 
-// Letter t of the word of step c.
+// Letter t of the word of step c. Its steps are the sets that it updates; D takes none.
 fn act(
     u: &mut [u64; 70],
     tables: &[u8; 1408],
@@ -190,24 +199,26 @@ fn act(
     way: Way,
     c: usize,
     t: usize,
-)
+) -> usize
     requires { ⌜ (1 ≤ k) × (k ≤ n) × (n ≤ 8) × (c < 6) × (t < 2 * middle n + 1) ⌝ }
     requires { ⌜ (begin ≡ beginOf (k - 1)) × (many ≡ countBelow (k - 1) (2 ^ (n - 2))) × (many < 71) ⌝ }
     requires { ⌜ Working letterReach n k (heldBy (now u)) × Source (Walkable n) (stepIn way (now factors) c) ⌝ }
     requires { ⌜ (length (now u) ≡ 70) × Tables n (now tables) × Spelled n way c (now letters) ⌝ }
     ensures { λ _. ⌜ Agree n k (heldBy (now (u .exit))) (act rounded (letterAt n way (tableIn (now (factors .entry)) c) t) (heldBy (now (u .entry)))) ⌝ }
     ensures { λ _. ⌜ length (now (u .exit)) ≡ 70 ⌝ }
+    ensures { λ r. ⌜ (r ≡ letterSteps n k (letterAt n way (tableIn (now (factors .entry)) c) t)) × (r < 71) ⌝ }
 {
     if t == letters::middle(n) {
         diagonal(&mut *u, tables, factors, c, n, k, way);
-        return;
+        return 0;
     }
     let l = source::letter_in(letters, n, way, c, t);
     let w = source::factor_in(factors, c * 64 + l.at);
     moved(&mut *u, tables, n, k, begin, many, l.to, l.from, w);
+    many
 }
 
-// The word of step c, from right to left.
+// The word of step c, from right to left; answered with its steps.
 fn walked(
     u: &mut [u64; 70],
     tables: &[u8; 1408],
@@ -219,18 +230,20 @@ fn walked(
     many: usize,
     way: Way,
     c: usize,
-)
+) -> usize
     requires { ⌜ (1 ≤ k) × (k ≤ n) × (n ≤ 8) × (c < 6) ⌝ }
     requires { ⌜ (begin ≡ beginOf (k - 1)) × (many ≡ countBelow (k - 1) (2 ^ (n - 2))) × (many < 71) ⌝ }
     requires { ⌜ Working stepReach n k (heldBy (now u)) × Source (Walkable n) (stepIn way (now factors) c) ⌝ }
     requires { ⌜ (length (now u) ≡ 70) × Tables n (now tables) × Spelled n way c (now letters) ⌝ }
     ensures { λ _. ⌜ Agree n k (heldBy (now (u .exit))) (walk rounded (stepWord n (stepIn way (now (factors .entry)) c)) (heldBy (now (u .entry)))) ⌝ }
     ensures { λ _. ⌜ length (now (u .exit)) ≡ 70 ⌝ }
+    ensures { λ r. ⌜ (r ≡ walkSteps n k (stepWord n (stepIn way (now (factors .entry)) c))) × (r ≤ 4000) ⌝ }
 {
+    let mut steps: usize = 0;
     let mut t = 2 * letters::middle(n) + 1;
     while 0 < t {
         t -= 1;
-        act(
+        steps += act(
             &mut *u,
             tables,
             letters,
@@ -244,6 +257,7 @@ fn walked(
             t,
         );
     }
+    steps
 }
 
 // How many sets of k rows out of n a letter changes: none where there is no letter.
@@ -260,7 +274,7 @@ fn changes(n: usize, k: usize) -> usize
 }
 
 impl Joined {
-    // The minor of the joined word with row set i and column set j. The walk starts with 1 at j, 0 elsewhere.
+    // The minor of the joined word with row set i and column set j. The walk starts with 1 at j, 0 elsewhere. An empty minor takes no steps.
     pub fn minor(
         self,
         tables: &[u8; 1408],
@@ -268,16 +282,20 @@ impl Joined {
         factors: &[u64; 768],
         i: usize,
         j: usize,
-    ) -> Number
+    ) -> Counted
         requires { ⌜ (1 ≤ self .n) × (self .n ≤ 8) × (self .count ≤ 6) ⌝ }
         requires { ⌜ (i < 2 ^ self .n) × (j < 2 ^ self .n) × (maskCount i ≡ maskCount j) ⌝ }
         requires { ⌜ Sources (Walkable (self .n)) (stepsOf self (now factors)) ⌝ }
         requires { ⌜ Tables (self .n) (now tables) × AllSpelled self (now letters) ⌝ }
-        ensures { λ r. ⌜ r ≡ minor rounded (joinedWord (self .n) (stepsOf self (now (factors .entry)))) (ofMask (self .n) i) (ofMask (self .n) j) ⌝ }
+        ensures { λ r. ⌜ r .number ≡ minor rounded (joinedWord (self .n) (stepsOf self (now (factors .entry)))) (ofMask (self .n) i) (ofMask (self .n) j) ⌝ }
+        ensures { λ r. ⌜ (r .steps ≡ walkSteps (self .n) (maskCount i) (joinedWord (self .n) (stepsOf self (now (factors .entry))))) × (r .steps ≤ 24000) ⌝ }
     {
         let n = self.n;
         if j == 0 {
-            return Number::one();
+            return Counted {
+                number: Number::one(),
+                steps: 0,
+            };
         }
         let k = rowset::count(j);
         let begin = lent::begin(k - 1);
@@ -285,13 +303,17 @@ impl Joined {
         let zero = packed::pack(Number::zero());
         let mut v = [zero; 70];
         v[lent::position_in(tables, j)] = packed::pack(Number::one());
+        let mut steps: usize = 0;
         let mut c = self.count;
         while 0 < c {
             c -= 1;
             let s = self.steps[c];
             let way = s.way;
-            walked(&mut v, tables, letters, factors, n, k, begin, many, way, c);
+            steps += walked(&mut v, tables, letters, factors, n, k, begin, many, way, c);
         }
-        packed::unpack(v[lent::position_in(tables, i)])
+        Counted {
+            number: packed::unpack(v[lent::position_in(tables, i)]),
+            steps,
+        }
     }
 }

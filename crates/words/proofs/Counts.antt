@@ -7,9 +7,9 @@ use Prim.Native.Nat.{ℕ, zero, suc, _+_, _-_, _*_, _≤_, _<_}
 use native.Mathlib.Nat.{mul-le-mul}
 use native.Mathlib.Omega.{arith}
 use lib.ListN.{length}
-use Rattle.words.specs.Word.{Factors, Letter, E, Et, D, Dinv, Word, ascending, descending, forUp, forDown, word, inverseLetter, inverseWord}
+use Rattle.words.specs.Word.{Factors, Letter, E, Et, D, Dinv, Word, ascending, descending, forUp, forDown, word, inverseLetter, inverseWord, total}
 use Rattle.words.specs.Word.{converseLetter, converseWord, exchanged}
-use Rattle.words.proofs.Related.{total, letterCost}
+use Rattle.words.proofs.Related.{letterCost}
 use Rattle.words.specs.Operation.{plain, inverted, conversed, transposed, Step, step, stepWord, joinedWord}
 
 -- twice the two halves of a word of n = k + 1 rows, and D
@@ -25,6 +25,12 @@ module _ {A : Type 0} (f : Letter A → ℕ) where
   unfolding total
   total-append [] W = omega arith
   total-append (l ∷ U) W = omega (arith, total-append U W)
+
+  -- a step more in front
+  pub total-joined : (n : ℕ) (s : Step A) (L : List (Step A)) → total f (joinedWord n (s ∷ L)) ≡ total f (stepWord n s) + total f (joinedWord n L)
+  unfolding joinedWord total
+  total-joined n s [] = omega arith
+  total-joined n s (t ∷ L) = total-append (stepWord n s) (joinedWord n (t ∷ L))
 
   module _ (e d : ℕ) (moving : (j : ℕ) (w : A) → (f (E j w) ≡ e) × (f (Et j w) ≡ e)) (scaling : (g : ℕ → A) → (f (D g) ≡ d) × (f (Dinv g) ≡ d)) where
     -- one letter for each j

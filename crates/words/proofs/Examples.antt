@@ -1,5 +1,5 @@
--- The worked examples hold (rule-examples, zero-examples), and so do the tables of bounds (bound-examples), by computing; the bounds are the paper's formulas
--- (product-bound, source-bound).
+-- The worked examples hold (rule-examples, zero-examples, steps-examples), and so do the tables of bounds (bound-examples), by computing; the bounds are the
+-- paper's formulas (product-bound, source-bound).
 use mathlib.Core.Path.{_≡_, refl}
 use Prim.Native.Nat.{ℕ, _+_, _-_, _*_}
 use native.Mathlib.Omega.{arith}
@@ -9,11 +9,12 @@ use Rattle.number.specs.Number.{roundBy, renormalised, sumBy, productBy, quotie
 use Rattle.number.specs.Signed.{signedRound, signedSum, withSign, signedProduct}
 use Rattle.words.specs.RowSet.{has, put, count, allBefore, equal, rows, ofMask, among}
 use Rattle.words.specs.Latest.{some, latest}
-use Rattle.words.specs.Word.{ascending, descending, word, inverseWord, converseWord}
+use Rattle.words.specs.Word.{ascending, descending, word, inverseWord, converseWord, total}
 use Rattle.words.specs.Walk.{oneAt, moved, scaled, act, walk, minor, carryLetter, carry}
 use Rattle.words.specs.Formula.{latestBefore, onDiagonal, belowDiagonal, bandedBelow, factorsBy}
 use Rattle.words.specs.Operation.{joinedWord, boundOf, rowByRow, result}
-use Rattle.words.specs.Examples.{ruleTable, twoZerosTable, boundTable}
+use Rattle.words.specs.Effort.{setsWith, updated, sumOver, factorSteps, stepsMade, choose, quotientSteps}
+use Rattle.words.specs.Examples.{ruleTable, twoZerosTable, boundTable, stepsTable}
 
 pub rule-examples : AllHold ruleTable
 unfolding ruleTable has put count allBefore equal rows ofMask among ascending descending word inverseWord converseWord joinedWord oneAt moved scaled act walk
@@ -29,6 +30,12 @@ zero-examples = (refl, (refl, (refl, tt)))
 pub bound-examples : AllHold boundTable
 unfolding boundTable ascending
 bound-examples = (refl, (refl, (refl, tt)))
+
+pub steps-examples : AllHold stepsTable
+unfolding stepsTable setsWith updated total sumOver factorSteps stepsMade choose quotientSteps has put count allBefore equal rows ofMask among ascending
+    descending word inverseWord joinedWord oneAt moved scaled act walk minor some latest latestBefore onDiagonal belowDiagonal factorsBy roundBy
+    renormalised sumBy productBy quotientBy size lib.Ieee.span lib.Ieee.climb
+steps-examples = (refl, (refl, (refl, (refl, (refl, (refl, tt))))))
 
 -- as the paper writes them, for any number of rows
 pub product-bound : (n : ℕ) → boundOf 2 n ≡ 16 * n * n - 8 * n + 3

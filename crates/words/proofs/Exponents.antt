@@ -14,13 +14,13 @@ use Rattle.number.specs.declared.Number.{Number}
 use Rattle.number.specs.Number.{bias, reach, zeroNumber, oneNumber, productOf, quotientOf, rounded, Ranged, Stored}
 use Rattle.number.proofs.Reach.{ranged-more, ranged-zero, ranged-one, ranged-stored, ranged-sum, ranged-product, ranged-quotient}
 use Rattle.words.specs.RowSet.{In, RowSet, equal}
-use Rattle.words.specs.Word.{Word}
+use Rattle.words.specs.Word.{Word, total}
 use Rattle.words.specs.Walk.{State, oneAt, scaled, walk}
 use Rattle.words.specs.Operation.{Step, joinedWord}
 use Rattle.words.proofs.Walks.{All, all-behind}
 use Rattle.words.specs.Sources.{Sources, Walkable, runReach}
 use Rattle.words.proofs.Steps.{Weights, joined-weights}
-use Rattle.words.proofs.Related.{Related, repeated, total, letterCost, scaled-related, after, repeated-measure, after-measure, walk-related}
+use Rattle.words.proofs.Related.{Related, repeated, letterCost, scaled-related, after, repeated-measure, after-measure, walk-related}
 use Rattle.words.proofs.Alike.{letters-self}
 use Rattle.words.proofs.Counts.{total-append, joined-square}
 

@@ -12,6 +12,10 @@ pub mod Related
 pub mod Alike
 pub mod Counts
 pub mod Formulas
+pub mod Effort
+pub mod Sums
+pub mod Foretold
+pub mod Totals
 pub mod Exponents
 pub mod Examples
 pub mod RowByRow

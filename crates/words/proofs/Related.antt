@@ -10,7 +10,7 @@ use native.Mathlib.Omega.{arith}
 use lib.ListN.{length}
 use Rattle.fraction.specs.Arithmetic.{Arithmetic}
 use Rattle.words.specs.RowSet.{RowSet, has, replaced, equal}
-use Rattle.words.specs.Word.{Letter, E, Et, D, Dinv, Word}
+use Rattle.words.specs.Word.{Letter, E, Et, D, Dinv, Word, total}
 use Rattle.words.specs.Walk.{State, oneAt, moved, movedIf, scaled, act, walk, minor}
 use Rattle.words.proofs.RowSets.{length-replaced}
 
@@ -35,12 +35,8 @@ unfoldable pub repeated : {G : Type 0} → ℕ → (G → G) → G → G
 repeated zero f g = g
 repeated (suc n) f g = f (repeated n f g)
 
--- the sum of f over the letters of a word; a for each E and Et, d for each D
+-- a for each E and Et, d for each D
 module _ {A : Type 0} where
-  unfoldable pub total : (Letter A → ℕ) → Word A → ℕ
-  total f [] = 0
-  total f (l ∷ W) = f l + total f W
-
   abbrev pub letterCost : ℕ → ℕ → Letter A → ℕ
   letterCost a d (E j w) = a
   letterCost a d (Et j w) = a

@@ -1,4 +1,4 @@
--- Laws of row sets: the rows 1 .. n (in-under, in-top); the highest row and the rows under it (has-top, has-under, put-top, put-under, replaced-down,
+-- Laws of row sets: the rows 1 .. n (in-under, in-top); the highest row and the rows under it (has-top, has-under, has-none, put-top, put-under, replaced-down,
 -- replaced-up);
 -- lengths (length-put, length-replaced, length-rows); sets that are equal (equal-same, equal-true).
 use mathlib.Core.Path.{_≡_, refl, ap, _∙_}
@@ -9,7 +9,7 @@ use native.Mathlib.Omega.{arith}
 use lib.Dec.{eqb}
 use lib.ListN.{length}
 use borrow.Author.Tests.{eq-eqb, ne-eqb}
-use Rattle.words.specs.RowSet.{In, RowSet, has, put, replaced, equal, rows}
+use Rattle.words.specs.RowSet.{In, RowSet, has, put, count, replaced, equal, rows}
 
 -- a row of n is one of n + 1, and so is the highest
 pub in-under : {n i : ℕ} → In n i → In (suc n) i
@@ -26,6 +26,17 @@ has-top x S = rw (eq-eqb (suc (length S)) (suc (length S)) refl)
 pub has-under : (i : ℕ) (x : Bool) (S : RowSet) → i ≤ length S → has i (x ∷ S) ≡ has i S
 unfolding has
 has-under i x S h = rw (ne-eqb i (suc (length S)) (λ e. omega arith))
+
+-- a set without rows has none
+pub has-none : (i : ℕ) (S : RowSet) → count S ≡ 0 → has i S ≡ false
+unfolding has count
+has-none i [] e = refl
+has-none i (true ∷ S) e = absurd (omega arith)
+has-none i (false ∷ S) e = by (eqb i (suc (length S))) (has-none i S e)
+  where
+    by : (b : Bool) → has i S ≡ false → cond b false (has i S) ≡ false
+    by true h = refl
+    by false h = h
 
 pub put-top : (y x : Bool) (S : RowSet) → put (suc (length S)) y (x ∷ S) ≡ y ∷ S
 unfolding put

@@ -1,5 +1,6 @@
--- Worked examples of words, walks and formulas (ruleTable), of a source with zeros (twoZerosTable), and document 01's two tables of bounds (boundTable). Its
--- marked examples P1 to P12 are one table of calls in crate shelf; the rows here hold the definitions of this crate to the same values.
+-- Worked examples of words, walks and formulas (ruleTable), of a source with zeros (twoZerosTable), of steps made and foretold (stepsTable), and document
+-- 01's two tables of bounds (boundTable). Its marked examples P1 to P12 are one table of calls in crate shelf; the rows here hold the definitions of this
+-- crate to the same values.
 use mathlib.Core.Bool.{true, false, cond, _&&_}
 use mathlib.Core.List.{List, [], _∷_}
 use Prim.Native.Nat.{ℕ, _*_, _^_}
@@ -14,6 +15,7 @@ use Rattle.words.specs.Word.{Factors, word, forUp}
 use Rattle.words.specs.Walk.{minor, carry}
 use Rattle.words.specs.Formula.{latestBefore, newFactor}
 use Rattle.words.specs.Operation.{Operation, product, inverse, converse, submatrix, size, bound, rowByRow, result}
+use Rattle.words.specs.Effort.{stepsMade, stepsForetold}
 
 -- the source whose factors are all one
 abbrev pub ones : Factors Number
@@ -95,4 +97,15 @@ boundTable =
     row (forUp 1 8 (λ n. bound n (product ones ones) ∷ [])) (11 ∷ 51 ∷ 123 ∷ 227 ∷ 363 ∷ 531 ∷ 731 ∷ 963 ∷ [])
     ∷ row (forUp 1 8 (λ n. bound n (inverse ones) ∷ [])) (7 ∷ 27 ∷ 63 ∷ 115 ∷ 183 ∷ 267 ∷ 367 ∷ 483 ∷ [])
     ∷ row (bound 3 (cornerOf ones)) 63  -- which goes by the source's rows
+    ∷ []
+
+-- steps: of the paper's product, of a submatrix and of a source with zeros as they are made; of products, of one source and of a submatrix as they are foretold
+unfoldable pub stepsTable : List Row
+stepsTable =
+    row (stepsMade rounded 2 (product ones ones)) 24
+    ∷ row (stepsMade rounded 3 (cornerOf ones)) 42
+    ∷ row (stepsMade rounded 4 (inverse twoZeros)) 672  -- zeros count like other factors
+    ∷ row (forUp 1 8 (λ n. stepsForetold n (product ones ones) ∷ [])) (0 ∷ 24 ∷ 240 ∷ 1344 ∷ 5760 ∷ 21120 ∷ 69888 ∷ 215040 ∷ [])
+    ∷ row (forUp 1 8 (λ n. stepsForetold n (inverse ones) ∷ [])) (0 ∷ 12 ∷ 120 ∷ 672 ∷ 2880 ∷ 10560 ∷ 34944 ∷ 107520 ∷ [])
+    ∷ row (stepsForetold 3 (cornerOf ones)) 42
     ∷ []

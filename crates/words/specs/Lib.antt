@@ -5,4 +5,5 @@ pub mod Walk
 pub mod Formula
 pub mod Operation
 pub mod Sources
+pub mod Effort
 pub mod Examples

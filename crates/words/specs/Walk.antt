@@ -8,6 +8,10 @@ use Rattle.fraction.specs.Arithmetic.{Arithmetic}
 use Rattle.words.specs.RowSet.{RowSet, has, replaced, equal}
 use Rattle.words.specs.Word.{Letter, E, Et, D, Dinv, Word}
 
+-- the sets with row a and without row o: those that a letter updates
+abbrev pub moves : ℕ → ℕ → RowSet → Bool
+moves a o S = has a S && not (has o S)
+
 module _ (K : Arithmetic) where
   open Arithmetic K using (Num, add, mul, div)
 
@@ -25,7 +29,7 @@ module _ (K : Arithmetic) where
 
   -- each set S with row a and without row o gets its number plus w times the number of S with o in place of a
   unfoldable pub moved : ℕ → ℕ → Num → State → State
-  moved a o w ω S = movedIf (has a S && not (has o S)) a o w ω S
+  moved a o w ω S = movedIf (moves a o S) a o w ω S
 
   -- x multiplied, or divided, by the entries e i of the rows i of S, in ascending order
   unfoldable pub scaled : (Num → Num → Num) → (ℕ → Num) → RowSet → Num → Num

@@ -6,9 +6,6 @@ use Rattle.answers.proofs.put_written.Tie as tie
 enum-known-answer : tie.Need-enum-known-answer
 enum-known-answer c = search needs
 
-slice-aggregate-put-count : tie.Need-slice-aggregate-put-count
-slice-aggregate-put-count c = search needs
-
 put-count-requires : tie.Need-put-count-requires
 put-count-requires c κs = search needs
 
@@ -22,7 +19,7 @@ same-length : tie.Need-same-length
 same-length c = search needs
 
 returns : tie.Need-returns
-returns c = rw (c .before .before .before .before .before .before .answer .given .1) (c .before .before .put-count .ensures)
+returns c = rw (c .before .before .before .before .before .answer .given .1) (c .before .before .put-count .ensures)
 
 same-length-2 : tie.Need-same-length-2
 same-length-2 c = search needs
@@ -35,7 +32,6 @@ put-written-spec =
     tie.close
     (tie.spec
     enum-known-answer
-    slice-aggregate-put-count
     put-count-requires
     enum-known-answer-2
     put-refusal-requires

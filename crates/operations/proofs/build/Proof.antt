@@ -11,11 +11,15 @@ built-requires c κs = search needs
 keep-requires : tie.Need-keep-requires
 keep-requires c κs = search needs
 
+filled-requires : tie.Need-filled-requires
+filled-requires c κs = search needs
+
 returns : tie.Need-returns
 returns c =
-    let begin = c .before .before .before in
+    let begin = c .before .before .before .before in
     let a = begin .args in
-    build-done (a .shelf) (a .target) (now (a .stamps)) (begin .pre) _ _ (c .before .built .ensures .0) (c .keep .ensures)
+    build-done (a .shelf) (a .target) (now (a .stamps)) (begin .pre) _ _ _ (c .before .before .built .ensures .0) (c .before .keep .ensures)
+    (c .filled .ensures)
 
 pub build-spec : {M : Type 1} → statement M
-build-spec = tie.close (tie.spec built-requires keep-requires returns)
+build-spec = tie.close (tie.spec built-requires keep-requires filled-requires returns)

@@ -16,8 +16,8 @@ is-good-requires c κs = search needs
 build-requires : tie.Need-build-requires
 build-requires c κs = c .before .is-good .ensures .1 (c .if1 .taken)
 
-operated-requires : tie.Need-operated-requires
-operated-requires c κs = search needs
+filled-requires : tie.Need-filled-requires
+filled-requires c κs = search needs
 
 returns : tie.Need-returns
 unfolding run
@@ -26,9 +26,9 @@ returns c =
     let a = begin .before .before .args in
     let passed = c .before .before .if1 .taken in
     let good = begin .is-good .ensures .1 passed in
-    let own = c .operated .ensures ∙ ap answerOf (c .before .build .ensures .0) in
+    let own = c .filled .ensures ∙ ap answerOf (c .before .build .ensures .0) in
     let ran = answered (a .shelf) (build (a .target) (now (a .stamps))) answerOf (begin .is-good .ensures .0) passed own in
-    with-promise (λ s k. Built s (a .target) (now (a .stamps)) k) _ _ ran (build-answered (a .shelf) good (a .target) (now (a .stamps)))
+    with-promise (λ s k e. Built s (a .target) (now (a .stamps)) k) _ _ ran (build-answered (a .shelf) good (a .target) (now (a .stamps)))
 
 foreign-requires : tie.Need-foreign-requires
 foreign-requires c κs = search needs
@@ -38,7 +38,7 @@ returns-2 c =
     let begin = c .before .before in
     let a = begin .before .before .args in
     let tested = begin .is-good .ensures .0 in
-    let away = away-promising (λ s k. Built s (a .target) (now (a .stamps)) k) _ _ (c .foreign .ensures) in
+    let away = away-promising (λ s k e. Built s (a .target) (now (a .stamps)) k) _ _ (c .foreign .ensures) in
     (turned-away _ (build _ _) answerOf tested (c .before .if1 .left) (c .foreign .ensures), away)
 
 pub tnb-build-spec : {M : Type 1} → statement M
@@ -47,7 +47,7 @@ tnb-build-spec =
     (tie.spec
     is-good-requires
     build-requires
-    operated-requires
+    filled-requires
     returns
     foreign-requires
     returns-2)

@@ -14,6 +14,7 @@ use Rattle.walk.specs.Packed.{numbersOf}
 use Rattle.walk.proofs.Held.{agree-trans}
 use Rattle.walk.proofs.Lent.{factor-at}
 use Rattle.walk.proofs.Acts.{letter-moved, letter-ranged, letter-scaled, entries-stored}
+use Rattle.walk.proofs.Counting.{move-counted, diagonal-counted}
 use Rattle.walk.proofs.act.Statement.{statement}
 use Rattle.walk.proofs.act.Tie as tie
 
@@ -40,7 +41,10 @@ returns c =
     let e : a .t ≡ middle (a .n) = c .before .before .if1 .taken ∙ c .before .before .before .middle .ensures .0 in (
       agree-trans (c .diagonal .ensures .0)
           (letter-scaled (a .n) (a .way) (table b) (b .pre .1 .1 .0 .1) (search needs) (b .pre .0 .2) (a .t) (b .pre .0 .4) (a .k) e (state b)),
-      c .diagonal .ensures .1,
+      (
+        c .diagonal .ensures .1,
+        (diagonal-counted (a .n) (a .k) (a .way) (table b) (b .pre .1 .1 .0 .1) (search needs) (b .pre .0 .2) (a .t) (b .pre .0 .4) e, omega arith),
+      ),
     )
 
 -- not the letter in the middle
@@ -90,8 +94,17 @@ returns-2 c =
     let a = b .args in
     let m = letter f .letter-in in
     let e = letter-moved (a .n) (a .way) (table b) (b .pre .1 .1 .0 .1) (search needs) (b .pre .0 .2) (a .t) (b .pre .0 .4)
-    (apart (letter f .before)) (m .result) (m .ensures .0) _ (factor f) (state b) in
-    (subst (Agree (a .n) (a .k) _) (sym e) (c .moved .ensures .0), c .moved .ensures .1)
+    (apart (letter f .before)) (m .result) (m .ensures .0) _ (factor f) (state b) in (
+      subst (Agree (a .n) (a .k) _) (sym e) (c .moved .ensures .0),
+      (
+        c .moved .ensures .1,
+        (
+          move-counted (a .n) (a .k) (a .way) (table b) (b .pre .1 .1 .0 .1) (search needs) (b .pre .0 .2) (a .t) (b .pre .0 .4) (b .pre .0 .0)
+              (b .pre .0 .1) (apart (letter f .before)) (a .many) (b .pre .1 .0 .1),
+          b .pre .1 .0 .2,
+        ),
+      ),
+    )
 
 pub act-spec : {M : Type 1} → statement M
 act-spec =

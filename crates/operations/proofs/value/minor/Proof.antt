@@ -34,11 +34,11 @@ minor-requires c κs =
 returns : tie.Need-returns
 unfolding joinedWord
 returns c =
-    let put = c .before .before .before .before in
+    let put = c .before .before .before .before .before in
     let empty = put .before .before .before in
     let a = empty .before .before .args in
     let made = made-next (stepOf Plain (a .factors)) (made-none (empty .no-steps .ensures)) (put .put-step .ensures) in
-    c .minor .ensures ∙ made-minor made (a .i) (a .j)
+    c .before .minor .ensures .0 ∙ made-minor made (a .i) (a .j)
 
 pub minor-spec : {M : Type 1} → statement M
 minor-spec = tie.close (tie.spec tables-requires no-steps-requires put-step-requires minor-requires returns)

@@ -1,7 +1,7 @@
 -- A result kept, by cases on its answer (`kept-by`); what can be kept fits its place.
 use Rattle.operations.specs.declared.Operated.{Operated}
 use Rattle.places.specs.declared.Shelf.{Shelf}
-use Rattle.operations.specs.declared.Bounded.the-variants.{Bound}
+use Rattle.operations.specs.declared.Performed.the-variants.{Done}
 use Rattle.operations.proofs.Proposals.{kept-by}
 use mathlib.Core.Path.{refl, ap}
 use borrow.Author.Needs.{needs}
@@ -14,7 +14,7 @@ enum-known-answer c = search needs
 with-table-requires : tie.Need-with-table-requires
 with-table-requires c κs =
     let begin = c .before .before .before .before in
-    let h = begin .pre .1 _ (c .before .before .answer .given .1) in
+    let h = begin .pre .1 _ _ (c .before .before .answer .given .1) in
     (begin .pre .0, h .0, h .1)
 
 enum-known-answer-2 : tie.Need-enum-known-answer-2
@@ -23,9 +23,10 @@ enum-known-answer-2 c = search needs
 returns : tie.Need-returns
 returns c =
     let known = c .before .before .before in
+    let told = known .answer .given .0 in
     let a = known .before .before .args in (
       kept-by (a .shelf) (a .target) (a .result) _ (known .answer .given .1) _
-          (ap (λ (s : Shelf). let r : Operated = record { shelf = s; answer = Bound (known .answer .given .0 .0) } in r) (c .with-table .ensures .0)),
+          (ap (λ (s : Shelf). let r : Operated = record { shelf = s; answer = Done (told .0) (told .1 .0) } in r) (c .with-table .ensures .0)),
       c .with-table .ensures .1,
     )
 

@@ -3,7 +3,7 @@ use mathlib.Core.Path.{ap}
 use mathlib.Core.List.{List}
 use Rattle.number.specs.declared.Number.{Number}
 use Rattle.operations.specs.declared.Proposed.{Proposed}
-use Rattle.operations.specs.declared.Bounded.the-variants.{Refused}
+use Rattle.operations.specs.declared.Performed.the-variants.{Refused}
 use borrow.Author.Needs.{needs}
 use Rattle.operations.proofs.work.turned_down.Statement.{statement}
 use Rattle.operations.proofs.work.turned_down.Tie as tie

@@ -7,6 +7,9 @@ use borrow.Author.Needs.{needs}
 use Rattle.replies.proofs.calls.wrote.Statement.{statement}
 use Rattle.replies.proofs.calls.wrote.Tie as tie
 
+slice-aggregate-put-written : tie.Need-slice-aggregate-put-written
+slice-aggregate-put-written c = search needs
+
 put-written-requires : tie.Need-put-written-requires
 put-written-requires c κs = search needs
 
@@ -37,6 +40,7 @@ pub wrote-spec : {M : Type 1} → statement M
 wrote-spec =
     tie.close
     (tie.spec
+    slice-aggregate-put-written
     put-written-requires
     slice-aggregate-put
     put-requires

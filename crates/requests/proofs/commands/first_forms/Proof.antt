@@ -35,49 +35,17 @@ slice-aggregate-named-5 c = search needs
 named-requires-5 : tie.Need-named-requires-5
 named-requires-5 c κs = search needs
 
-slice-aggregate-named-6 : tie.Need-slice-aggregate-named-6
-slice-aggregate-named-6 c = search needs
-
-named-requires-6 : tie.Need-named-requires-6
-named-requires-6 c κs = search needs
-
-slice-aggregate-named-7 : tie.Need-slice-aggregate-named-7
-slice-aggregate-named-7 c = search needs
-
-named-requires-7 : tie.Need-named-requires-7
-named-requires-7 c κs = search needs
-
-slice-aggregate-named-8 : tie.Need-slice-aggregate-named-8
-slice-aggregate-named-8 c = search needs
-
-named-requires-8 : tie.Need-named-requires-8
-named-requires-8 c κs = search needs
-
-slice-aggregate-named-9 : tie.Need-slice-aggregate-named-9
-slice-aggregate-named-9 c = search needs
-
-named-requires-9 : tie.Need-named-requires-9
-named-requires-9 c κs = search needs
-
 returns : tie.Need-returns
 returns c =
-    let c8 = c .before .before .before in
-    let c7 = c8 .before .before .before in
-    let c6 = c7 .before .before .before in
-    let c5 = c6 .before .before .before in
-    let c4 = c5 .before .before .before in
+    let c4 = c .before .before .before in
     let c3 = c4 .before .before .before in
     let c2 = c3 .before .before .before in
     let c1 = c2 .before .before .before in
-    c .named9 .ensures ∙ onto _ _ _
-    (c8 .named8 .ensures ∙ onto _ _ _
-    (c7 .named7 .ensures ∙ onto _ _ _
-    (c6 .named6 .ensures ∙ onto _ _ _
-    (c5 .named5 .ensures ∙ onto _ _ _
+    c .named5 .ensures ∙ onto _ _ _
     (c4 .named4 .ensures ∙ onto _ _ _
     (c3 .named3 .ensures ∙ onto _ _ _
     (c2 .named2 .ensures ∙ onto _ _ _
-    (c1 .named .ensures))))))))
+    (c1 .named .ensures))))
 
 pub first-forms-spec : {M : Type 1} → statement M
 first-forms-spec =
@@ -93,12 +61,4 @@ first-forms-spec =
     named-requires-4
     slice-aggregate-named-5
     named-requires-5
-    slice-aggregate-named-6
-    named-requires-6
-    slice-aggregate-named-7
-    named-requires-7
-    slice-aggregate-named-8
-    named-requires-8
-    slice-aggregate-named-9
-    named-requires-9
     returns)

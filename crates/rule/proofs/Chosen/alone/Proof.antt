@@ -1,8 +1,8 @@
 -- `Chosen::alone` meets its contract: R has as many rows as there are columns.
 use borrow.Author.Needs.{needs}
-use mathlib.Core.Path.{_∙_}
+use mathlib.Core.Path.{ap, _∙_}
 use native.Mathlib.Omega.{arith}
-use Rattle.rule.specs.Chosen.{chosenMinor, turnedBy}
+use Rattle.rule.specs.Chosen.{chosenMinor, chosenSteps, turnedBy}
 use Rattle.rule.proofs.Asked.{size-few}
 use Rattle.rule.proofs.Sets.{alone-ready, alone-answer}
 use Rattle.rule.proofs.Chosen.alone.Statement.{statement}
@@ -31,7 +31,7 @@ returns c =
       c .minor .ensures .0
           ∙ alone-answer (a .self) (b .pre .0 .0) M (a .i) (a .j) (a .s) (b .pre .1 .0) (search needs) (search needs) (search needs) _
           (c .before .run .ensures .0),
-      c .minor .ensures .1,
+      (c .minor .ensures .1 .0, (c .minor .ensures .1 .1 .0 ∙ ap (chosenSteps (a .self) (a .sources .now)) (b .pre .1 .0 .rows), c .minor .ensures .1 .1 .1)),
     )
 
 pub alone-spec : {M : Type 1} → statement M

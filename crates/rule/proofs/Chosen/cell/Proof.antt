@@ -6,7 +6,8 @@ use native.Mathlib.Omega.{arith}
 use borrow.Author.Tests.{le-leb, lt-leb}
 use lib.Dec.{leb}
 use Rattle.number.specs.Number.{zeroNumber}
-use Rattle.rule.specs.Chosen.{chosenFactors}
+use Rattle.words.specs.Effort.{quotientSteps}
+use Rattle.rule.specs.Chosen.{chosenFactors, chosenSteps}
 use borrow.Author.Needs.{needs}
 use Rattle.rule.proofs.Chosen.cell.Statement.{statement}
 use Rattle.rule.proofs.Chosen.cell.Tie as tie
@@ -26,7 +27,10 @@ returns c =
     let i : ℕ = a .t / 8 + 1 in
     let j : ℕ = a .t % 8 + 1 in
     let b = chosenFactors (a .self) (a .sources .now) in
-    c .zero .ensures ∙ ap (λ (x : Bool). cond (x && leb j (a .k)) (b i j) zeroNumber) (sym (lt-leb i (a .k) (c .before .if1 .taken)))
+    let e = sym (lt-leb i (a .k) (c .before .if1 .taken)) in (
+      c .zero .ensures ∙ ap (λ (x : Bool). cond (x && leb j (a .k)) (b i j) zeroNumber) e,
+      (ap (λ (x : Bool). cond (x && leb j (a .k)) (quotientSteps (chosenSteps (a .self) (a .sources .now)) i j) 0) e, omega arith),
+    )
 
 zero-requires-2 : tie.Need-zero-requires-2
 zero-requires-2 c κs = search needs
@@ -37,9 +41,11 @@ returns-2 c =
     let i : ℕ = a .t / 8 + 1 in
     let j : ℕ = a .t % 8 + 1 in
     let b = chosenFactors (a .self) (a .sources .now) in
-    c .zero2 .ensures
-    ∙ ap₂ (λ (x y : Bool). cond (x && y) (b i j) zeroNumber)
-    (sym (le-leb i (a .k) (c .before .before .if1 .left))) (sym (lt-leb j (a .k) (c .before .if2 .taken)))
+    let e = sym (le-leb i (a .k) (c .before .before .if1 .left)) in
+    let f = sym (lt-leb j (a .k) (c .before .if2 .taken)) in (
+      c .zero2 .ensures ∙ ap₂ (λ (x y : Bool). cond (x && y) (b i j) zeroNumber) e f,
+      (ap₂ (λ (x y : Bool). cond (x && y) (quotientSteps (chosenSteps (a .self) (a .sources .now)) i j) 0) e f, omega arith),
+    )
 
 factor-requires : tie.Need-factor-requires
 factor-requires c κs =
@@ -51,9 +57,14 @@ returns-3 c =
     let a = c .before .before .before .args in
     let i : ℕ = a .t / 8 + 1 in
     let j : ℕ = a .t % 8 + 1 in
-    c .factor .ensures
-    ∙ ap₂ (λ (x y : Bool). cond (x && y) (chosenFactors (a .self) (a .sources .now) i j) zeroNumber)
-    (sym (le-leb i (a .k) (c .before .before .if1 .left))) (sym (le-leb j (a .k) (c .before .if2 .left)))
+    let e = sym (le-leb i (a .k) (c .before .before .if1 .left)) in
+    let f = sym (le-leb j (a .k) (c .before .if2 .left)) in (
+      c .factor .ensures .0 ∙ ap₂ (λ (x y : Bool). cond (x && y) (chosenFactors (a .self) (a .sources .now) i j) zeroNumber) e f,
+      (
+        c .factor .ensures .1 .0 ∙ ap₂ (λ (x y : Bool). cond (x && y) (quotientSteps (chosenSteps (a .self) (a .sources .now)) i j) 0) e f,
+        c .factor .ensures .1 .1,
+      ),
+    )
 
 pub cell-spec : {M : Type 1} → statement M
 cell-spec =

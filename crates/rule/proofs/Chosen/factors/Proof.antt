@@ -1,22 +1,27 @@
--- `Chosen::factors` meets its contract. The invariant: the first t numbers of the table.
+-- `Chosen::factors` meets its contract. The invariant: the first t numbers of the table, and their steps.
 use borrow.Author.Needs.{needs}
-use mathlib.Core.Path.{ap, _∙_}
-use Prim.Native.Nat.{ℕ, _-_}
+use mathlib.Core.Path.{_≡_, refl, ap, _∙_}
+use Prim.Native.Nat.{ℕ, _-_, _*_, _≤_}
 use native.Mathlib.Omega.{arith}
 use Rattle.arrays.proofs.Filled.{Filled, filled-none, filled-more}
 use Rattle.number.specs.Number.{zeroNumber}
 use Rattle.table.specs.Table.{cellAt, tableOf}
 use Rattle.table.proofs.Table.{table-filled}
 use Rattle.walk.proofs.Sweep.{below-256}
-use Rattle.rule.specs.Chosen.{chosenFactors}
+use Rattle.words.specs.Effort.{sumOver, resultSteps}
+use Rattle.rule.specs.Chosen.{chosenFactors, chosenSteps}
+use Rattle.rule.proofs.Asked.{size-few}
+use Rattle.rule.proofs.Cells.{cellsSteps, cells-more, cells-all}
 use Rattle.rule.proofs.Chosen.factors.Statement.{statement}
 use Rattle.rule.proofs.Chosen.factors.Tie as tie
 
 abbrev Inv-loop : tie.InvT-loop
-Inv-loop self letters sources n tables k lower upper b₀ t₀ b t = Filled zeroNumber (cellAt k (chosenFactors self sources)) 64 t b
+Inv-loop self letters sources n tables k lower upper b₀ steps₀ t₀ b steps t =
+    Filled zeroNumber (cellAt k (chosenFactors self sources)) 64 t b × (steps ≡ cellsSteps k (chosenSteps self sources) t)
+    × (steps ≤ 96000 * t) × (t ≤ 64)
 
 abbrev μ-loop : tie.MeasureT-loop
-μ-loop self letters sources n tables k lower upper b₀ t₀ b t = 64 - t
+μ-loop self letters sources n tables k lower upper b₀ steps₀ t₀ b steps t = 64 - t
 
 tables-requires : tie.Need-tables-requires Inv-loop μ-loop
 tables-requires c κs = c .before .pre .0 .few
@@ -34,7 +39,8 @@ present-turned-requires : tie.Need-present-turned-requires Inv-loop μ-loop
 present-turned-requires c κs = let p = c .before .before .before .before .pre in ((p .0 .some, p .0 .few, p .0 .six, p .0 .rows), (p .0 .walkable, p .1))
 
 loop-holds : tie.Need-loop-holds Inv-loop μ-loop
-loop-holds c = filled-none zeroNumber _ 64 _ (search needs)
+unfolding cellsSteps sumOver
+loop-holds c = (filled-none zeroNumber _ 64 _ (search needs), refl, omega arith, omega arith)
 
 cell-requires : tie.Need-cell-requires Inv-loop μ-loop
 cell-requires c κs =
@@ -52,6 +58,11 @@ mul-b c = search needs
 array-set-from-b : tie.Need-array-set-from-b Inv-loop μ-loop
 array-set-from-b c = search needs
 
+add-steps : tie.Need-add-steps Inv-loop μ-loop
+add-steps c =
+    let l = c .before .before .before .before .before .before .before .loop in
+    omega (arith, l .inv .2, l .inv .3, c .before .before .cell .ensures .1 .1)
+
 add-t : tie.Need-add-t Inv-loop μ-loop
 add-t c = search needs
 
@@ -59,14 +70,26 @@ loop-less : tie.Need-loop-less Inv-loop μ-loop
 loop-less c = search needs
 
 loop-again : tie.Need-loop-again Inv-loop μ-loop
-loop-again c = filled-more zeroNumber _ 64 (c .before .before .before .before .before .loop .inv) (search needs) _ (c .cell .ensures)
+loop-again c =
+    let x = c .before .before in
+    let l = x .before .before .before .before .before .loop in (
+      filled-more zeroNumber _ 64 (l .inv .0) (search needs) _ (x .cell .ensures .0),
+      cells-more _ _ (l .t) _ _ (l .inv .1) (x .cell .ensures .1 .0),
+      omega (arith, l .inv .2, x .cell .ensures .1 .1),
+      omega arith,
+    )
 
 returns : tie.Need-returns Inv-loop μ-loop
 returns c =
     let m = c .before .before .before .before in
-    let b = m .before .before .before in
-    table-filled _ _ (c .before .loop .inv) (c .loop-test .left)
-    ∙ ap (λ (k : ℕ). tableOf k (chosenFactors (b .args .self) (b .args .sources .now))) (m .count .ensures .0)
+    let b = m .before .before .before in (
+      table-filled _ _ (c .before .loop .inv .0) (c .loop-test .left)
+          ∙ ap (λ (k : ℕ). tableOf k (chosenFactors (b .args .self) (b .args .sources .now))) (m .count .ensures .0),
+      (let e : c .before .loop .t ≡ 64 = omega (arith, c .before .loop .inv .3, c .loop-test .left) in
+          rw e at (c .before .loop .inv .1))
+          ∙ cells-all _ _ (omega (arith, m .count .ensures .0, size-few (b .args .self) (b .pre .0)))
+          ∙ ap (resultSteps (chosenSteps (b .args .self) (b .args .sources .now))) (m .count .ensures .0),
+    )
 
 pub factors-spec : {M : Type 1} → statement M
 factors-spec =
@@ -82,6 +105,7 @@ factors-spec =
     cell-requires
     mul-b
     array-set-from-b
+    add-steps
     add-t
     loop-less
     loop-again

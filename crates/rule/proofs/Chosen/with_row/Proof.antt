@@ -1,10 +1,10 @@
 -- `Chosen::with_row` meets its contract: row i is put in by replacing it by itself.
 use borrow.Author.Needs.{needs}
-use mathlib.Core.Path.{_∙_}
+use mathlib.Core.Path.{ap, _∙_}
 use native.Mathlib.Omega.{arith}
-use Rattle.rule.specs.Chosen.{chosenMinor, turnedBy}
+use Rattle.rule.specs.Chosen.{chosenMinor, chosenSteps, turnedBy}
 use Rattle.rule.proofs.Asked.{size-few}
-use Rattle.rule.proofs.Sets.{latest-256, with-ready, with-answer}
+use Rattle.rule.proofs.Sets.{latest-256, with-ready, with-answer, with-rows}
 use Rattle.rule.proofs.Chosen.with_row.Statement.{statement}
 use Rattle.rule.proofs.Chosen.with_row.Tie as tie
 
@@ -41,7 +41,15 @@ returns c =
       c .minor .ensures .0
           ∙ with-answer (a .self) (b .pre .0 .0) M (a .i) (a .j) (a .s) (b .pre .1 .0) (search needs) (search needs) (search needs) _ _
           (c .before .before .replaced .ensures .0) (c .before .run .ensures .0),
-      c .minor .ensures .1,
+      (
+        c .minor .ensures .1 .0,
+        (
+          c .minor .ensures .1 .1 .0 ∙ ap (chosenSteps (a .self) (a .sources .now))
+              (with-rows (a .self) (b .pre .0 .0) M (a .i) (a .j) (a .s) (b .pre .1 .0) (search needs) (search needs) (search needs) _ _
+              (c .before .before .replaced .ensures .0) (c .before .run .ensures .0)),
+          c .minor .ensures .1 .1 .1,
+        ),
+      ),
     )
 
 pub with-row-spec : {M : Type 1} → statement M

@@ -4,14 +4,14 @@ use Rattle.tnb_c.specs.Answers.{answerOf}
 use Rattle.places.specs.declared.Shelf.{Shelf}
 use Rattle.tnb_c.specs.declared.Answer.{Answer}
 use Rattle.places.specs.Outcome.{outcome}
-use Rattle.operations.specs.Reports.{boundedReport}
-use Rattle.operations.specs.declared.Bounded.{Bounded}
+use Rattle.operations.specs.Reports.{performedReport}
+use Rattle.operations.specs.declared.Performed.{Performed}
 use borrow.Author.Needs.{needs}
 use Rattle.tnb_c.proofs.answers.operated.Statement.{statement}
 use Rattle.tnb_c.proofs.answers.operated.Tie as tie
 
-abbrev answer : Shelf → Bounded → Answer
-answer s b = answerOf (outcome s (boundedReport b))
+abbrev answer : Shelf → Performed → Answer
+answer s b = answerOf (outcome s (performedReport b))
 
 enum-known-answer : tie.Need-enum-known-answer
 enum-known-answer c = search needs

@@ -1,9 +1,9 @@
--- `Joined::minor` meets its contract. The invariant: the words of the steps from number c on are walked.
+-- `Joined::minor` meets its contract. The invariant: the words of the steps from number c on are walked, and their steps counted.
 -- The points on the way have names: `begin` is the function's entry, `rows` where the rows are counted.
 use borrow.Author.Needs.{needs}
-use mathlib.Core.Path.{_≡_, sym, _∙_}
+use mathlib.Core.Path.{_≡_, sym, ap, _∙_}
 use mathlib.Core.List.{List, _∷_}
-use Prim.Native.Nat.{ℕ, _+_, _-_, _≤_}
+use Prim.Native.Nat.{ℕ, _+_, _-_, _*_, _≤_}
 use native.Mathlib.Omega.{arith}
 use lib.ListN.{length, drop}
 use Rattle.number.specs.Number.{rounded}
@@ -12,7 +12,9 @@ use Rattle.words.specs.RowSet.{RowSet, ofMask}
 use Rattle.words.specs.Walk.{walk, oneAt}
 use Rattle.words.specs.Operation.{Step, joinedWord}
 use Rattle.words.specs.Sources.{Walkable}
+use Rattle.words.specs.Effort.{walkSteps}
 use Rattle.words.proofs.Steps.{sources-at}
+use Rattle.rowset.specs.Mask.{maskCount}
 use Rattle.walk.specs.Lent.{wayAt, stepAt, stepsOf}
 use Rattle.walk.specs.Held.{stateOf, Agree}
 use Rattle.walk.specs.Packed.{numbersOf}
@@ -21,16 +23,17 @@ use Rattle.walk.proofs.Packed.{number-at, start-words}
 use Rattle.walk.proofs.Sweep.{below-256}
 use Rattle.walk.proofs.Minors.{joined-start, joined-next, joined-length, joined-none, joined-step, joined-working}
 use Rattle.walk.proofs.Minors.{minor-held, minor-none, rows-some, rows-few}
+use Rattle.walk.proofs.Counting.{no-joined-counted, joined-counted, empty-counted}
 use Rattle.walk.proofs.Joined.minor.Statement.{statement}
 use Rattle.walk.proofs.Joined.minor.Tie as tie
 
 abbrev Inv-loop : tie.InvT-loop
-Inv-loop tables letters factors i j self n k begin many zero v₀ c₀ v c =
+Inv-loop tables letters factors i j self n k begin many zero v₀ steps₀ c₀ v steps c =
     (c ≤ self .count) × Agree n k (stateOf (numbersOf v)) (walk rounded (joinedWord n (drop c (stepsOf self factors))) (oneAt rounded (ofMask n j)))
-    × (length v ≡ 70)
+    × (length v ≡ 70) × (steps ≡ walkSteps n k (joinedWord n (drop c (stepsOf self factors)))) × (steps + 4000 * c ≤ 24000)
 
 abbrev μ-loop : tie.MeasureT-loop
-μ-loop tables letters factors i j self n k begin many zero v₀ c₀ v c = c
+μ-loop tables letters factors i j self n k begin many zero v₀ steps₀ c₀ v steps c = c
 
 abbrev begin : tie.After-count Inv-loop μ-loop → tie.Start Inv-loop μ-loop
 begin c = c .before .before
@@ -66,8 +69,10 @@ one-requires c κs = search needs
 returns : tie.Need-returns Inv-loop μ-loop
 returns c =
     let b = c .before .before in
-    let a = b .args in
-    c .one .ensures ∙ sym (minor-none (a .t1 .n) (a .i) (a .j) _ (search needs) (search needs) (search needs) (b .pre .1 .0 .2) (c .before .if1 .taken))
+    let a = b .args in (
+      c .one .ensures ∙ sym (minor-none (a .t1 .n) (a .i) (a .j) _ (search needs) (search needs) (search needs) (b .pre .1 .0 .2) (c .before .if1 .taken)),
+      (empty-counted (a .t1 .n) (a .i) (a .j) _ (b .pre .1 .0 .2) (c .before .if1 .taken), omega arith),
+    )
 
 count-requires : tie.Need-count-requires Inv-loop μ-loop
 count-requires c κs = below-256 (c .before .args .t1 .n) (c .before .args .j) (search needs) (search needs)
@@ -116,6 +121,8 @@ loop-holds c =
       joined-start (a .t1 .n) (r .count .result) (a .j) (a .t1 .count) (steps b) _ (search needs) (search needs) (r .count .ensures .0) v
           (joined-none (a .t1) (a .factors .now) (search needs)),
       search needs,
+      no-joined-counted (a .t1 .n) (r .count .result) (a .t1 .count) (steps b) (joined-none (a .t1) (a .factors .now) (search needs)),
+      omega (arith, b .pre .0 .2),
     )
 
 sub-c : tie.Need-sub-c Inv-loop μ-loop
@@ -146,6 +153,9 @@ walked-requires c κs =
       ),
     )
 
+add-steps : tie.Need-add-steps Inv-loop μ-loop
+add-steps c = omega (arith, c .walked .ensures .1 .1 .1, c .before .before .before .before .loop .inv .4)
+
 loop-less : tie.Need-loop-less Inv-loop μ-loop
 loop-less c = search needs
 
@@ -159,7 +169,10 @@ loop-again c =
       omega arith,
       joined-next (steps b) _ (h .loop .c - 1) (oneAt rounded (columns b)) (stateOf (numbersOf (h .loop .v))) _ (search needs)
           (next-step l) (rw e (h .loop .inv .1)) (c .walked .ensures .0),
-      c .walked .ensures .1,
+      c .walked .ensures .1 .0,
+      joined-counted (b .args .t1 .n) (rows h .count .result) (steps b) _ (h .loop .c - 1) (next-step l) _ _ (rw e (h .loop .inv .3))
+          (c .walked .ensures .1 .1 .0),
+      omega (arith, c .walked .ensures .1 .1 .1, h .loop .inv .4),
     )
 
 position-in-requires-2 : tie.Need-position-in-requires-2 Inv-loop μ-loop
@@ -185,9 +198,12 @@ returns-2 c =
     let p = c .before .position-in2 in
     let v = h .loop .v in
     let e : h .loop .c ≡ 0 = omega arith in
-    c .unpack .ensures ∙ sym (number-at v (p .result) (h .loop .inv .2) (p .ensures .1))
-    ∙ minor-held (a .t1 .n) (r .count .result) (a .i) (steps b) (columns b) (numbersOf v) (p .result) (search needs) (search needs)
-    (b .pre .1 .0 .2 ∙ sym (r .count .ensures .0)) (p .ensures .0) (rw e at (h .loop .inv .1))
+    let k : maskCount (a .i) ≡ r .count .result = b .pre .1 .0 .2 ∙ sym (r .count .ensures .0) in (
+      c .unpack .ensures ∙ sym (number-at v (p .result) (h .loop .inv .2) (p .ensures .1))
+          ∙ minor-held (a .t1 .n) (r .count .result) (a .i) (steps b) (columns b) (numbersOf v) (p .result) (search needs) (search needs)
+          k (p .ensures .0) (rw e at (h .loop .inv .1)),
+      (rw e at (h .loop .inv .3) ∙ ap (λ (m : ℕ). walkSteps (a .t1 .n) m (joinedWord (a .t1 .n) (steps b))) (sym k), omega (arith, h .loop .inv .4)),
+    )
 
 pub minor-spec : {M : Type 1} → statement M
 minor-spec =
@@ -212,6 +228,7 @@ minor-spec =
     sub-c
     element-copy-out-s
     walked-requires
+    add-steps
     loop-less
     loop-again
     position-in-requires-2

@@ -1,5 +1,5 @@
 -- WHAT EACH WORD OF THE CONSOLE ANSWERS: at each arm of `to_command` the output keeps its length (`kept-..`), and the promise of the call that the arm makes is
--- the reply that the definition has for the word (`answered-..`). What an operation did goes through `told-as`; masks are what `mask` makes of a number.
+-- the reply that the definition has for the word (`answered-..`). What a build did goes through `told-as`; masks are what `mask` makes of a number.
 use mathlib.Core.Path.{refl}
 use Rattle.lines.specs.Ascii.{ascii}
 use Rattle.shelf.specs.Run.{run}
@@ -26,163 +26,130 @@ answered-write c =
     let call = c .before .before .write .ensures in
     (call .0, rw (c .before .before .before .before .enum-told2 .given .1) (call .1))
 
-pub kept-drop : tie.Need-same-length-3
+pub kept-length : tie.Need-same-length-3
+kept-length c = search needs
+
+pub answered-length : tie.Need-returns-3
+unfolding replyBy
+answered-length c =
+    let call = c .before .before .length .ensures in
+    (call .0, rw (c .before .before .before .before .enum-told3 .given .1) (call .1))
+
+pub kept-drop : tie.Need-same-length-4
 kept-drop c = search needs
 
-pub answered-drop : tie.Need-returns-3
+pub answered-drop : tie.Need-returns-4
 unfolding replyBy
 answered-drop c =
     let call = c .before .before .drop .ensures in
-    (call .0, rw (c .before .before .before .before .enum-told3 .given .1) (call .1))
+    (call .0, rw (c .before .before .before .before .enum-told4 .given .1) (call .1))
 
-pub kept-product : tie.Need-same-length-4
-kept-product c = search needs
+pub kept-operation : tie.Need-same-length-5
+kept-operation c = search needs
 
-pub answered-product : tie.Need-returns-4
-unfolding replyBy run
-answered-product c =
-    let call = c .before .before .before .before .product .ensures .0 in
-    let reply = c .before .before .operated .ensures in
-    (reply .0, rw (c .before .before .before .before .before .enum-told4 .given .1) (told-as (ascii "bound") _ call (reply .1)))
+pub answered-operation : tie.Need-returns-5
+unfolding replyBy
+answered-operation c =
+    let call = c .before .before .answer .ensures in
+    (call .0, rw (c .before .before .before .before .before .command .given .1) (call .1))
 
-pub kept-inverse : tie.Need-same-length-5
-kept-inverse c = search needs
-
-pub answered-inverse : tie.Need-returns-5
-unfolding replyBy run
-answered-inverse c =
-    let call = c .before .before .before .before .inverse .ensures .0 in
-    let reply = c .before .before .operated2 .ensures in
-    (reply .0, rw (c .before .before .before .before .before .enum-told5 .given .1) (told-as (ascii "bound") _ call (reply .1)))
-
-pub kept-converse : tie.Need-same-length-6
-kept-converse c = search needs
-
-pub answered-converse : tie.Need-returns-6
-unfolding replyBy run
-answered-converse c =
-    let call = c .before .before .before .before .converse .ensures .0 in
-    let reply = c .before .before .operated3 .ensures in
-    (reply .0, rw (c .before .before .before .before .before .enum-told6 .given .1) (told-as (ascii "bound") _ call (reply .1)))
-
-pub kept-transpose : tie.Need-same-length-7
-kept-transpose c = search needs
-
-pub answered-transpose : tie.Need-returns-7
-unfolding replyBy run
-answered-transpose c =
-    let call = c .before .before .before .before .transpose .ensures .0 in
-    let reply = c .before .before .operated4 .ensures in
-    (reply .0, rw (c .before .before .before .before .before .enum-told7 .given .1) (told-as (ascii "bound") _ call (reply .1)))
-
-pub kept-submatrix : tie.Need-same-length-8
-kept-submatrix c = search needs
-
-pub answered-submatrix : tie.Need-returns-8
-unfolding replyBy run
-answered-submatrix c =
-    let masks = c .before .before .before .before .before .before .before in
-    let call = rw (masks .before .mask .ensures, masks .mask2 .ensures) at (c .before .before .before .before .submatrix .ensures .0) in
-    let reply = c .before .before .operated5 .ensures in
-    (reply .0, rw (c .before .before .before .before .before .enum-told8 .given .1) (told-as (ascii "bound") _ call (reply .1)))
-
-pub kept-build : tie.Need-same-length-9
+pub kept-build : tie.Need-same-length-6
 kept-build c = search needs
 
-pub answered-build : tie.Need-returns-9
+pub answered-build : tie.Need-returns-6
 unfolding replyBy run
 answered-build c =
     let call = c .before .before .before .before .build .ensures .0 in
-    let reply = c .before .before .operated6 .ensures in
-    (reply .0, rw (c .before .before .before .before .before .enum-told9 .given .1) (told-as (ascii "bound") _ call (reply .1)))
+    let reply = c .before .before .filled .ensures in
+    (reply .0, rw (c .before .before .before .before .before .enum-told5 .given .1) (told-as (ascii "bound") _ call (reply .1)))
 
-pub kept-minor : tie.Need-same-length-10
+pub kept-minor : tie.Need-same-length-7
 kept-minor c = search needs
 
-pub answered-minor : tie.Need-returns-10
+pub answered-minor : tie.Need-returns-7
 unfolding replyBy
 answered-minor c =
-    let masks = c .before .before .before .before .before .before in
+    let masks = c .before .before .before .before in
     let call = rw (masks .before .mask .ensures, masks .mask2 .ensures) at (c .before .before .minor .ensures .1) in
-    (c .before .before .minor .ensures .0, rw (c .before .before .before .before .enum-told10 .given .1) call)
+    (c .before .before .minor .ensures .0, rw (masks .before .before .enum-told6 .given .1) call)
 
-pub kept-carry : tie.Need-same-length-11
+pub kept-carry : tie.Need-same-length-8
 kept-carry c = search needs
 
-pub answered-carry : tie.Need-returns-11
+pub answered-carry : tie.Need-returns-8
 unfolding replyBy
 answered-carry c =
     let call = c .before .before .carry .ensures in
-    (call .0, rw (c .before .before .before .before .enum-told11 .given .1) (call .1))
+    (call .0, rw (c .before .before .before .before .enum-told7 .given .1) (call .1))
 
-pub kept-reversals : tie.Need-same-length-12
+pub kept-reversals : tie.Need-same-length-9
 kept-reversals c = search needs
 
-pub answered-reversals : tie.Need-returns-12
+pub answered-reversals : tie.Need-returns-9
 unfolding replyBy
 answered-reversals c =
     let call = c .before .before .reversals .ensures in
-    (call .0, rw (c .before .before .before .before .enum-told12 .given .1) (call .1))
+    (call .0, rw (c .before .before .before .before .enum-told8 .given .1) (call .1))
 
-pub kept-add : tie.Need-same-length-13
+pub kept-add : tie.Need-same-length-10
 kept-add c = search needs
 
-pub answered-add : tie.Need-returns-13
+pub answered-add : tie.Need-returns-10
 unfolding replyBy
 answered-add c =
     let call = c .before .before .arithmetic .ensures in
-    (call .0, rw (c .before .before .before .before .enum-told13 .given .1) (call .1))
+    (call .0, rw (c .before .before .before .before .enum-told9 .given .1) (call .1))
 
-pub kept-multiply : tie.Need-same-length-14
+pub kept-multiply : tie.Need-same-length-11
 kept-multiply c = search needs
 
-pub answered-multiply : tie.Need-returns-14
+pub answered-multiply : tie.Need-returns-11
 unfolding replyBy
 answered-multiply c =
     let call = c .before .before .arithmetic2 .ensures in
-    (call .0, rw (c .before .before .before .before .enum-told14 .given .1) (call .1))
+    (call .0, rw (c .before .before .before .before .enum-told10 .given .1) (call .1))
 
-pub kept-divide : tie.Need-same-length-15
+pub kept-divide : tie.Need-same-length-12
 kept-divide c = search needs
 
-pub answered-divide : tie.Need-returns-15
+pub answered-divide : tie.Need-returns-12
 unfolding replyBy
 answered-divide c =
     let call = c .before .before .arithmetic3 .ensures in
-    (call .0, rw (c .before .before .before .before .enum-told15 .given .1) (call .1))
+    (call .0, rw (c .before .before .before .before .enum-told11 .given .1) (call .1))
 
-pub kept-rest : tie.Need-same-length-16
+pub kept-rest : tie.Need-same-length-13
 kept-rest c = search needs
 
-pub answered-rest : tie.Need-returns-16
+pub answered-rest : tie.Need-returns-13
 unfolding replyBy
 answered-rest c =
     let call = c .before .before .rest .ensures in
-    (call .0, rw (c .before .before .before .before .enum-told16 .given .1) (call .1))
+    (call .0, rw (c .before .before .before .before .enum-told12 .given .1) (call .1))
 
-pub kept-sentence : tie.Need-same-length-17
+pub kept-sentence : tie.Need-same-length-14
 kept-sentence c = search needs
 
-pub answered-sentence : tie.Need-returns-17
+pub answered-sentence : tie.Need-returns-14
 unfolding replyBy
 answered-sentence c =
     let call = c .before .before .sentence .ensures in
-    (call .0, rw (c .before .before .before .before .enum-told17 .given .1) (call .1))
+    (call .0, rw (c .before .before .before .before .enum-told13 .given .1) (call .1))
 
-pub kept-show : tie.Need-same-length-18
+pub kept-show : tie.Need-same-length-15
 kept-show c = search needs
 
-pub answered-show : tie.Need-returns-18
+pub answered-show : tie.Need-returns-15
 unfolding replyBy
 answered-show c =
     let call = c .before .before .show .ensures in
-    (call .0, rw (c .before .before .before .before .enum-told18 .given .1) (call .1))
+    (call .0, rw (c .before .before .before .before .enum-told14 .given .1) (call .1))
 
-pub kept-bad : tie.Need-same-length-19
+pub kept-bad : tie.Need-same-length-16
 kept-bad c = search needs
 
-pub answered-bad : tie.Need-returns-19
+pub answered-bad : tie.Need-returns-16
 unfolding replyBy
 answered-bad c =
     let told = c .before .before .before .before .before in
-    (c .after .ensures .0, rw (told .enum-told19 .given .1) (replied refl (c .after .ensures .1) (c .before .before .before .bad .ensures)))
+    (c .after .ensures .0, rw (told .enum-told15 .given .1) (replied refl (c .after .ensures .1) (c .before .before .before .bad .ensures)))

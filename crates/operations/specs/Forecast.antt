@@ -1,0 +1,65 @@
+-- FORECASTS (document 02, (k)): the steps of an operation on places, told without working it (`forecastCall`). A forecast names no target and tests as the
+-- operation does, without 12, 14 and 17: what it tells of the operation itself (`Foretelling`).
+use Prim.Native.Nat.{ℕ, _<_}
+use mathlib.Core.Path.{_≡_}
+use mathlib.Core.Logic.{_⊎_}
+use mathlib.Core.List.{List, [], _∷_}
+use lib.IntN.{pos}
+use Rattle.words.specs.Effort.{stepsForetold}
+use Rattle.verdict.specs.declared.Verdict.{Verdict}
+use Rattle.verdict.specs.Verdict.{firstOf}
+use Rattle.verdict.specs.Report.{Report, accepted, refused, reportOf}
+use Rattle.places.specs.declared.Shelf.{Shelf}
+use Rattle.places.specs.Shelf.{rowsAt}
+use Rattle.places.specs.Outcome.{Outcome}
+use Rattle.places.specs.Tests.{sourceTests, bothSources}
+use Rattle.operations.specs.Operations.{done, productAt, inverseAt, converseAt, submatrixAt, setTests}
+use Rattle.operations.specs.Operations.{productCall, inverseCall, converseCall, transposeCall, submatrixCall}
+use Rattle.operations.specs.declared.Task.{Task}
+use Rattle.operations.specs.declared.Task.the-variants.{Product, Inverse, Converse, Transpose, Submatrix}
+use Rattle.operations.specs.declared.Foretold.{Foretold}
+use Rattle.operations.specs.declared.Foretold.the-variants as foretold
+
+-- the steps, behind the tests L
+abbrev pub foretelling : List Verdict → ℕ → Report
+foretelling L steps = reportOf (firstOf L) (pos steps ∷ [])
+
+-- A FORECAST; a transpose has no word, and makes no step
+unfoldable pub forecastCall : Shelf → Task → Report
+forecastCall s (Product l r) = foretelling (bothSources s l r) (stepsForetold (rowsAt s l) (productAt s l r))
+forecastCall s (Inverse p) = foretelling (sourceTests s p) (stepsForetold (rowsAt s p) (inverseAt s p))
+forecastCall s (Converse p) = foretelling (sourceTests s p) (stepsForetold (rowsAt s p) (converseAt s p))
+forecastCall s (Transpose p) = foretelling (sourceTests s p) 0
+forecastCall s (Submatrix p I J) = foretelling (setTests s p I J) (stepsForetold (rowsAt s p) (submatrixAt s p I J))
+
+-- the operation itself, to place t
+abbrev pub taskCall : Shelf → Task → ℕ → Outcome
+taskCall s (Product l r) t = productCall s l r t
+taskCall s (Inverse p) t = inverseCall s p t
+taskCall s (Converse p) t = converseCall s p t
+taskCall s (Transpose p) t = transposeCall s p t
+taskCall s (Submatrix p I J) t = submatrixCall s p I J t
+
+-- what only the working of an operation finds: 14, of a submatrix 17 too, of a transpose nothing
+abbrev pub Found : Task → ℕ → Type 0
+Found (Product l r) k = k ≡ 14
+Found (Inverse p) k = k ≡ 14
+Found (Converse p) k = k ≡ 14
+Found (Transpose p) k = ⊥
+Found (Submatrix p I J) k = (k ≡ 14) ⊎ (k ≡ 17)
+
+-- WHAT A FORECAST f TELLS of its operation, which reports r: it is turned down alike; or it is done in the steps foretold; or its working turns it down
+pub data Foretells (o : Task) (f r : Report) : Type 0 where
+  turned-down : (k offset : ℕ) → f ≡ refused k offset → r ≡ refused k offset → Foretells o f r
+  done-in : (b e : ℕ) → f ≡ accepted (pos e ∷ []) → r ≡ accepted (done b e) → Foretells o f r
+  found-out : (e k : ℕ) → f ≡ accepted (pos e ∷ []) → r ≡ refused k 0 → Found o k → Foretells o f r
+
+-- so to any place that is there and empty; and to whatever place, what was done was foretold
+pub record Foretelling (s : Shelf) (o : Task) (f : Report) : Type 0 where
+  pub to-empty : (t : ℕ) → t < 8 → rowsAt s t ≡ 0 → Foretells o f (taskCall s o t .report)
+  pub made : (t b e : ℕ) → taskCall s o t .report ≡ accepted (done b e) → f ≡ accepted (pos e ∷ [])
+
+-- what a forecast's answer reports
+abbrev pub foretoldReport : Foretold → Report
+foretoldReport (foretold.Steps n) = accepted (pos n ∷ [])
+foretoldReport (foretold.Refused w) = refused (w .number) (w .offset)

@@ -1,0 +1,66 @@
+// Forecasts (document 02, (k)): the steps that an operation on places will make. It tests as the operation does, without a target, 14 and 17.
+ghost use mathlib.Core.Path.{_≡_};
+ghost use Prim.Native.Nat.{_<_};
+ghost use Rattle.places.specs.Shelf.{rowsAt, Good};
+ghost use Rattle.places.specs.Tests.{sourceTests, bothSources};
+ghost use Rattle.words.specs.Effort.{stepsForetold};
+ghost use Rattle.operations.specs.Operations.{productAt, inverseAt, submatrixAt, setTests};
+ghost use Rattle.operations.specs.Forecast.{foretelling, foretoldReport};
+use crate::Foretold;
+use crate::effort;
+use places::Shelf;
+use places::judge;
+use verdict::Verdict;
+use verdict::test;
+
+pub fn product(shelf: Shelf, left: usize, right: usize) -> Foretold
+    requires { ⌜ Good shelf ⌝ }
+    ensures { λ r. ⌜ foretoldReport r ≡ foretelling (bothSources shelf left right) (stepsForetold (rowsAt shelf left) (productAt shelf left right)) ⌝ }
+{
+    let first = judge::both_sources(shelf, left, right);
+    if let Verdict::Refused(why) = first {
+        return Foretold::Refused(why);
+    }
+    let n = places::rows_at(shelf, left);
+    Foretold::Steps(effort::of_sizes(2, n, n))
+}
+
+// One source, taken whole: its re-signed inverse or its converse.
+pub fn whole(shelf: Shelf, source: usize) -> Foretold
+    requires { ⌜ Good shelf ⌝ }
+    ensures { λ r. ⌜ foretoldReport r ≡ foretelling (sourceTests shelf source) (stepsForetold (rowsAt shelf source) (inverseAt shelf source)) ⌝ }
+{
+    let first = judge::source(shelf, source);
+    if let Verdict::Refused(why) = first {
+        return Foretold::Refused(why);
+    }
+    let n = places::rows_at(shelf, source);
+    Foretold::Steps(effort::of_sizes(1, n, n))
+}
+
+// A transpose has no word.
+pub fn transpose(shelf: Shelf, source: usize) -> Foretold
+    requires { ⌜ Good shelf ⌝ }
+    ensures { λ r. ⌜ foretoldReport r ≡ foretelling (sourceTests shelf source) 0 ⌝ }
+{
+    let first = judge::source(shelf, source);
+    if let Verdict::Refused(why) = first {
+        return Foretold::Refused(why);
+    }
+    Foretold::Steps(0)
+}
+
+// The row and column sets are masks. Whether the submatrix is singular is not asked.
+pub fn submatrix(shelf: Shelf, source: usize, rows: usize, columns: usize) -> Foretold
+    requires { ⌜ Good shelf × (rows < 256) × (columns < 256) ⌝ }
+    ensures { λ r. ⌜ foretoldReport r
+        ≡ foretelling (setTests shelf source rows columns) (stepsForetold (rowsAt shelf source) (submatrixAt shelf source rows columns)) ⌝ }
+{
+    let n = places::rows_at(shelf, source);
+    let mut v = judge::source(shelf, source);
+    v = test(v, judge::unfit(n, rows, columns), 8);
+    if let Verdict::Refused(why) = v {
+        return Foretold::Refused(why);
+    }
+    Foretold::Steps(effort::of_sizes(1, n, rowset::count(rows)))
+}

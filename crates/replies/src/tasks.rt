@@ -1,0 +1,83 @@
+// Operations: worked, or foretold.
+ghost use mathlib.Core.Path.{_≡_};
+ghost use Rattle.lines.specs.Ascii.{ascii};
+ghost use Rattle.places.specs.Shelf.{Good};
+ghost use Rattle.shelf.specs.Run.{run, operate, forecast};
+ghost use Rattle.replies.specs.Calls.{mask, taskBy};
+ghost use Rattle.replies.specs.Replies.{Replied, told, toldPerformed, operationReply};
+use crate::calls;
+use crate::calls::Answered;
+use requests::Kind;
+use requests::Mode;
+use shelf::Shelf;
+use shelf::Task;
+
+// Masks are read as numbers of at most 255.
+pub fn mask(n: usize) -> u8
+    ensures { λ r. ⌜ r ≡ mask n ⌝ }
+{
+    (n % 256) as u8
+}
+
+// An operation on places, with its masks.
+fn task_of(kind: Kind, a: usize, b: usize, c: usize) -> Task
+    ensures { λ r. ⌜ r ≡ taskBy kind a b c ⌝ }
+{
+    match kind {
+        Kind::Product => Task::Product { left: a, right: b },
+        Kind::Inverse => Task::Inverse(a),
+        Kind::Converse => Task::Converse(a),
+        Kind::Transpose => Task::Transpose(a),
+        Kind::Submatrix => Task::Submatrix {
+            source: a,
+            rows: mask(b),
+            columns: mask(c),
+        },
+    }
+}
+
+// What an operation did.
+fn direct(shelf: Shelf, task: Task, target: usize, out: &mut [u8], at: usize) -> Answered
+    requires { ⌜ Good shelf ⌝ }
+    ensures { λ r. ⌜ Good (r .shelf) ⌝ }
+    ensures { λ r. ⌜ Replied (toldPerformed (run shelf (operate task target))) (now (out .entry)) at (now (out .exit)) r ⌝ }
+{
+    let done = shelf::perform(shelf, task, target);
+    let left = done.shelf;
+    let answer = done.answer;
+    calls::after(left, answers::put_performed(out, at, answer))
+}
+
+// Its steps alone.
+fn foretold(shelf: Shelf, task: Task, out: &mut [u8], at: usize) -> Answered
+    requires { ⌜ Good shelf ⌝ }
+    ensures { λ r. ⌜ Good (r .shelf) ⌝ }
+    ensures { λ r. ⌜ Replied (told (ascii "steps") (run shelf (forecast task))) (now (out .entry)) at (now (out .exit)) r ⌝ }
+{
+    let answer = shelf::forecast(shelf, task);
+    calls::after(shelf, answers::put_foretold(out, at, answer))
+}
+
+// An operation as it is asked for, with its numbers; the last is its target.
+pub fn answer(
+    shelf: Shelf,
+    mode: Mode,
+    kind: Kind,
+    v: [usize; 4],
+    out: &mut [u8],
+    at: usize,
+) -> Answered
+    requires { ⌜ Good shelf ⌝ }
+    ensures { λ r. ⌜ Good (r .shelf) ⌝ }
+    ensures { λ r. ⌜ Replied (operationReply shelf mode kind v) (now (out .entry)) at (now (out .exit)) r ⌝ }
+{
+    let a = v[0];
+    let b = v[1];
+    let c = v[2];
+    let target = v[3];
+    let task = task_of(kind, a, b, c);
+    match mode {
+        Mode::Direct => direct(shelf, task, target, out, at),
+        Mode::Foretold => foretold(shelf, task, out, at),
+    }
+}

@@ -1,0 +1,48 @@
+-- `foretold` meets its contract.
+use mathlib.Core.Path.{refl, sym, ap, _∙_}
+use Rattle.places.specs.Outcome.{Outcome}
+use Rattle.shelf.specs.Run.{forecast, run}
+use Rattle.tnb_c.specs.declared.Steps.{Steps}
+use Rattle.tnb_c.specs.Answers.{stepsOf}
+use Rattle.tnb_c.proofs.Checked.{answered, turned-away}
+use Rattle.tnb_c.proofs.Ahead.{foretold-answered, away-foretold}
+use borrow.Author.Needs.{needs}
+use Rattle.tnb_c.proofs.foretold.Statement.{statement}
+use Rattle.tnb_c.proofs.foretold.Tie as tie
+
+abbrev answer : Outcome → Steps
+answer x = stepsOf (x .report)
+
+is-good-requires : tie.Need-is-good-requires
+is-good-requires c κs = search needs
+
+forecast-requires : tie.Need-forecast-requires
+forecast-requires c κs = c .before .is-good .ensures .1 (c .if1 .taken)
+
+foretold-requires : tie.Need-foretold-requires
+foretold-requires c κs = search needs
+
+returns : tie.Need-returns
+unfolding run
+returns c =
+    let tested = c .before .before .before .is-good .ensures .0 in
+    let good = c .before .before .if1 .taken in
+    let is = answered _ (forecast _) answer tested good (c .foretold .ensures ∙ ap stepsOf (c .before .forecast .ensures .0)) in
+    (is, foretold-answered _ (c .before .before .before .is-good .ensures .1 good) _ _ is)
+
+returns-2 : tie.Need-returns-2
+returns-2 c =
+    let tested = c .before .is-good .ensures .0 in
+    let a = c .before .before .args in
+    let is = turned-away (a .shelf) (forecast (a .task)) answer tested {r = record { number = 255; offset = 0; steps = 0 }} (c .if1 .left) refl in
+    (is, away-foretold (a .shelf) (sym tested ∙ c .if1 .left) (a .task) _ is)
+
+pub foretold-spec : {M : Type 1} → statement M
+foretold-spec =
+    tie.close
+    (tie.spec
+    is-good-requires
+    forecast-requires
+    foretold-requires
+    returns
+    returns-2)
