@@ -1,12 +1,12 @@
 -- STEPS BY SIZES, as the code works them out: a term more of the sum (term-more), and how large terms and the whole are (term-few,
 -- product-few).
-use Prim.Native.Nat.{ℕ, suc, _+_, _-_, _*_, _^_, _≤_}
+use Prim.Native.Nat.{ℕ, _+_, _-_, _*_, _^_, _≤_}
 use native.Mathlib.Nat.{mul-le-mul}
-use native.Mathlib.Numerals.{add-one}
 use native.Mathlib.Omega.{arith}
-use mathlib.Core.Path.{_≡_, sym, ap, ap₂, _∙_}
+use mathlib.Core.Path.{_≡_, ap, _∙_}
 use Rattle.rowset.specs.Mask.{countBelow}
 use Rattle.rowset.proofs.Positions.{below-choose}
+use Rattle.words.proofs.Sums.{sum-more}
 use Rattle.words.specs.Effort.{sumOver, choose}
 
 module _ (n k : ℕ) where
@@ -15,12 +15,10 @@ module _ (n k : ℕ) where
   term p = (4 * (k - p) + 1) * choose (n - 1) (p - 1)
 
   pub term-more : (p x s : ℕ) → n ≤ 8 → p ≤ 8 → x ≡ sumOver p term → s ≡ countBelow p (2 ^ (n - 1)) → x + (4 * (k - (p + 1)) + 1) * s ≡ sumOver (p + 1) term
-  unfolding sumOver
   term-more p x s ln lp e f =
-      let g : p + 1 - 1 ≡ p = omega arith in
-      let c : s ≡ choose (n - 1) (p + 1 - 1) = f ∙ below-choose (n - 1) p (omega arith) lp ∙ sym (ap (choose (n - 1)) g) in
-      let h : p + 1 ≡ suc p = add-one p in
-      ap₂ _+_ e (ap (λ (c : ℕ). (4 * (k - (p + 1)) + 1) * c) c ∙ ap term h) ∙ sym (ap (λ (i : ℕ). sumOver i term) h)
+      let g : p ≡ p + 1 - 1 = omega arith in
+      let c : s ≡ choose (n - 1) (p + 1 - 1) = f ∙ below-choose (n - 1) p (omega arith) lp ∙ ap (choose (n - 1)) g in
+      sum-more term p x _ e (ap (λ (c : ℕ). (4 * (k - (p + 1)) + 1) * c) c)
 
   pub term-few : (p s : ℕ) → k ≤ 8 → s ≤ 70 → (4 * (k - (p + 1)) + 1) * s ≤ 2310
   term-few p s l ls = let a : 4 * (k - (p + 1)) + 1 ≤ 33 = omega arith in let b : (4 * (k - (p + 1)) + 1) * s ≤ 33 * 70 = mul-le-mul a ls in omega arith

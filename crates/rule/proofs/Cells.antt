@@ -1,12 +1,11 @@
 -- THE STEPS OF A TABLE in rows of eight: cell by cell (cellsSteps, cells-more), and in the end those of the k rows and columns (cells-all).
-use mathlib.Core.Path.{_≡_, refl, sym, ap, ap₂, _∙_}
+use mathlib.Core.Path.{_≡_, refl, ap, _∙_}
 use mathlib.Core.Bool.{Bool, true, false, cond, _&&_}
 use Prim.Native.Nat.{ℕ, zero, suc, _+_, _-_, _≤_}
-use native.Mathlib.Numerals.{add-one}
 use native.Mathlib.Omega.{arith}
 use lib.Dec.{leb}
 use Rattle.words.specs.Effort.{sumOver, quotientSteps, resultSteps}
-use Rattle.words.proofs.Sums.{sum-same, sum-padded, sum-cells}
+use Rattle.words.proofs.Sums.{sum-more, sum-same, sum-padded, sum-cells}
 use Rattle.rule.specs.Result.{cellSteps}
 
 -- of the first t cells
@@ -14,11 +13,8 @@ unfoldable pub cellsSteps : ℕ → (ℕ → ℕ) → ℕ → ℕ
 cellsSteps k w t = sumOver t (λ s. cellSteps k w (s - 1))
 
 pub cells-more : (k : ℕ) (w : ℕ → ℕ) (t x y : ℕ) → x ≡ cellsSteps k w t → y ≡ cellSteps k w t → x + y ≡ cellsSteps k w (t + 1)
-unfolding cellsSteps sumOver
-cells-more k w t x y p q =
-    let e : t ≡ suc t - 1 = omega arith in
-    let f : cellsSteps k w (t + 1) ≡ cellsSteps k w t + cellSteps k w (suc t - 1) = ap (cellsSteps k w) (add-one t) in
-    ap₂ _+_ p (q ∙ ap (cellSteps k w) e) ∙ sym f
+unfolding cellsSteps
+cells-more k w t x y p q = let e : t ≡ t + 1 - 1 = omega arith in sum-more (λ s. cellSteps k w (s - 1)) t x y p (q ∙ ap (cellSteps k w) e)
 
 -- nothing past k, first by rows, then by columns
 none : (k : ℕ) → sumOver k (λ j. 0) ≡ 0

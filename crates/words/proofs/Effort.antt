@@ -131,21 +131,17 @@ module _ (a o m : ℕ) (la : a ≤ suc (suc m)) (lo : o ≤ suc (suc m)) (top : 
       more-updates a o n (suc k) (omega arith) (omega arith)
       ∙ ap₂ _+_ (above d n c k (omega arith) (omega arith)) (above d n c (suc k) (omega arith) (omega arith))
 
-raised-updates : (n j k : ℕ) → 2 ≤ j → j ≤ n → updated n (suc k) j (j - 1) ≡ choose (n - 2) k
-raised-updates n zero k l h = absurd (omega arith)
-raised-updates n (suc zero) k l h = absurd (omega arith)
-raised-updates n (suc (suc m)) k l h =
-    let e : suc (suc m) - 1 ≡ suc m = omega arith in
-    ap (updated n (suc k) (suc (suc m))) e
-    ∙ above (suc (suc m)) (suc m) m (omega arith) (omega arith) (top-raised m) (n - suc (suc m)) n (n - 2) k (omega arith) (omega arith)
-
-lowered-updates : (n j k : ℕ) → 2 ≤ j → j ≤ n → updated n (suc k) (j - 1) j ≡ choose (n - 2) k
-lowered-updates n zero k l h = absurd (omega arith)
-lowered-updates n (suc zero) k l h = absurd (omega arith)
-lowered-updates n (suc (suc m)) k l h =
-    let e : suc (suc m) - 1 ≡ suc m = omega arith in
-    ap (λ i. updated n (suc k) i (suc (suc m))) e
-    ∙ above (suc m) (suc (suc m)) m (omega arith) (omega arith) (top-lowered m) (n - suc (suc m)) n (n - 2) k (omega arith) (omega arith)
+-- raised by E j, lowered by Et j
+both-updates : (n j k : ℕ) → 2 ≤ j → j ≤ n → (updated n (suc k) j (j - 1) ≡ choose (n - 2) k) × (updated n (suc k) (j - 1) j ≡ choose (n - 2) k)
+both-updates n zero k l h = absurd (omega arith)
+both-updates n (suc zero) k l h = absurd (omega arith)
+both-updates n (suc (suc m)) k l h =
+    let e : suc (suc m) - 1 ≡ suc m = omega arith in (
+      ap (updated n (suc k) (suc (suc m))) e
+          ∙ above (suc (suc m)) (suc m) m (omega arith) (omega arith) (top-raised m) (n - suc (suc m)) n (n - 2) k (omega arith) (omega arith),
+      ap (λ i. updated n (suc k) i (suc (suc m))) e
+          ∙ above (suc m) (suc (suc m)) m (omega arith) (omega arith) (top-lowered m) (n - suc (suc m)) n (n - 2) k (omega arith) (omega arith),
+    )
 
 -- A LETTER, AND A WALK
 -- how many sets of p out of n rows a letter E or Et updates
@@ -157,8 +153,8 @@ module _ {A : Type 0} (n : ℕ) where
   pub letter-updates : (p : ℕ) (l : Letter A) → Rows n l → letterSteps n p l ≡ letterCost (letterForetold n p) 0 l
   letter-updates zero (E j w) h = empty-updates n j (j - 1)
   letter-updates zero (Et j w) h = empty-updates n (j - 1) j
-  letter-updates (suc k) (E j w) h = raised-updates n j k (h .0) (h .1)
-  letter-updates (suc k) (Et j w) h = lowered-updates n j k (h .0) (h .1)
+  letter-updates (suc k) (E j w) h = both-updates n j k (h .0) (h .1) .0
+  letter-updates (suc k) (Et j w) h = both-updates n j k (h .0) (h .1) .1
   letter-updates p (D e) h = refl
   letter-updates p (Dinv e) h = refl
 

@@ -1,15 +1,23 @@
--- SUMS over 1 .. k: of the same terms (sum-same, sums-same); past whose end there is nothing (sum-padded); over the cells of a table in rows of eight
--- (sum-cells). The steps of a factor by those of its minors (quotient-steps).
+-- SUMS over 1 .. k: a term more (sum-more); of the same terms (sum-same, sums-same), of sums and of multiples (sum-add, sum-times); past whose end there is
+-- nothing (sum-padded); over the cells of a table in rows of eight (sum-cells). The steps of a quotient by those of its minors (quotient-steps).
 use mathlib.Core.Path.{_≡_, refl, sym, ap, ap₂, _∙_}
 use mathlib.Core.Bool.{cond}
 use Prim.Native.Nat.{ℕ, zero, suc, _+_, _-_, _*_, _/_, _%_, _≤_, min}
 use native.Mathlib.Decide.{ℕ-discrete}
+use native.Mathlib.Numerals.{add-one}
 use native.Mathlib.Omega.{arith}
 use borrow.Author.Tests.{le-leb, lt-leb}
 use lib.Dec.{eqb, leb}
 use Rattle.words.specs.RowSet.{In}
 use Rattle.words.specs.Word.{Factors}
 use Rattle.words.specs.Effort.{sumOver, overAll, quotientSteps}
+
+-- as a loop adds them up
+pub sum-more : (f : ℕ → ℕ) (t x y : ℕ) → x ≡ sumOver t f → y ≡ f (t + 1) → x + y ≡ sumOver (t + 1) f
+unfolding sumOver
+sum-more f t x y p q =
+    let e : t + 1 ≡ suc t = add-one t in
+    ap₂ _+_ p (q ∙ ap f e) ∙ sym (ap (λ i. sumOver i f) e)
 
 pub sum-same : (k : ℕ) (f g : ℕ → ℕ) → ((i : ℕ) → In k i → f i ≡ g i) → sumOver k f ≡ sumOver k g
 unfolding sumOver
@@ -18,6 +26,17 @@ sum-same (suc k) f g h = ap₂ _+_ (sum-same k f g (λ i p. h i (p .0, omega (ar
 
 pub sums-same : (k : ℕ) (f g : Factors ℕ) → ((i j : ℕ) → In k i → In k j → f i j ≡ g i j) → overAll k f ≡ overAll k g
 sums-same k f g h = sum-same k _ _ (λ i p. sum-same k (f i) (g i) (λ j q. h i j p q))
+
+-- of sums, and of multiples
+pub sum-add : (k : ℕ) (f g : ℕ → ℕ) → sumOver k (λ i. f i + g i) ≡ sumOver k f + sumOver k g
+unfolding sumOver
+sum-add zero f g = refl
+sum-add (suc k) f g = omega (arith, sum-add k f g)
+
+pub sum-times : (k c : ℕ) (f : ℕ → ℕ) → sumOver k (λ i. c * f i) ≡ c * sumOver k f
+unfolding sumOver
+sum-times zero c f = omega arith
+sum-times (suc k) c f = omega (arith, sum-times k c f)
 
 -- of m terms those up to k count
 pub sum-padded : (m k : ℕ) (f : ℕ → ℕ) → k ≤ m → sumOver m (λ i. cond (leb i k) (f i) 0) ≡ sumOver k f

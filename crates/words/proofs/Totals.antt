@@ -12,18 +12,7 @@ use lib.ListN.{length}
 use Rattle.words.specs.RowSet.{In}
 use Rattle.words.specs.Operation.{Step, joined}
 use Rattle.words.specs.Effort.{sumOver, choose, minorForetold, fourSteps, quotientSteps, resultSteps, stepsForetold, wholeSteps}
-use Rattle.words.proofs.Sums.{sum-same}
-
--- SUMS of sums, and of multiples
-sum-add : (k : ℕ) (f g : ℕ → ℕ) → sumOver k (λ i. f i + g i) ≡ sumOver k f + sumOver k g
-unfolding sumOver
-sum-add zero f g = refl
-sum-add (suc k) f g = omega (arith, sum-add k f g)
-
-sum-times : (k c : ℕ) (f : ℕ → ℕ) → sumOver k (λ i. c * f i) ≡ c * sumOver k f
-unfolding sumOver
-sum-times zero c f = omega arith
-sum-times (suc k) c f = omega (arith, sum-times k c f)
+use Rattle.words.proofs.Sums.{sum-same, sum-add, sum-times}
 
 back : (i : ℕ) → suc i - 1 ≡ i
 back i = omega arith
