@@ -33,8 +33,7 @@ static void call_new(void)
 
 static void call_load(void)
 {
-    tnb_answer a = tnb_load(shelf, 2, bytes, length);
-    number = a.number;
+    number = tnb_load(shelf, 2, bytes, length).number;
 }
 
 static void call_write(void)
@@ -47,69 +46,70 @@ static void call_write(void)
 
 static void call_byte_length(void)
 {
-    tnb_length a = tnb_byte_length(shelf, 0);
-    number = a.number;
+    number = tnb_byte_length(shelf, 0).number;
 }
 
 static void call_forecast_product(void)
 {
-    tnb_steps a = tnb_forecast_product(shelf, 0, 1);
-    number = a.number;
+    number = tnb_forecast_product(shelf, 0, 1).number;
 }
 
 static void call_forecast_submatrix(void)
 {
-    tnb_steps a = tnb_forecast_submatrix(shelf, 0, 0xf0, 0xf0);
-    number = a.number;
+    number = tnb_forecast_submatrix(shelf, 0, 0xf0, 0xf0).number;
+}
+
+static tnb_step steps[6];
+
+static void call_recipe(void)
+{
+    number = tnb_recipe(shelf, steps, 6, 2).number;
+}
+
+static void call_forecast_recipe(void)
+{
+    number = tnb_forecast_recipe(shelf, steps, 6).number;
 }
 
 static void call_drop(void)
 {
-    tnb_answer a = tnb_drop(shelf, 0);
-    number = a.number;
+    number = tnb_drop(shelf, 0).number;
 }
 
 static void call_product(void)
 {
-    tnb_answer a = tnb_product(shelf, 0, 1, 2);
-    number = a.number;
+    number = tnb_product(shelf, 0, 1, 2).number;
 }
 
 static void call_inverse(void)
 {
-    tnb_answer a = tnb_inverse(shelf, 0, 2);
-    number = a.number;
+    number = tnb_inverse(shelf, 0, 2).number;
 }
 
 static void call_converse(void)
 {
-    tnb_answer a = tnb_converse(shelf, 0, 2);
-    number = a.number;
+    number = tnb_converse(shelf, 0, 2).number;
 }
 
 static void call_submatrix(void)
 {
-    tnb_answer a = tnb_submatrix(shelf, 0, 0xff, 0xff, 2);
-    number = a.number;
+    number = tnb_submatrix(shelf, 0, 0xff, 0xff, 2).number;
 }
 
 static void call_transpose(void)
 {
-    tnb_answer a = tnb_transpose(shelf, 0, 2);
-    number = a.number;
+    number = tnb_transpose(shelf, 0, 2).number;
 }
 
 static void call_build(void)
 {
     static const uint64_t stamps[] = {1, 2, 4, 7, 11, 16, 22, 4294967295u};
-    tnb_answer a = tnb_build(shelf, 2, stamps, 8);
-    number = a.number;
+    number = tnb_build(shelf, 2, stamps, 8).number;
 }
 
 static void call_minor(void)
 {
-    tnb_value a = tnb_minor(shelf, 0, 0xf0, 0x0f);
-    number = a.number;
+    number = tnb_minor(shelf, 0, 0xf0, 0x0f).number;
 }
 
 static void call_rest(void)
@@ -119,44 +119,37 @@ static void call_rest(void)
 
 static void call_rows(void)
 {
-    tnb_length a = tnb_rows(shelf, 0);
-    number = a.number;
+    number = tnb_rows(shelf, 0).number;
 }
 
 static void call_factor(void)
 {
-    tnb_value a = tnb_factor(shelf, 0, 8, 8);
-    number = a.number;
+    number = tnb_factor(shelf, 0, 8, 8).number;
 }
 
 static void call_carry(void)
 {
-    tnb_status a = tnb_carry(shelf, 0, items, 24, carried, 24);
-    number = a.number;
+    number = tnb_carry(shelf, 0, items, 24, carried, 24).number;
 }
 
 static void call_reversals(void)
 {
-    tnb_length a = tnb_reversals(items, 24);
-    number = a.number;
+    number = tnb_reversals(items, 24).number;
 }
 
 static void call_add(void)
 {
-    tnb_worked a = tnb_add(pair, 6);
-    number = a.number;
+    number = tnb_add(pair, 6).number;
 }
 
 static void call_multiply(void)
 {
-    tnb_worked a = tnb_multiply(pair, 6);
-    number = a.number;
+    number = tnb_multiply(pair, 6).number;
 }
 
 static void call_divide(void)
 {
-    tnb_worked a = tnb_divide(pair, 6);
-    number = a.number;
+    number = tnb_divide(pair, 6).number;
 }
 
 /* the longest sentence: 220 bytes */
@@ -164,8 +157,7 @@ static void call_sentence(void)
 {
     static const uint64_t places[7] = {UINT64_MAX, UINT64_MAX, UINT64_MAX, UINT64_MAX, UINT64_MAX, UINT64_MAX, UINT64_MAX};
     static uint8_t text[TNB_SENTENCE_ROOM];
-    tnb_length a = tnb_sentence(19, UINT64_MAX, places, 7, text, sizeof text);
-    number = a.number;
+    number = tnb_sentence(19, UINT64_MAX, places, 7, text, sizeof text).number;
 }
 
 /* by value: what stands in the caller's frame for the shelf handed over and for the answer */
@@ -185,8 +177,10 @@ static const struct {
     {"tnb_converse", call_converse, sizeof(tnb_shelf) + sizeof(tnb_answer)},
     {"tnb_submatrix", call_submatrix, sizeof(tnb_shelf) + sizeof(tnb_answer)},
     {"tnb_transpose", call_transpose, sizeof(tnb_shelf) + sizeof(tnb_answer)},
+    {"tnb_recipe", call_recipe, sizeof(tnb_shelf) + sizeof(tnb_answer)},
     {"tnb_forecast_product", call_forecast_product, sizeof(tnb_shelf) + sizeof(tnb_steps)},
     {"tnb_forecast_submatrix", call_forecast_submatrix, sizeof(tnb_shelf) + sizeof(tnb_steps)},
+    {"tnb_forecast_recipe", call_forecast_recipe, sizeof(tnb_shelf) + sizeof(tnb_steps)},
     {"tnb_build", call_build, sizeof(tnb_shelf) + sizeof(tnb_answer)},
     {"tnb_minor", call_minor, sizeof(tnb_shelf) + sizeof(tnb_value)},
     {"tnb_rows", call_rows, sizeof(tnb_shelf) + sizeof(tnb_length)},
@@ -203,6 +197,8 @@ static const struct {
 static void fill(int width)
 {
     shelf = tnb_new();
+    for (unsigned k = 0; k < 6; k++)
+        steps[k] = k % 4 == 0 ? tnb_plain(k % 2) : k % 4 == 1 ? tnb_inverted(k % 2) : k % 4 == 2 ? tnb_conversed(k % 2) : tnb_transposed(k % 2);
     for (unsigned p = 0; p < 2; p++) {
         plain_number factors[64];
         for (unsigned t = 0; t < 64; t++) {
@@ -265,7 +261,7 @@ static void print_sizes(void)
     printf("| struct | bytes |\n|:--|--:|\n");
     printf("| `tnb_shelf` | %zu |\n| `tnb_answer` | %zu |\n", sizeof(tnb_shelf), sizeof(tnb_answer));
     printf("| `tnb_value` | %zu |\n| `tnb_length` | %zu |\n| `tnb_status` | %zu |\n", sizeof(tnb_value), sizeof(tnb_length), sizeof(tnb_status));
-    printf("| `tnb_worked` | %zu |\n| `tnb_steps` | %zu |\n\n", sizeof(tnb_worked), sizeof(tnb_steps));
+    printf("| `tnb_worked` | %zu |\n| `tnb_steps` | %zu |\n| `tnb_step` | %zu |\n\n", sizeof(tnb_worked), sizeof(tnb_steps), sizeof(tnb_step));
 }
 
 int main(void)

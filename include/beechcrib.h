@@ -6,10 +6,10 @@
  *
  * Places count from 0 to 7. Row and column sets are masks, bit 0 for row 1.
  *
- * Every answer has a number: 0 for accepted, 1 to 17 for a refusal, 255 where the shelf handed over is not one that these calls can have made; they
+ * Every answer has a number: 0 for accepted, 1 to 18 for a refusal, 255 where the shelf handed over is not one that these calls can have made; they
  * have names below. docs/REFUSALS.md says when each refusal is given, and has the reason that tnb_sentence writes for it. A refused call changes
- * neither the shelf nor lent memory. Where several conditions hold, the order is 1 (sources, then target), 11, 12, 15, 13, 8, 17, 9, 14, 10; a load
- * tests 1, 12, then bytes from the left: of a factor its exponent code for 2, 3, 5, then 6 or 16, then its mantissa.
+ * neither the shelf nor lent memory. Where several conditions hold, the order is 18, 1 (sources, then target), 11, 12, 15, 13, 8, 17, 9, 14, 10; a
+ * load tests 1, 12, then bytes from the left: of a factor its exponent code for 2, 3, 5, then 6 or 16, then its mantissa.
  *
  * The offset: for 3 to 6 and 16 the first byte of the group number at fault, for 2 the length of the input, for 7 the first byte behind the matrix, else 0.
  *
@@ -26,9 +26,10 @@ extern "C" {
 /* The version of this header and of the archive built beside it. It rises whenever a struct changes its size, a call or a number is added, or a call
  * answers otherwise than before (2: tnb_reversals passes over zeros; 3: tnb_add, tnb_multiply and tnb_divide are new; 4: tnb_build and its refusal 15
  * are new; 5: tnb_sentence is new; 6: factors may be zero in the pattern that tnb_load names, with the refusals 16 and 17; 7: answers have steps, and
- * tnb_byte_length and the forecasts are new). A program that uses only what stands here, and not the inside of a shelf, compiles again with every later
- * version; it is compiled again for each, since structs go by value. Later versions may refuse with numbers that are not listed yet: test for TNB_ACCEPTED. */
-#define TNB_VERSION 7
+ * tnb_byte_length and the forecasts are new; 8: recipes are new, with the refusal 18). A program that uses only what stands here, and not the inside of a
+ * shelf or a step, compiles again with every later version; it is compiled again for each, since structs go by value. Later versions may refuse with
+ * numbers that are not listed yet: test for TNB_ACCEPTED. */
+#define TNB_VERSION 8
 
 /* The numbers of answers. */
 enum {
@@ -51,6 +52,7 @@ enum {
     TNB_BAD_STAMPS = 15,         /* a time stamp is zero, is 2^32 or more, or does not exceed the one before it, or their count is not 1 to 8 */
     TNB_BROKEN_PATTERN = 16,     /* a zero below the diagonal with a nonzero factor further down its column, or above it with one further right in its row */
     TNB_SINGULAR = 17,           /* the chosen submatrix is singular: its exact determinant is zero */
+    TNB_BAD_STEP_COUNT = 18,     /* a recipe has not 2 to 6 steps */
     TNB_FOREIGN_SHELF = 255      /* the shelf handed over is not one that these calls can have made */
 };
 
@@ -61,9 +63,9 @@ typedef struct {
     uint64_t private_[1025];
 } tnb_shelf;
 
-/* What a call answers that may change the shelf: the bound of an operation or a build (0 for a load or drop), the steps that an operation made (0 for any
- * other call and for a refusal), and the shelf after the call. A step is one row set updated by one letter E or Et of the rule; a forecast tells beforehand
- * how many there will be. */
+/* What a call answers that may change the shelf: the bound of an operation, a recipe or a build (0 for a load or drop), the steps that an operation or recipe
+ * made (0 for any other call and for a refusal), and the shelf after the call. A step is one row set updated by one letter E or Et of the rule; a forecast
+ * tells beforehand how many there will be. (A step of a recipe, tnb_step, is another thing.) */
 typedef struct {
     uint8_t number;
     uint32_t bound;
@@ -79,7 +81,7 @@ typedef struct {
     size_t length;
 } tnb_length;
 
-/* How many steps an operation will make; 0 for a refusal, and for a transpose. */
+/* How many steps an operation or recipe will make; 0 for a refusal, and for a transpose. */
 typedef struct {
     uint8_t number;
     size_t offset;
@@ -154,14 +156,38 @@ tnb_answer tnb_submatrix(tnb_shelf shelf, size_t source, uint8_t rows, uint8_t c
 /* The transpose of a place, to an empty place; no rounding, bound 0. Refusals 1, 11, 12. */
 tnb_answer tnb_transpose(tnb_shelf shelf, size_t source, size_t target);
 
-/* The steps that an operation will make, without working it: what it answers where it is accepted. They depend on the rows of its sources and on how many
- * rows are chosen, on nothing else. No target is named. A forecast is refused where the operation would be for its sources or sets; with a target that is
- * empty, the operation itself can then be refused only by 14 or, of a submatrix, 17. Refusals 1, 11 and, of a product, 13, of a submatrix, 8. */
+/* A step of a recipe: a place together with the way it is taken. It is made by one of the four calls below and by nothing else; what is inside is private.
+ * Whatever it holds, a recipe takes it for some place in some way. A step of a place above 7 can be made, and one that was left zero is such a step: the
+ * recipe then refuses with 1. */
+typedef struct {
+    uint64_t private_;
+} tnb_step;
+
+tnb_step tnb_plain(size_t place);      /* the matrix of the place */
+tnb_step tnb_inverted(size_t place);   /* its re-signed inverse */
+tnb_step tnb_conversed(size_t place);  /* its converse */
+tnb_step tnb_transposed(size_t place); /* its transpose */
+
+/* A recipe: the product of 2 to 6 steps, from the first to the last, to an empty place.
+ *
+ *     tnb_step steps[] = {tnb_plain(0), tnb_transposed(1), tnb_plain(0)};
+ *     tnb_answer a = tnb_recipe(shelf, steps, 3, 7);
+ *
+ * The rule is run once, over all steps: for m steps of n rows the bound is 4 m (2 n^2 - n) + 3, at most 2883, counted from the stored sources. A place may
+ * stand in several steps. Two plain steps are tnb_product, to the last bit. A transposed step counts like any other, in bound and steps. count counts steps.
+ * Refusals 18 (the count is not 2 to 6, tested before all others but 255), 1, 11, 12, 13, 14. */
+tnb_answer tnb_recipe(tnb_shelf shelf, const tnb_step *steps, size_t count, size_t target);
+
+/* The steps that an operation or recipe will make, without working it: what it answers where it is accepted. They depend on how many sources there are, on
+ * their rows and on how many rows are chosen, on nothing else. No target is named. A forecast is refused where the call would be for its sources, sets or
+ * count; with a target that is empty, the call itself can then be refused only by 14 or, of a submatrix, 17. Refusals 1, 11, and of a product 13, of a
+ * submatrix 8, of a recipe 18 and 13. */
 tnb_steps tnb_forecast_product(tnb_shelf shelf, size_t left, size_t right);
 tnb_steps tnb_forecast_inverse(tnb_shelf shelf, size_t source);
 tnb_steps tnb_forecast_converse(tnb_shelf shelf, size_t source);
 tnb_steps tnb_forecast_transpose(tnb_shelf shelf, size_t source);
 tnb_steps tnb_forecast_submatrix(tnb_shelf shelf, size_t source, uint8_t rows, uint8_t columns);
+tnb_steps tnb_forecast_recipe(tnb_shelf shelf, const tnb_step *steps, size_t count);
 
 /* Fills an empty place from time stamps: with n of them, 1 to 8, the matrix whose row i holds the powers 0 to n - 1 of stamp i, as a polynomial through
  * positions at those times needs it. Stamps are positive, strictly increasing and below 2^32; they go in as 64-bit numbers, so that a larger one is refused

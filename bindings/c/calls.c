@@ -69,12 +69,27 @@ static tnb_shelf operations(tnb_shelf s)
 static void foretold(tnb_shelf s)
 {
     want(tnb_forecast_product(s, 0, 1).number == TNB_SIZES_DIFFER && tnb_forecast_product(s, 0, 1).steps == 0, "forecast, sizes differ");
-    want(tnb_forecast_product(s, 7, 8).number == TNB_PLACE_ABOVE_7, "forecast, place above 7");
+    want(tnb_forecast_product(s, 7, 8).number == TNB_PLACE_ABOVE_7 && tnb_forecast_transpose(s, 8).number == TNB_PLACE_ABOVE_7, "forecast, above 7");
     want(tnb_forecast_inverse(s, 7).number == TNB_SOURCE_EMPTY && tnb_forecast_converse(s, 7).number == TNB_SOURCE_EMPTY, "forecast, empty");
-    want(tnb_forecast_transpose(s, 8).number == TNB_PLACE_ABOVE_7, "forecast of a transpose");
     want(tnb_forecast_submatrix(s, 1, 6, 1).number == TNB_BAD_SETS, "forecast, unequal sets");
     want(tnb_byte_length(s, 0).length == 13 && tnb_byte_length(s, 1).length == 28, "byte length");
     want(tnb_byte_length(s, 7).number == TNB_SOURCE_EMPTY && tnb_byte_length(s, 8).number == TNB_PLACE_ABOVE_7, "byte length, refused");
+}
+
+/* recipes: place 6 holds the transpose of place 5, and places 0 to 6 but 1 hold two rows */
+static void recipes(tnb_shelf s)
+{
+    tnb_step steps[7] = {tnb_plain(0), tnb_transposed(5), tnb_inverted(0), tnb_conversed(2), tnb_plain(1), tnb_plain(7), tnb_plain(SIZE_MAX)};
+    tnb_step plain[3] = {tnb_plain(0), tnb_plain(2)}; /* the third is left zero */
+    tnb_shelf r = operated(tnb_recipe(s, steps, 2, 7), 51, tnb_forecast_recipe(s, steps, 2), 24, "recipe"), p = tnb_product(s, 0, 6, 7).shelf;
+    want(memcmp(&r, &p, sizeof r) == 0, "recipe, a transposed step");
+    r = tnb_recipe(s, plain, 2, 7).shelf, p = tnb_product(s, 0, 2, 7).shelf;
+    want(memcmp(&r, &p, sizeof r) == 0 && tnb_rows(r, 7).length == 2, "recipe, two plain steps");
+    operated(tnb_recipe(s, steps, 4, 7), 99, tnb_forecast_recipe(s, steps, 4), 48, "recipe, the four ways");
+    want(tnb_recipe(s, steps, 1, 9).number == TNB_BAD_STEP_COUNT && tnb_recipe(s, steps, 7, 7).number == TNB_BAD_STEP_COUNT, "recipe, bad count");
+    want(tnb_recipe(s, steps, 5, 7).number == TNB_SIZES_DIFFER && tnb_recipe(s, steps, 5, 4).number == TNB_TARGET_FULL, "recipe, sizes differ, target full");
+    want(tnb_recipe(s, steps + 4, 2, 4).number == TNB_SOURCE_EMPTY && tnb_recipe(s, steps + 5, 2, 4).number == TNB_PLACE_ABOVE_7, "recipe, empty, above 7");
+    want(tnb_recipe(s, plain, 3, 7).number == TNB_PLACE_ABOVE_7 && tnb_recipe(s, NULL, 0, 7).number == TNB_BAD_STEP_COUNT, "recipe, not made, NULL");
 }
 
 /* the matrix 1 1 0, 1 2 1, 0 1 2, whose factors far from the diagonal are zero: read and written, its submatrices and minors, and a broken pattern */
@@ -237,12 +252,10 @@ static void sentences(void)
 static void null(tnb_shelf s)
 {
     tnb_answer a = tnb_load(s, 7, NULL, 0);
-    want(a.number == TNB_BYTES_END_EARLY && a.offset == 0, "load, NULL");
-    want(tnb_rest(NULL, 0) == 0, "rest, NULL");
+    want(a.number == TNB_BYTES_END_EARLY && a.offset == 0 && tnb_rest(NULL, 0) == 0, "load and rest, NULL");
     want(tnb_write(s, 0, NULL, 0).number == TNB_OUTPUT_TOO_SHORT, "write, NULL");
-    want(tnb_carry(s, 0, NULL, 0, NULL, 0).number == TNB_BAD_LIST, "carry, NULL");
-    want(tnb_carry(s, 0, list, 6, NULL, 0).number == TNB_OUTPUT_TOO_SHORT, "carry, NULL for room");
-    want(tnb_reversals(NULL, 0).number == TNB_BAD_LIST, "reversals, NULL");
+    want(tnb_carry(s, 0, NULL, 0, NULL, 0).number == TNB_BAD_LIST && tnb_carry(s, 0, list, 6, NULL, 0).number == TNB_OUTPUT_TOO_SHORT, "carry, NULL");
+    want(tnb_reversals(NULL, 0).number == TNB_BAD_LIST && tnb_forecast_recipe(s, NULL, 0).number == TNB_BAD_STEP_COUNT, "reversals and recipe, NULL");
     want(tnb_sentence(1, 0, NULL, 0, NULL, 0).number == TNB_OUTPUT_TOO_SHORT, "sentence, NULL");
 }
 
@@ -271,6 +284,7 @@ int main(void)
     want(tnb_rest(two, 14) == 1 && tnb_rest(two, 5) == 5, "rest");
     s = operations(s);
     foretold(s);
+    recipes(s);
     zeros();
     building(s);
     reading(s);

@@ -59,7 +59,7 @@ def banded_cases(shelf, before, call, words, answer):
     source = before[words[0]] if call in ("minor", "carry", "write", "submatrix") and words[0] < 8 else None
     if source is not None and ZERO in source.factors:
         yield from cases_of_reading(source, call, words, answer)
-    if answer.startswith("bound") and call != "build":
+    if answer.startswith("bound") and call not in ("build", "recipe"):
         held = [before[place] for place in words[:2 if call == "product" else 1]]
         yield from cases_of_operation(call, held, words, shelf.places[words[-1]])
 

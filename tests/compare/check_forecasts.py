@@ -160,7 +160,7 @@ def lengths_written(rng, rounds):
 def forecasts_refused(rng, rounds):
     """1, then 11, then 13 or 8; 12, 14 and 17 are never answered, and the order is the operation's."""
     same({call: ORDER[call] for call in FORECASTS}, {"forecast product": (1, 11, 13), "forecast submatrix": (1, 11, 8), "forecast inverse": (1, 11),
-                                                     "forecast converse": (1, 11), "forecast transpose": (1, 11)})
+                                                     "forecast converse": (1, 11), "forecast transpose": (1, 11), "forecast recipe": (18, 1, 11, 13)})
     shelf = Shelf()
     for place, source in ((0, Matrix(2, (ONE,) * 4)), (1, Matrix(3, (ONE,) * 9)), (2, Matrix(2, ((LOW, 1000),) * 4)), (3, Matrix(2, (ONE, ZERO, ZERO, ONE)))):
         shelf.load(place, encode(source))

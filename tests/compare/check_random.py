@@ -4,10 +4,11 @@ from fractions import Fraction
 import words
 from banded import banded
 from checks import check, refused, same
+from conditions import conditions
 from console_model import Console, call_words, parse
 from encoding import Refusal, encode, group, read_group, read_single, rest
 from exact import entries_of, exact_parts, exact_run, inverse, matrix_product, multiply_out, requested, units, within
-from model import ORDER, WORKED, conditions
+from model import ORDER, WORKED
 from number import (DIRECTIONS, HIGH, ITEM_ZERO, LOW, ONE, ZERO, add, divide, multiply, neighbours, odd_form, round_fraction, round_whole,
                     rounded_quotient, signed_add, slow_add, slow_divide, slow_multiply, slow_signed_add, value, whole_quotient, worked)
 from pairs import pair

@@ -11,7 +11,7 @@ from itertools import count
 from console_model import Console, parse
 from model import PLACES
 
-CHANGING = {"load", "build", "drop", "product", "inverse", "converse", "transpose", "submatrix"}
+CHANGING = {"load", "build", "drop", "product", "inverse", "converse", "transpose", "submatrix", "recipe"}
 SHOW_ALL_EVERY = 100
 SECONDS_PER_BATCH = 120
 # Of the table's first column.
@@ -24,6 +24,8 @@ def touched(line):
     if request is None or request[0] not in CHANGING:
         return []
     call, words = request
+    if call == "recipe":
+        words = [words[0], *(place for place, _ in words[1])]
     named = words[:1] if call in ("load", "build", "drop") else [words[0], words[-1]] if call == "submatrix" else words
     return sorted({place for place in named if place < PLACES})
 

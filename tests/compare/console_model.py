@@ -9,6 +9,7 @@ import sys
 
 from encoding import Refusal
 from model import FORECASTS, ONE_SOURCE, PLACES, WORKED, Shelf
+from words import WAYS
 
 LONGEST_LINE = 4096
 MOST_PLACE, MOST_MASK, MOST_LENT, MOST_STAMP, MOST_LISTED = 2 ** 32 - 1, 255, 512, 2 ** 64 - 1, 16
@@ -28,16 +29,16 @@ SIGNED = re.compile(r"-?[0-9]+\Z")
 HEX = re.compile(r"(?:[0-9a-f]{2})+\Z")
 
 # What follows each word of the console: P a place, M a mask, C a length to lend, B bytes, N one item, W a number of a sentence; at the end any number of
-# items, I, of stamps, S, or of a sentence's places, L.
+# items, I, of stamps, S, of a sentence's places, L, or of a recipe's steps, R.
 FORMS = {
     "load": "PB", "write": "PC", "drop": "P", "product": "PPP", "inverse": "PP", "converse": "PP", "transpose": "PP",
     "submatrix": "PMMP", "minor": "PMM", "carry": "PCI", "reversals": "I", "rest": "B", "show": "P",
-    "add": "NN", "multiply": "NN", "divide": "NN", "build": "PS", "sentence": "CWWL", "length": "P",
+    "add": "NN", "multiply": "NN", "divide": "NN", "build": "PS", "sentence": "CWWL", "length": "P", "recipe": "PR",
 }
-# A forecast has the operation's words without the last, its target.
-FORMS |= {call: FORMS[kind][:-1] for call, kind in FORECASTS.items()}
+# A forecast has the operation's words without its target, the last word, or the first of a recipe.
+FORMS |= {call: FORMS[kind][1:] if kind == "recipe" else FORMS[kind][:-1] for call, kind in FORECASTS.items()}
 # The later description limits places to 2^32 - 1, so of these calls a larger one is no place and the line a bad request.
-LIMITED = ("length", *FORECASTS)
+LIMITED = ("length", "recipe", *FORECASTS)
 
 
 def whole(text, most):
@@ -62,14 +63,21 @@ def item(text):
     return numbers if all(LEAST <= number <= LARGEST for number in numbers) else None
 
 
+def step(text):
+    """A place and the way it is taken, one comma between them."""
+    place, _, way = text.partition(",")
+    number = whole(place, MOST_PLACE)
+    return (number, way) if number is not None and way in WAYS else None
+
+
 READERS = {
     "P": lambda text: whole(text, MOST_PLACE), "M": lambda text: whole(text, MOST_MASK),
     "C": lambda text: whole(text, MOST_LENT), "B": data, "N": item, "W": lambda text: whole(text, MOST_SAID),
 }
 # What reads each member of a list.
-LISTS = {"I": item, "S": lambda text: whole(text, MOST_STAMP), "L": lambda text: whole(text, MOST_SAID)}
+LISTS = {"I": item, "S": lambda text: whole(text, MOST_STAMP), "L": lambda text: whole(text, MOST_SAID), "R": step}
 # Kinds that have no sign, so that any sign is a bad request.
-UNSIGNED = "SWL"
+UNSIGNED = "SWLR"
 
 
 def members(kind, texts):
@@ -92,7 +100,7 @@ def parse(line):
     call, texts, form = divided(line)
     if form is None:
         return None
-    kinds = form.rstrip("ISL")
+    kinds = form.rstrip("".join(LISTS))
     if len(texts) < len(kinds) or (len(texts) > len(kinds) and form == kinds):
         return None
     arguments = [READERS[kind](text) for kind, text in zip(kinds, texts)]
@@ -102,7 +110,7 @@ def parse(line):
 
 
 def doubtful(line):
-    """Leading zeros, plus signs, minus zero, and places that only some types hold. A stamp has no sign, nor has a number of a sentence."""
+    """Leading zeros, plus signs, minus zero, and places that only some types hold. A stamp has no sign, nor has a number of a sentence or of a step."""
     call, texts, form = divided(line)
     form = form or ""
     for kind, text in zip(form.ljust(len(texts), form[-1:] or "?"), texts):
@@ -124,7 +132,7 @@ def text_of_items(listed):
 
 
 def call_words(call, arguments):
-    """The arguments as model.conditions takes them: a carry's list before the lent length, two items as a list."""
+    """The arguments as conditions.conditions takes them: a carry's list before the lent length, two items as a list."""
     if call in WORKED:
         return [arguments]
     return [arguments[0], arguments[2], arguments[1]] if call == "carry" else arguments
@@ -182,6 +190,9 @@ class Console:
 
     def submatrix(self, place, rows, columns, target):
         return "bound %d steps %d" % self.shelf.submatrix(place, rows, columns, target)
+
+    def recipe(self, target, steps):
+        return "bound %d steps %d" % self.shelf.recipe(target, steps)
 
     def length(self, place):
         return f"length {self.shelf.length(place)}"

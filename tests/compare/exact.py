@@ -6,6 +6,7 @@ choice of rows and columns. exact_parts: the exact run for measuring, without fr
 """
 import math
 from fractions import Fraction
+from functools import reduce
 
 from number import value
 from words import Arithmetic, Walker, count, factors_by, interval, operation_word, plain_walk, rows_of, sets, updates, word
@@ -103,8 +104,14 @@ def inverse(entries):
 
 
 def requested(kind, sources, rows=None, columns=None):
-    """The entries of the requested matrix."""
+    """The entries of the requested matrix; of a recipe, whose kind is the tuple of its ways, the product of what each step asks for."""
+    if isinstance(kind, tuple):
+        return reduce(matrix_product, (requested(way, [source]) for way, source in zip(kind, sources)))
     entries = entries_of(sources[0])
+    if kind == "plain":
+        return entries
+    if kind == "transpose":
+        return [list(column) for column in zip(*entries)]
     if kind == "product":
         return matrix_product(entries, entries_of(sources[1]))
     if kind == "inverse":

@@ -32,7 +32,7 @@ class Watch:
         return found
 
     def cases_of(self, call, words, before, answer):
-        if call in FORECASTS and answer[0] == "steps":
+        if FORECASTS.get(call) in OPERATIONS and answer[0] == "steps":
             self.told[FORECASTS[call], *words] = int(answer[1])
             yield from self.cases_of_forecast(FORECASTS[call], words, before)
         if call in OPERATIONS and (call, *words[:-1]) in self.told:

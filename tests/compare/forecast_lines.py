@@ -47,8 +47,10 @@ ODD_FORECASTS = (
 
 
 def forecast_of(line):
-    """The forecast of an operation's line, its words without the target; None for another line."""
+    """The forecast of an operation's or recipe's line, its words without the target; None for another line."""
     words = line.split(" ")
+    if words[0] == "recipe":
+        return " ".join(["forecast", words[0], *words[2:]])
     return " ".join(["forecast", *words[:-1]]) if words[0] in OPERATIONS else None
 
 

@@ -2,32 +2,35 @@
 """Writes a transcript of the console with the model's answers: stdin and stdout of crates/tnb_console, which the gate runs.
 
 freeze.py [--seed S] [--count N] [--check]: about N requests, the same for the same seed. It covers every call, each refusal of
-each call, every pair of refusals that a call can meet at once, each operation in all sizes, every number of stamps and every fault
-of them that can stand alone, every way that a sum, a product and a quotient can be rounded, the sentence of every number in lent
-bytes that just suffice and in one less, and banded places in every call and every place that breaks their pattern, or it fails. Behind
-these N come forecasts and lengths: each operation in all sizes foretold and run. A line that is too long lies across the end of a
-program's first read, and the last line lacks its end. With --check nothing is written: the files are held to what would be.
+each call, every pair of refusals that a call can meet at once, each operation in all sizes, every number of stamps and every
+fault of them that can stand alone, every way that a sum, a product and a quotient can be rounded, the sentence of every number in
+lent bytes that just suffice and in one less, and banded places in every call and every place that breaks their pattern, or it
+fails. Behind these N come forecasts and lengths, each operation in all sizes foretold and run, and behind those the recipes, each
+number of steps in all sizes. A line that is too long lies across the end of a program's first read, and the last line lacks its
+end. With --check nothing is written: the files are held to what would be.
 """
 import argparse
 import os
 import random
 import sys
-from collections import Counter
-from itertools import combinations, product
+from itertools import product
 
 import sweeps
 from banded_cases import unbanded
 from banded_sweeps import banded_tour, every_break, every_order_of_singular, every_precedence, some_patterns
 from comparison import Tally, batch
-from console_model import LARGEST, LEAST, LONGEST_LINE, MOST_LISTED, MOST_PLACE, MOST_STAMP, Console, call_words, doubtful, parse, text_of_bytes, text_of_items
+from conditions import together, wanted_pairs
+from console_model import LARGEST, LEAST, LONGEST_LINE, MOST_LISTED, MOST_PLACE, MOST_STAMP, doubtful, parse, text_of_bytes, text_of_items
 from encoding import encode
 from forecast_cases import unforetold
 from forecast_sweeps import every_forecast
 from garbage import ODD_LINES
 from list_lines import counted_carry
-from model import FORECASTS, OPERATIONS, ORDER, WORKED, conditions, pair_good
+from model import OPERATIONS, ORDER, WORKED, pair_good
 from number import HIGH, LOW, ONE
 from pairs import cases, every_case, pair
+from recipe_cases import unjoined
+from recipe_sweeps import every_recipe
 from requests import DIRECT, Stream, stream
 from sentence_lines import every_sentence_case, sentence_cases, sentences
 from sources import far_apart, good_masks, spread_number, unit_items
@@ -182,20 +185,13 @@ def lines(seed, shelf):
 
 
 def covering(seed, count):
-    """Requests and the model's answers: about `count` of `lines`, then forecasts and lengths, in a part of their own that leaves those before it alone."""
-    return batch(lambda shelf: lines(seed, shelf), count, lambda shelf: every_forecast(Stream(random.Random(f"foretold {seed}"), shelf)))
+    """Requests and the model's answers: about `count` of `lines`, then forecasts and lengths, then recipes, in parts of their own that leave those before
+    them alone."""
+    def later(shelf):
+        yield from every_forecast(Stream(random.Random(f"foretold {seed}"), shelf))
+        yield from every_recipe(Stream(random.Random(f"joined {seed}"), shelf))
 
-
-def together(asked):
-    """For each call, the pairs of conditions that held at once."""
-    console, pairs = Console(), Counter()
-    for line in asked:
-        request = parse(line)
-        if request and request[0] in ORDER:
-            found = sorted(conditions(console.shelf, request[0], call_words(*request)), key=ORDER[request[0]].index)
-            pairs.update((request[0],) + pair for pair in combinations(found, 2))
-        console.answer(line)
-    return pairs
+    return batch(lambda shelf: lines(seed, shelf), count, later)
 
 
 def uncovered(asked):
@@ -228,18 +224,6 @@ def unsaid(asked):
     return [case for case in every_sentence_case() if case not in met]
 
 
-def wanted_pairs():
-    """The pairs of conditions that a call can meet at once. Faults in bytes come one at a time; 13, 8 and 17 leave nothing to work."""
-    alone = [{2, 3, 4, 5, 6, 7, 16}, {13, 14}, {8, 14, 17}, {9, 14}]
-    for call, order in ORDER.items():
-        for pair in combinations(order, 2):
-            # A place above 7 holds nothing, and an empty source leaves nothing to be judged but the target. A forecast has none.
-            lone = call in ("write", "drop", "minor", "carry", "length", *FORECASTS) and pair[0] in (1, 11) and (call, *pair) != ("forecast product", 1, 11)
-            hidden = pair[0] == 11 and set(pair[1:]) & {8, 9, 10, 13, 14, 17} or call in ("load", "build") and pair == (1, 12)
-            if not lone and not hidden and not any(set(pair) <= group for group in alone):
-                yield (call,) + pair
-
-
 def missing(asked, wanted, tally):
     """What the transcript ought to cover and doesn't."""
     for call, order in ORDER.items():
@@ -253,6 +237,7 @@ def missing(asked, wanted, tally):
     yield from (f"sentence, {case}" for case in unsaid(asked))
     yield from unbanded(asked)
     yield from unforetold(asked)
+    yield from unjoined(asked)
     pairs = together(asked)
     yield from (f"{call} {first} with {second}" for call, first, second in wanted_pairs() if not pairs[call, first, second])
 

@@ -1,17 +1,16 @@
 """Document 01, with what document 02 adds to it, as a program: the shelf and its calls, over number.py, words.py, stamps.py, encoding.py and sentences.py.
 
 Shelf: places 0 to 7. Each call returns its answer or raises Refusal with the number and the offset, in document 01's
-order of tests, and then the shelf is as before. An operation returns its bound and the steps it made. conditions: every condition
-of the two tables that holds for a call; the call of a forecast is "forecast" and the operation's word.
+order of tests, and then the shelf is as before. An operation or recipe returns its bound and the steps it made. ORDER: the tests of
+each call, in order; the call of a forecast is "forecast" and the operation's word.
 shown: what the program of "Shown in full" prints.
 """
 from encoding import Refusal, encode, read_single, rest
 from exact import singular
 from number import HIGH, ITEM_ZERO, LOW, stored, worked
-from patterns import reached
-from sentences import answered, sentence_faults
-from stamps import BUILT_BOUND, built, stamp_faults, stamps_good
-from words import bound, carry, count, foretold, interval, minor, operate, operate_counted, reversals, transpose, word
+from sentences import answered
+from stamps import BUILT_BOUND, built, stamps_good
+from words import bound, carry, count, foretold, interval, minor, operate_counted, reversals, transpose
 
 PLACES = 8
 ONE_SOURCE = ("inverse", "converse", "transpose")
@@ -22,11 +21,12 @@ ORDER = {
     "load": (1, 12, 2, 3, 4, 5, 6, 16, 7), "build": (1, 12, 15), "write": (1, 11, 10), "drop": (1, 11),
     "product": (1, 11, 12, 13, 14), "inverse": (1, 11, 12, 14), "converse": (1, 11, 12, 14), "transpose": (1, 11, 12),
     "submatrix": (1, 11, 12, 8, 17, 14), "minor": (1, 11, 8, 14), "carry": (1, 11, 9, 14, 10), "reversals": (9,), "rest": (),
-    "add": (9,), "multiply": (9,), "divide": (9,), "sentence": (9, 10), "length": (1, 11),
+    "add": (9,), "multiply": (9,), "divide": (9,), "sentence": (9, 10), "length": (1, 11), "recipe": (18, 1, 11, 12, 13, 14),
 }
+FEWEST_STEPS, MOST_STEPS = 2, 6
 # A forecast tests as the operation does, without these.
 UNTESTED = (12, 14, 17, 20)
-FORECASTS = {f"forecast {kind}": kind for kind in OPERATIONS}
+FORECASTS = {f"forecast {kind}": kind for kind in (*OPERATIONS, "recipe")}
 ORDER |= {call: tuple(k for k in ORDER[kind] if k not in UNTESTED) for call, kind in FORECASTS.items()}
 
 
@@ -126,8 +126,36 @@ class Shelf:
         result, steps = operate_counted("submatrix", [source], rows, columns)
         return self.keep(target, result, (bound("submatrix", source.n), steps))
 
+    def step_sources(self, steps, *target):
+        """What the steps of a recipe hold: 18, then 1 of all that is named, then 11."""
+        if not FEWEST_STEPS <= len(steps) <= MOST_STEPS:
+            raise Refusal(18)
+        places = [place for place, _ in steps]
+        self.known(*places, *target)
+        return [self.source(place) for place in places]
+
+    def recipe(self, target, steps):
+        """The steps, each a place and its way, joined in their order: one word, one run of the rule."""
+        sources = self.step_sources(steps, target)
+        self.free(target)
+        if len({source.n for source in sources}) > 1:
+            raise Refusal(13)
+        kind = tuple(way for _, way in steps)
+        result, made = operate_counted(kind, sources)
+        return self.keep(target, result, (bound(kind, result.n), made))
+
+    def forecast_recipe(self, steps):
+        """The steps that a recipe takes: by their count and the rows, as a way keeps the number of letters."""
+        sizes = {source.n for source in self.step_sources(steps)}
+        if len(sizes) > 1:
+            raise Refusal(13)
+        n = sizes.pop()
+        return foretold(("plain",) * len(steps), n, n)
+
     def forecast(self, kind, *words):
         """The steps that an operation takes. The words are its own without the target, and none of its work is done."""
+        if kind == "recipe":
+            return self.forecast_recipe(*words)
         places = words[:2] if kind == "product" else words[:1]
         self.known(*places)
         sizes = [self.source(place).n for place in places]
@@ -186,91 +214,6 @@ class Shelf:
     def sentence(lent, number, offset, places):
         """The length written and the lent bytes afterwards. It reads nothing of the shelf."""
         return answered(lent, number, offset, places)
-
-
-def places_named(call, words):
-    """The sources and the target (or None) that a call names."""
-    if call in ("load", "build"):
-        return [], words[0]
-    if call in FORECASTS:
-        return list(words[:1] if FORECASTS[call] != "product" else words[:2]), None
-    if call in ("write", "drop", "minor", "carry", "length"):
-        return [words[0]], None
-    if call in ("reversals", "rest", "sentence") + WORKED:
-        return [], None
-    return list(words[:1] if call != "product" else words[:2]), words[-1]
-
-
-def conditions(shelf, call, words):
-    """Every condition of the tables that holds, each judged where it has a meaning. The words are the call's arguments."""
-    sources, target = places_named(call, words)
-    found = set()
-    named = sources + ([] if target is None else [target])
-    if any(place >= PLACES for place in named):
-        found.add(1)
-    held = [shelf.places[place] for place in sources if place < PLACES]
-    if None in held:
-        found.add(11)
-    if target is not None and target < PLACES and shelf.places[target] is not None:
-        found.add(12)
-    if call == "load":
-        try:
-            read_single(words[1])
-        except Refusal as fault:
-            found.add(fault.number)
-    elif call == "build":
-        if stamp_faults(words[1]):
-            found.add(15)
-    elif call == "sentence":
-        found |= sentence_faults(*words)
-    elif call == "reversals":
-        if not 1 <= len(words[0]) <= 8 or not all(map(item_good, words[0])):
-            found.add(9)
-    elif call in WORKED:
-        if not pair_good(words[0]):
-            found.add(9)
-    elif len(held) == len(sources) and None not in held and held:
-        found |= conditions_of_work(call, held, words)
-    return found
-
-
-def forecast_conditions(held, words):
-    """13 where there are two sources, 8 where there are sets."""
-    if len(held) == 2 and held[0].n != held[1].n:
-        return {13}
-    return {8} if len(words) == 3 and not sets_good(held[0].n, *words[1:]) else set()
-
-
-def conditions_of_work(call, held, words):
-    """Those that concern what the sources hold: 8, 9, 10, 13, 14, 17."""
-    n = held[0].n
-    if call in FORECASTS:
-        return forecast_conditions(held, words)
-    if call == "product":
-        if held[0].n != held[1].n:
-            return {13}
-        return set() if in_range(operate(call, held)) else {14}
-    if call in ("inverse", "converse"):
-        return set() if in_range(operate(call, held)) else {14}
-    if call in ("submatrix", "minor"):
-        if not sets_good(n, words[1], words[2]):
-            return {8}
-        if call == "submatrix" and words[1] not in reached(word(held[0]), n, words[2]):
-            return {17}
-        good = in_range(operate(call, held, *words[1:3])) if call == "submatrix" else stored(minor(held[0], *words[1:]))
-        return set() if good else {14}
-    if call == "write":
-        return {10} if words[1] < len(encode(held[0])) else set()
-    found = set()
-    if call == "carry":
-        items = words[1]
-        if words[2] < n:
-            found.add(10)
-        if len(items) != n or not all(map(item_good, items)):
-            found.add(9)
-        elif not all(item == ITEM_ZERO or stored(item[1:]) for item in carry(held[0], items)):
-            found.add(14)
-    return found
 
 
 def shown(left, right):

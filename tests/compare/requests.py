@@ -2,7 +2,7 @@
 
 stream(seed, shelf): lines for ever. The shelf is the model's, looked at to choose places that hold a matrix or are free; the
 line given out must be answered by the model before the next is asked for. Each scenario in SCENARIOS gives a few lines; those of
-DIRECT know nothing of forecasts and lengths.
+DIRECT know nothing of forecasts, lengths and recipes.
 """
 import random
 
@@ -11,6 +11,8 @@ import byte_lines
 import forecast_lines
 import forecast_sweeps
 import list_lines
+import recipe_lines
+import recipe_sweeps
 import sweeps
 from banded import any_matrix, any_sets
 from banded_lines import operations, readings
@@ -216,6 +218,10 @@ SCENARIOS = DIRECT + (
     (foretold(operations), 14), (foretold(readings), 10), (forecast_lines.anywhere, 36), (forecast_lines.lengths, 16), (forecast_lines.misread, 24),
     (forecast_sweeps.every_zero_foretold, 0.1), (forecast_sweeps.every_refusal_foretold, 0.1), (forecast_sweeps.every_order_of_forecasts, 0.2),
     (forecast_sweeps.every_place_foretold, 0.1), (forecast_sweeps.every_length_foretold, 0.1),
+    (foretold(recipe_lines.joined), 30), (recipe_lines.joined, 10), (foretold(recipe_lines.unequal), 10), (recipe_lines.edge, 12),
+    (foretold(recipe_lines.anywhere), 24), (recipe_lines.misread, 24), (recipe_sweeps.every_count, 0.1), (recipe_sweeps.every_order_joined, 0.2),
+    (recipe_sweeps.every_step_wrong, 0.1), (recipe_sweeps.every_place_joined, 0.1), (recipe_sweeps.every_zero_joined, 0.2),
+    (recipe_sweeps.every_edge_joined, 0.2),
 )
 
 

@@ -13,9 +13,11 @@ import check_forecasts  # noqa: F401
 import check_marked  # noqa: F401
 import check_pattern  # noqa: F401
 import check_random  # noqa: F401
+import check_recipes  # noqa: F401
 import check_sentences  # noqa: F401
 import check_spoilt  # noqa: F401
 import check_stamps  # noqa: F401
+import check_wrong_recipes  # noqa: F401
 from checks import CHECKS
 
 

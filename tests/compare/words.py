@@ -1,7 +1,8 @@
 """The matrix, its word of letters, and the rounded rule.
 
 Matrix: n and its n * n factors, row by row. A letter is ("E", j, w), ("Et", j, w), or ("D", entries, divides), the
-entries of the positions 1 to n. word, inverse_word, converse_word; factors_by: the new factors from minors, in any arithmetic;
+entries of the positions 1 to n. word, inverse_word, converse_word, transpose_word; operation_word: what an operation walks, the kind
+of a recipe of document 02, (f), being the tuple of its steps' ways. factors_by: the new factors from minors, in any arithmetic;
 latest, quotient: the set R of document 02, (e), and the minors that a new factor is made of. Walker: minors of a word by the
 rounded rule, one walk for each column set, and the steps of document 02, (k). plain_walk, plain_minor: the same rule said letter by
 letter for any arithmetic. operate_counted: the new factors with the steps that they took; foretold: the steps by the sizes alone.
@@ -69,8 +70,19 @@ def converse_word(matrix):
     return letters
 
 
+def transpose_word(matrix):
+    """The word reversed, E and Et exchanged."""
+    return [x if x[0] == "D" else ("Et" if x[0] == "E" else "E", *x[1:]) for x in reversed(word(matrix))]
+
+
+# The ways that a step of a recipe is taken.
+WAYS = {"plain": word, "inverse": inverse_word, "converse": converse_word, "transpose": transpose_word}
+
+
 def operation_word(kind, sources):
     """The word that an operation walks."""
+    if isinstance(kind, tuple):
+        return [letter for way, source in zip(kind, sources) for letter in WAYS[way](source)]
     if kind == "product":
         return word(sources[0]) + word(sources[1])
     return {"inverse": inverse_word, "converse": converse_word, "submatrix": word}[kind](sources[0])
@@ -218,7 +230,8 @@ def minor(matrix, rows, columns):
 
 
 def operate_counted(kind, sources, rows=None, columns=None):
-    """The new factors of a product, inverse, converse or submatrix that is not singular, by the rounded rule, whatever their exponents; and the steps made."""
+    """The new factors of a product, inverse, converse, recipe or submatrix that is not singular, by the rounded rule, whatever their exponents; and the steps
+    made."""
     n = sources[0].n
     every = rows_of(interval(1, n))
     rows, columns = (rows_of(rows), rows_of(columns)) if kind == "submatrix" else (every, every)
@@ -237,7 +250,7 @@ def foretold(kind, n, size):
     if kind == "transpose":
         return 0
     ones, first = Matrix(n, (ONE,) * (n * n)), interval(1, size)
-    return operate_counted(kind, [ones, ones], first, first)[1]
+    return operate_counted(kind, [ones] * (len(kind) if isinstance(kind, tuple) else 2), first, first)[1]
 
 
 def transpose(matrix):
@@ -265,6 +278,8 @@ def reversals(items):
 
 
 def bound(kind, n):
+    if isinstance(kind, tuple):
+        return 4 * len(kind) * (2 * n * n - n) + 3
     if kind == "transpose":
         return 0
     return 16 * n * n - 8 * n + 3 if kind == "product" else 8 * n * n - 4 * n + 3

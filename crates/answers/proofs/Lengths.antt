@@ -12,9 +12,9 @@ use Rattle.lines.proofs.Decimals.{signed-short}
 use Rattle.lines.proofs.Text.{cond-cases, spaced-short}
 use Rattle.verdict.specs.Report.{Report, accepted, refused}
 use Rattle.notices.proofs.Room.{refusal-short}
+use Rattle.conditions.specs.Conditions.{empty}
 use Rattle.places.specs.declared.Shelf.{Shelf}
 use Rattle.places.specs.Shelf.{rowsAt}
-use Rattle.places.specs.Tests.{empty}
 use Rattle.shelf.specs.Calls.{rowsCall, factorCall}
 use Rattle.shelf.proofs.Returns.{valuesOf}
 use Rattle.answers.specs.Answers.{integerText, valuesText, reportText, twoTexts}
@@ -78,5 +78,5 @@ module _ (s : Shelf) (p : ℕ) where
   pub place-short : rowsAt s p ≤ 8 → length (placeText s p) ≤ 6300
   unfolding placeText
   place-short few =
-      cond-cases (λ t. length t ≤ 6300) (empty s p) {a = ascii "empty"} (λ e. omega arith)
+      cond-cases (λ t. length t ≤ 6300) (empty (rowsAt s) p) {a = ascii "empty"} (λ e. omega arith)
       (λ e. simp length-append (omega (arith, report-short (ascii "matrix") (rowsCall s p), factors-short (rowsAt s p) few)))

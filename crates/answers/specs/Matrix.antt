@@ -4,9 +4,9 @@ use mathlib.Core.Bool.{cond}
 use mathlib.Core.List.{List, [], _++_}
 use Rattle.lines.specs.Ascii.{ascii}
 use Rattle.words.specs.Word.{forUp}
+use Rattle.conditions.specs.Conditions.{empty}
 use Rattle.places.specs.declared.Shelf.{Shelf}
 use Rattle.places.specs.Shelf.{rowsAt}
-use Rattle.places.specs.Tests.{empty}
 use Rattle.shelf.specs.Calls.{rowsCall, factorCall}
 use Rattle.answers.specs.Answers.{reportText}
 
@@ -22,4 +22,4 @@ unfoldable pub factorsText : Shelf → ℕ → ℕ → List ℕ
 factorsText s p n = forUp 1 n (λ i. rowText s p n i)
 
 unfoldable pub placeText : Shelf → ℕ → List ℕ
-placeText s p = cond (empty s p) (ascii "empty") (reportText (ascii "matrix") (rowsCall s p) ++ factorsText s p (rowsAt s p))
+placeText s p = cond (empty (rowsAt s) p) (ascii "empty") (reportText (ascii "matrix") (rowsCall s p) ++ factorsText s p (rowsAt s p))

@@ -1,6 +1,6 @@
 -- DEMAND 3 of every operation of at most six steps on accepted sources of up to eight rows (demand): product, re-signed inverse, converse and submatrix, where
 -- that is not singular, among them; no other can be singular (joined-regular). Its exact part holds for any fractions in the pattern, any size and any number
--- of steps (factored). In plain words: of one or two steps, a quarter of a millionth (demand-close).
+-- of steps (factored). In plain words: of m steps, 7 m / 60 of a millionth (demand-close).
 use mathlib.Core.Path.{_≡_, sym, ap, ap₂, _∙_, subst}
 use mathlib.Core.List.{List}
 use Prim.Native.Nat.{ℕ, _+_, _-_, _*_, _≤_, _<_}
@@ -10,7 +10,7 @@ use lib.ListN.{length}
 use borrow.Author.Tests.{eqb-true, eq-eqb}
 use Rattle.fraction.specs.Fraction.{Fraction, exact}
 use Rattle.fraction.specs.Rational.{rationals, rationals-ordered, rational}
-use Rattle.fraction.specs.Within.{Within, Close}
+use Rattle.fraction.specs.Within.{unit, Within, Close}
 use Rattle.fraction.proofs.Distance.{within-close}
 use Rattle.fraction.proofs.Rational.{positive-rational}
 use Rattle.number.specs.declared.Number.{Number}
@@ -23,7 +23,7 @@ use Rattle.words.specs.Operation.{Step, Operation, joined, joinedWord, steps, s
 use Rattle.words.specs.Sources.{Banded, Sources, BandedNumbers, Walkable}
 use Rattle.words.proofs.RowSets.{length-rows}
 use Rattle.words.proofs.RowByRow.{rowByRow-length}
-use Rattle.words.proofs.Operations.{size-each, steps-each, fit-each}
+use Rattle.words.proofs.Operations.{some-steps, size-each, steps-each, fit-each}
 use Rattle.words.proofs.Steps.{joined-rows, joined-weights, sources-map, sources-weaken}
 use Rattle.words.proofs.Banded.{Like, banded-like, StoredOrZero, stored, zero, banded-decided, banded-walkable}
 use Rattle.fraction.specs.Ring.{NonNegative}
@@ -150,13 +150,19 @@ module _ (n : ℕ) (o : Operation Number) (some : 1 ≤ n) (few : n ≤ 8) (six 
     factored = exact-run;
   }
 
-  -- IN PLAIN WORDS: of one or two steps, each factor differs from the exact one by less than a quarter of a millionth of it
-  pub demand-close : length (steps o) ≤ 2 → (i j : ℕ) → In (size n o) i → In (size n o) j
-      → Close 4000000 (value (result rounded n o i j)) (result exact n (exactly o) i j)
-  demand-close two i j x y = within-close (bound n o) bound-few (demand .within i j x y)
+  -- IN PLAIN WORDS: of m steps, each factor differs from the exact one by at most 7 m / 60 of a millionth of it; seven tenths of a millionth for six
+  pub demand-close : (i j : ℕ) → In (size n o) i → In (size n o) j
+      → Close (7 * length (steps o)) 60000000 (value (result rounded n o i j)) (result exact n (exactly o) i j)
+  unfolding unit
+  demand-close i j x y = within-close (bound n o) (7 * length (steps o)) 60000000 (omega (arith, bound-few, six)) parts (demand .within i j x y)
     where
       square-few : 2 * n * n - n ≤ 120
       square-few = omega (arith, mul-le-mul-left n few)
 
-      bound-few : bound n o ≤ 1000
-      bound-few = let h : length (steps o) * (2 * n * n - n) ≤ 2 * 120 = mul-le-mul two square-few in omega (arith, h)
+      bound-few : bound n o ≤ 480 * length (steps o) + 3
+      bound-few = omega (arith, mul-le-mul-left (length (steps o)) square-few)
+
+      parts : (60000000 + 7 * length (steps o)) * bound n o ≤ 7 * length (steps o) * unit
+      parts =
+          let first : 60000000 + 7 * length (steps o) ≤ 60000042 = omega (arith, six) in
+          omega (arith, mul-le-mul first bound-few, some-steps n o (proper .fit))

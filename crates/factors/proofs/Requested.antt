@@ -25,7 +25,7 @@ use Rattle.minors.proofs.Products.{times-equal, times-equal-left, times-equal-r
 use Rattle.minors.specs.Determinant.{determinant}
 use Rattle.minors.proofs.Determinant.{determinant-equal}
 use Rattle.minors.proofs.Complement.{Diagonal, word-diagonal}
-use Rattle.minors.proofs.Multiply.{wordMatrix-converse, joined-multiplied, multiplied-exchanged}
+use Rattle.minors.proofs.Multiply.{wordMatrix-converse, wordMatrix-transposed, joined-multiplied}
 use Rattle.minors.proofs.Inverse.{inverse-unique, inverse-left, inverse-right, sign-square}
 use Rattle.factors.specs.Requested.{ResignedInverse, StepMatrix, StepsMatrix, Requested, Sentences}
 use Rattle.factors.specs.Demand.{Proper, BandedFractions, multipliedOut, GivesRequested, determinantOf, Regular}
@@ -70,7 +70,7 @@ module _ (K : CRing) (O : Ordered K) (n : ℕ) where
   step-requested (step plain b) h X e = e
   step-requested (step inverted b) h X e = inverse-resigned K O n b (word-diagonal K O n b (h .on)) X e
   step-requested (step conversed b) h X e = λ i j x y. e i j x y ∙ wordMatrix-converse K O n (word n b) (word-rows n b) i j x y
-  step-requested (step transposed b) h X e = λ i j x y. e i j x y ∙ multiplied-exchanged K O n b i j x y
+  step-requested (step transposed b) h X e = λ i j x y. e i j x y ∙ wordMatrix-transposed K O n (word n b) i j x y
 
   steps-requested : (L : List (Step R)) → Sources (Weighted (NonNegative K O) (O .Pos) n) L → (X : Matrix K)
       → Equal K n X (wordMatrix K O n (joinedWord n L)) → StepsMatrix K O n L X
@@ -124,6 +124,8 @@ module _ (K : CRing) (O : Ordered K) (n : ℕ) where
     inverse-requested = λ b X. (λ h. h, λ h. h);
     converse-requested = λ b X. (λ h. h, λ h. h);
     submatrix-requested = λ b P Q X. (λ h. h, λ h. h);
+    recipe-requested = λ s t L X. (λ h. h, λ h. h);
+    transposed-requested = λ b X. (λ h. h, λ h. h);
   }
 
 module _ (n : ℕ) (o : Operation Fraction) where

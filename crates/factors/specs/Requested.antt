@@ -40,7 +40,8 @@ module _ (K : CRing) (O : Ordered K) (n : ℕ) where
   Requested (joined L) X = StepsMatrix L X
   Requested (submatrix b P Q) X = Equal K (count P) X (submatrixOf K P Q (multiplied K O n b))
 
-  -- DOCUMENT 01'S SENTENCES: left times right; the re-signed inverse; rows and columns read backwards; the chosen entries
+  -- THE PAPERS' SENTENCES: left times right; the re-signed inverse; rows and columns read backwards; the chosen entries; of a recipe, the matrix of its first
+  -- step times what the others ask for, a transposed step having rows and columns exchanged
   abbrev pub Equivalent : Type 0 → Type 0 → Type 0
   Equivalent S T = (S → T) × (T → S)
 
@@ -52,3 +53,8 @@ module _ (K : CRing) (O : Ordered K) (n : ℕ) where
         → Equivalent (Requested (converse b) X) (Equal K n X (λ i j. multiplied K O n b (n + 1 - i) (n + 1 - j)))
     pub submatrix-requested : (b : Factors R) (P Q : RowSet) (X : Matrix K)
         → Equivalent (Requested (submatrix b P Q) X) (Equal K (count P) X (submatrixOf K P Q (multiplied K O n b)))
+    pub recipe-requested : (s t : Step R) (L : List (Step R)) (X : Matrix K)
+        → Equivalent (Requested (joined (s ∷ t ∷ L)) X)
+        ((Y : Matrix K) × (Z : Matrix K) × Requested (joined (s ∷ [])) Y × Requested (joined (t ∷ L)) Z × Equal K n X (times K n Y Z))
+    pub transposed-requested : (b : Factors R) (X : Matrix K)
+        → Equivalent (Requested (joined (step transposed b ∷ [])) X) (Equal K n X (λ i j. multiplied K O n b j i))

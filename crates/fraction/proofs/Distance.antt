@@ -1,7 +1,7 @@
 -- Unit roundings as a distance: (1 - u) ^ k is at least 1 - k u, u being 2 ^ -32 (power-least), so that within k is a ratio from 1 - k u
--- to its reciprocal (within-linear); up to 1000 unit roundings are a quarter of a millionth at most (within-close).
-use mathlib.Core.Path.{_≡_}
-use Prim.Native.Nat.{ℕ, zero, suc, _-_, _*_, _^_, _≤_, _<_}
+-- to its reciprocal (within-linear). So k unit roundings are at most t parts in d, where (d + t) k u is at most t (within-close).
+use mathlib.Core.Path.{_≡_, ap}
+use Prim.Native.Nat.{ℕ, zero, suc, _+_, _-_, _*_, _^_, _≤_, _<_}
 use native.Mathlib.Nat.{mul-le-mul-left, mul-le-mul-right, le-of-mul-le-mul-left, one-le-pow, pow-zero, pow-suc}
 use native.Mathlib.Omega.{arith}
 use Rattle.fraction.specs.Fraction.{Fraction}
@@ -34,14 +34,23 @@ pub within-linear : (k : ℕ) {x y : Fraction} → k ≤ unit → Within k x y
     → ((unit - k) * (y .top * x .low) ≤ unit * (x .top * y .low)) × ((unit - k) * (x .top * y .low) ≤ unit * (y .top * x .low))
 within-linear k h w = (linear k _ _ h (w .above), linear k _ _ h (w .below))
 
--- THE BOUNDS OF DOCUMENT 01 are below 1000
-pub within-close : (k : ℕ) {x y : Fraction} → k ≤ 1000 → Within k x y → Close 4000000 x y
+-- PARTS IN d, of cross products a and b: r is what k leaves of the unit
+below-parts : (k r t d a b : ℕ) → k + r ≡ unit → (d + t) * k ≤ t * unit → r * a ≤ unit * b → (d - t) * a ≤ d * b
 unfolding unit
-within-close k {x} {y} h w =
-    let l = within-linear k (omega arith) w in
-    let a : 4294966296 * (y .top * x .low) ≤ 4294967296 * (x .top * y .low) = omega (arith, mul-le-mul-right (y .top * x .low) (few k h), l .0) in
-    let b : 4294966296 * (x .top * y .low) ≤ 4294967296 * (y .top * x .low) = omega (arith, mul-le-mul-right (x .top * y .low) (few k h), l .1) in
-    record { above = omega arith; below = omega arith }
-  where
-    few : (k : ℕ) → k ≤ 1000 → 4294966296 ≤ unit - k
-    few k h = omega arith
+below-parts k r t d a b e g l =
+    let whole : d * (k + r) ≡ d * unit = ap (λ (u : ℕ). d * u) e in
+    let part : unit * (d - t) ≤ d * r = omega (arith, whole, g) in
+    le-of-mul-le-mul-left {k = unit} (omega (arith, mul-le-mul-right a part, mul-le-mul-left d l)) (omega arith)
+
+above-parts : (k r t d a b : ℕ) → k + r ≡ unit → (d + t) * k ≤ t * unit → r * a ≤ unit * b → d * a ≤ (d + t) * b
+unfolding unit
+above-parts k r t d a b e g l =
+    let whole : (d + t) * (k + r) ≡ (d + t) * unit = ap (λ (u : ℕ). (d + t) * u) e in
+    let part : unit * d ≤ (d + t) * r = omega (arith, whole, g) in
+    le-of-mul-le-mul-left {k = unit} (omega (arith, mul-le-mul-right a part, mul-le-mul-left (d + t) l)) (omega arith)
+
+pub within-close : (k t d : ℕ) {x y : Fraction} → k ≤ unit → (d + t) * k ≤ t * unit → Within k x y → Close t d x y
+within-close k t d {x} {y} h g w =
+    let l = within-linear k h w in
+    let e : k + (unit - k) ≡ unit = omega arith in
+    record { above = below-parts k (unit - k) t d _ _ e g (l .0); below = above-parts k (unit - k) t d _ _ e g (l .1) }

@@ -15,7 +15,7 @@ pub record Within (k : ℕ) (x y : Fraction) : Type 0 where
   pub above : less ^ k * (y .top * x .low) ≤ unit ^ k * (x .top * y .low)
   pub below : less ^ k * (x .top * y .low) ≤ unit ^ k * (y .top * x .low)
 
--- x differs from y by at most y / d: from (d - 1) / d to (d + 1) / d of it
-pub record Close (d : ℕ) (x y : Fraction) : Type 0 where
-  pub above : (d - 1) * (y .top * x .low) ≤ d * (x .top * y .low)
-  pub below : d * (x .top * y .low) ≤ (d + 1) * (y .top * x .low)
+-- x differs from y by at most t parts in d of it: from (d - t) / d to (d + t) / d of it
+pub record Close (t d : ℕ) (x y : Fraction) : Type 0 where
+  pub above : (d - t) * (y .top * x .low) ≤ d * (x .top * y .low)
+  pub below : d * (x .top * y .low) ≤ (d + t) * (y .top * x .low)

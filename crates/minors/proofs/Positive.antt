@@ -19,7 +19,7 @@ use Rattle.words.proofs.Stages.{stages, transposed-stages-all, stages-rows, wor
 use Rattle.words.specs.Sources.{Weighted, Source, Sources}
 use Rattle.words.proofs.Steps.{each-weighted, source-weaken, sources-weaken, step-weights, joined-weights}
 use Rattle.minors.specs.Matrix.{Positive}
-use Rattle.minors.proofs.Transpose.{minor-transposed}
+use Rattle.minors.proofs.Transpose.{transposed-word, minor-transposed}
 use Rattle.minors.proofs.Nonnegative.{NonNegatives, KeepsSign, act-nonnegative, act-positive, walk-nonnegative, oneAt-nonnegative, append-keeps}
 use Rattle.minors.proofs.Complement.{complement, count-complement, Diagonal, word-diagonal, wordDeterminant, wordDeterminant-positive, minor-inverse}
 use Rattle.minors.proofs.Converse.{count-reverse, minor-converse}
@@ -104,7 +104,7 @@ module _ (K : CRing) (O : Ordered K) where
   step-positive n (step plain b) p = word-positive n b p
   step-positive n (step inverted b) p = inverse-positive n b p
   step-positive n (step conversed b) p = converse-positive n (word n b) (word-rows n b) (word-positive n b p)
-  step-positive n (step transposed b) p = word-positive n (exchanged b) (λ i j x y. p j i y x)
+  step-positive n (step transposed b) p = subst (AllPositive K O n) (sym (transposed-word n b)) (word-positive n (exchanged b) (λ i j x y. p j i y x))
 
   -- of one step or more
   pub joined-positive : (n : ℕ) (L : List (Step R)) → 1 ≤ length L → PositiveSteps n L → AllPositive K O n (joinedWord n L)

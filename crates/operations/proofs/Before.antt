@@ -11,7 +11,7 @@ use lib.ListN.{length}
 use borrow.Author.Tests.{ne-eqb}
 use Rattle.number.specs.declared.Number.{Number}
 use Rattle.number.specs.Number.{rounded, zeroNumber, Stored}
-use Rattle.words.specs.Operation.{Way, inverted, conversed, Operation, steps, size, bound, rowByRow, result}
+use Rattle.words.specs.Operation.{Way, inverted, conversed, step, Operation, joined, steps, size, bound, rowByRow, result}
 use Rattle.words.specs.Sources.{Each}
 use Rattle.factors.specs.Demand.{Proper, determinantOf, exactly}
 use Rattle.factors.specs.Before.{AsBefore}
@@ -30,8 +30,9 @@ use Rattle.places.specs.declared.Shelf.{Shelf}
 use Rattle.places.specs.Shelf.{rowsAt, factorsAt, holding, withTable, Good}
 use Rattle.places.specs.Outcome.{Outcome, outcome}
 use Rattle.places.specs.Tests.{oneSource, twoSources}
-use Rattle.places.proofs.Verdicts.{Source, one-accepted, two-accepted}
-use Rattle.operations.specs.Operations.{resulting, done, operationVerdict, operationCall, productAt, takenAt, submatrixAt}
+use Rattle.conditions.proofs.Passed.{Source, to-accepted}
+use Rattle.places.proofs.Verdicts.{one-accepted}
+use Rattle.operations.specs.Operations.{resulting, done, operationVerdict, operationCall, productAt, inverseAt, converseAt, submatrixAt}
 use Rattle.operations.specs.Operations.{singular, chosenTests, submatrixTests}
 use Rattle.operations.specs.Before.{WithoutZeros, oldFactors, oldCall, boundAlone, withoutSteps, CallsBefore}
 use Rattle.operations.proofs.Results.{chosen-fit}
@@ -69,20 +70,19 @@ module _ (s : Shelf) (t n : ℕ) (o : Operation Number) where
 
 module _ (s : Shelf) (good : Good s) where
   -- an operation on sources of the rows of a place, whose factors are all stored
-  source-before : (p : ℕ) (o : Operation Number) → length (steps o) ≤ 6 → Source s p → Proper (Each Stored (rowsAt s p)) (rowsAt s p) o
+  source-before : (p : ℕ) (o : Operation Number) → length (steps o) ≤ 6 → Source (rowsAt s) p → Proper (Each Stored (rowsAt s p)) (rowsAt s p) o
       → AsBefore (rowsAt s p) o
   source-before p o six a proper = as-before (rowsAt s p) o proper (a .some) (good .held p (a .small) .few) six
 
   product-same : (l r t : ℕ) → WithoutZeros s l → WithoutZeros s r → firstOf (twoSources s l r t) ≡ Accepted → AsBefore (rowsAt s l) (productAt s l r)
   product-same l r t left right e =
-      let a = two-accepted s l r t e in
-      let both : Each Stored (rowsAt s l) (factorsAt s r) = subst (λ (n : ℕ). Each Stored n (factorsAt s r)) (sym (a .3)) right in
-      source-before l (productAt s l r) (omega arith) (a .0) (record { sources = (left, (both, tt)); fit = omega arith })
+      let a = to-accepted (rowsAt s) (l ∷ r ∷ []) t (omega arith) e .0 in
+      let both : Each Stored (rowsAt s l) (factorsAt s r) = subst (λ (n : ℕ). Each Stored n (factorsAt s r)) (a .1 .2 .1) right in
+      source-before l (productAt s l r) (omega arith) (record { small = a .1 .0; some = a .0 }) (record { sources = (left, (both, tt)); fit = omega arith })
 
   module _ (p t : ℕ) (stored : WithoutZeros s p) where
-    taken-same : (w : Way) → firstOf (oneSource s p t) ≡ Accepted → AsBefore (rowsAt s p) (takenAt w s p)
-    taken-same w e =
-        source-before p (takenAt w s p) (omega arith) (one-accepted s p t e .0) (record { sources = (stored, tt); fit = omega arith })
+    taken-same : (w : Way) → firstOf (oneSource s p t) ≡ Accepted → AsBefore (rowsAt s p) (joined (step w (factorsAt s p) ∷ []))
+    taken-same w e = source-before p _ (omega arith) (one-accepted s p t e .0) (record { sources = (stored, tt); fit = omega arith })
 
     module _ (I J : ℕ) where
       abbrev n : ℕ
@@ -118,8 +118,8 @@ module _ (s : Shelf) (good : Good s) where
   pub calls-before : CallsBefore s
   calls-before = record {
     product-before = λ l r t left right. call-before s t (rowsAt s l) (productAt s l r) _ _ refl (product-same l r t left right);
-    inverse-before = λ p t stored. call-before s t (rowsAt s p) (takenAt inverted s p) _ _ refl (taken-same p t stored inverted);
-    converse-before = λ p t stored. call-before s t (rowsAt s p) (takenAt conversed s p) _ _ refl (taken-same p t stored conversed);
+    inverse-before = λ p t stored. call-before s t (rowsAt s p) (inverseAt s p) _ _ refl (taken-same p t stored inverted);
+    converse-before = λ p t stored. call-before s t (rowsAt s p) (converseAt s p) _ _ refl (taken-same p t stored conversed);
     submatrix-before = λ p I J t stored.
         call-before s t (rowsAt s p) (submatrixAt s p I J) _ _ (chosen-before p t stored I J) (chosen-same p t stored I J);
   }

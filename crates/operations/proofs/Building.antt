@@ -20,10 +20,10 @@ use Rattle.verdict.specs.declared.Verdict.the-variants.{Accepted, Refused}
 use Rattle.verdict.specs.Verdict.{firstOf, orElse, when}
 use Rattle.verdict.proofs.Verdicts.{first-last, first-passed, when-passed}
 use Rattle.places.specs.declared.Shelf.{Shelf}
-use Rattle.places.specs.Shelf.{holding, Fits, Good}
+use Rattle.places.specs.Shelf.{rowsAt, holding, Fits, Good}
 use Rattle.places.specs.Tests.{targetTests}
 use Rattle.places.proofs.Holding.{fits-table}
-use Rattle.places.proofs.Verdicts.{target-accepted}
+use Rattle.conditions.proofs.Passed.{target-accepted}
 use Rattle.operations.specs.declared.Proposed.{Proposed}
 use Rattle.operations.specs.declared.Operated.{Operated}
 use Rattle.operations.specs.declared.Filled.{Filled}
@@ -57,7 +57,7 @@ module _ (s : Shelf) (t : ℕ) (stamps : List ℕ) where
   pub build-accepted : firstOf (buildTests s t stamps) ≡ Accepted → (t < 8) × (mistimed stamps ≡ false)
   build-accepted e =
       let a = first-passed (targetTests s t) (when (mistimed stamps) 15) e in
-      (target-accepted s t (a .0) .small, when-passed (mistimed stamps) 15 (a .1))
+      (target-accepted (rowsAt s) t (a .0) .small, when-passed (mistimed stamps) 15 (a .1))
 
   build-fits : verdict ≡ Accepted → (t < 8) × Fits n (tableOf n b)
   build-fits e =

@@ -27,7 +27,8 @@ use Rattle.verdict.proofs.Verdicts.{first-last, first-passed}
 use Rattle.places.specs.declared.Shelf.{Shelf}
 use Rattle.places.specs.Shelf.{rowsAt, tableAt, Good}
 use Rattle.places.specs.Tests.{unfit, sourceTests}
-use Rattle.places.proofs.Verdicts.{Source, Fit, source-accepted, sets-accepted}
+use Rattle.conditions.proofs.Passed.{Source}
+use Rattle.places.proofs.Verdicts.{Fit, source-accepted, sets-accepted}
 use Rattle.operations.specs.declared.Valued.the-variants as valued
 use Rattle.operations.specs.Operations.{minorAt, setTests, minorCall}
 use Rattle.operations.specs.Reports.{valuedReport}
@@ -46,7 +47,7 @@ module _ (s : Shelf) (p I J : ℕ) where
       let x : orElse u (when (unfit n i j) 8) ≡ orElse (firstOf (sourceTests s p)) fit = rw (e, f, g, h) in
       k ∙ x ∙ sym (first-last (sourceTests s p) fit)
 
-  pub sets-passed : firstOf (setTests s p I J) ≡ Accepted → Source s p × Fit (rowsAt s p) I J
+  pub sets-passed : firstOf (setTests s p I J) ≡ Accepted → Source (rowsAt s) p × Fit (rowsAt s p) I J
   sets-passed e =
       let a = first-passed (sourceTests s p) fit e in
       (source-accepted s p (a .0), sets-accepted (rowsAt s p) I J (a .1))
@@ -74,7 +75,7 @@ module _ (s : Shelf) (p I J : ℕ) where
   minor-is n i j t a e f g h k = k ∙ rw (e, f, g, h)
 
   -- what the minor of a place asks
-  pub minor-workable : (n i j : ℕ) (t : List Number) → n ≡ rowsAt s p → i ≡ I → j ≡ J → t ≡ tableAt s p → Good s → Source s p → Fit (rowsAt s p) I J
+  pub minor-workable : (n i j : ℕ) (t : List Number) → n ≡ rowsAt s p → i ≡ I → j ≡ J → t ≡ tableAt s p → Good s → Source (rowsAt s) p → Fit (rowsAt s p) I J
       → ((1 ≤ n) × (n ≤ 8) × Walkable n (factorsOf t)) × ((i < 2 ^ n) × (j < 2 ^ n) × (maskCount i ≡ maskCount j))
   minor-workable n i j t e f g h good o w =
       rw (e, f, g, h) ((o .some, good .held p (o .small) .few, banded-walkable _ _ (good .held p (o .small) .banded)), (w .rows, w .columns, w .counts))

@@ -1,12 +1,12 @@
--- The rule's operations on places. Where the tests of the places passed, the rule can be run (`Ready`, `product-ready`, `whole-ready`, `submatrix-ready`) and
--- demand 3 holds (`ready-demand`), and the steps made are those foretold (`ready-foretold`); what is accepted can be kept, the shelf stays good, and what was
--- promised holds (`operation-fits`, `operation-good`, `operation-met`). The result by what was found: `operation-turned`, `operation-ranged`. A submatrix is
--- singular where its rounded minor is zero (`singular-tested`), which is how its tests are worked (`chosen-tested`).
+-- The rule's operations on places. Where the tests of the places passed, the rule can be run (`Ready`, `submatrix-ready`; of steps joined, Recipes) and
+-- demand 3 holds (`ready-demand`, in plain words `ready-close`), and the steps made are those foretold (`ready-foretold`); what is accepted can be kept, the
+-- shelf stays good, and what was promised holds (`operation-fits`, `operation-good`, `operation-met`). The result by what was found: `operation-turned`,
+-- `operation-ranged`. A submatrix is singular where its rounded minor is zero (`singular-tested`), which is how its tests are worked (`chosen-tested`).
 use Prim.Native.Nat.{ℕ, _<_, _≤_}
 use native.Mathlib.Omega.{arith}
-use mathlib.Core.Path.{_≡_, refl, sym, ap, ap₂, _∙_, subst}
+use mathlib.Core.Path.{_≡_, refl, sym, ap, ap₂, _∙_}
 use mathlib.Core.Bool.{Bool, true, false, cond}
-use mathlib.Core.List.{List}
+use mathlib.Core.List.{List, [], _∷_, _++_}
 use lib.Dec.{eqb}
 use lib.ListN.{length}
 use borrow.Author.Tests.{eqb-false}
@@ -16,7 +16,7 @@ use Rattle.number.proofs.Reach.{in-range-stored}
 use Rattle.words.specs.RowSet.{In, RowSet, count, among, rows, ofMask}
 use Rattle.words.specs.Word.{Factors, word}
 use Rattle.words.specs.Walk.{minor}
-use Rattle.words.specs.Operation.{Way, Step, joinedWord, Operation, joined, steps, size, bound, rowByRow, result, eachSteps}
+use Rattle.words.specs.Operation.{Step, joinedWord, Operation, joined, steps, size, bound, rowByRow, result, eachSteps}
 use Rattle.words.specs.Sources.{Each, Banded, BandedNumbers}
 use Rattle.words.proofs.RowSets.{length-rows}
 use Rattle.words.specs.Effort.{stepsMade, stepsForetold}
@@ -27,7 +27,7 @@ use Rattle.rowset.proofs.Masks.{ofMask-length}
 use Rattle.rowset.proofs.Counts.{mask-count, count-to, countTo-le}
 use Rattle.fraction.specs.Fraction.{Fraction}
 use Rattle.factors.specs.Demand.{Proper, AboveZero, determinantOf, Regular, exactly, Demand}
-use Rattle.factors.proofs.Demanded.{joined-regular, proper-value, asked-zeros, demand}
+use Rattle.factors.proofs.Demanded.{joined-regular, proper-value, asked-zeros, demand, demand-close}
 use Rattle.table.specs.Table.{tableOf, outside}
 use Rattle.rule.specs.declared.Refactored.{Refactored}
 use Rattle.places.specs.declared.Shelf.{Shelf}
@@ -36,19 +36,20 @@ use Rattle.verdict.specs.declared.Verdict.{Verdict}
 use Rattle.verdict.specs.declared.Verdict.the-variants.{Accepted, Refused}
 use Rattle.places.specs.Shelf.{rowsAt, factorsAt, holding, Fits, Good}
 use Rattle.verdict.specs.Verdict.{firstOf, orElse, when}
-use Rattle.places.specs.Tests.{unfit, oneSource, twoSources}
+use Rattle.places.specs.Tests.{unfit, oneSource}
 use Rattle.table.proofs.Ranges.{rows-ranged, outside-table}
 use Rattle.places.proofs.Holding.{fits-table}
-use Rattle.verdict.proofs.Verdicts.{first-last, first-passed, when-passed}
-use Rattle.places.proofs.Verdicts.{Source, Fit, one-accepted, two-accepted, sets-accepted}
+use Rattle.verdict.proofs.Verdicts.{first-last, first-passed, when-passed, when-left}
+use Rattle.conditions.proofs.Passed.{Source}
+use Rattle.places.proofs.Verdicts.{Fit, one-accepted, sets-accepted}
 use Rattle.operations.specs.declared.Proposed.{Proposed}
 use Rattle.operations.specs.declared.Operated.{Operated}
 use Rattle.operations.specs.declared.Performed.the-variants as answer
-use Rattle.operations.specs.Operations.{done, factorTest, operationVerdict, operationCall, productAt, takenAt, submatrixAt, minorAt}
+use Rattle.operations.specs.Operations.{done, factorTest, operationVerdict, operationCall, submatrixAt, minorAt}
 use Rattle.operations.specs.Operations.{singular, chosenTests, submatrixTests}
 use Rattle.operations.specs.Reports.{operatedOutcome}
 use Rattle.operations.specs.Proposed.{turnedDown, proposal, proposed, kept, rangedOf, Keepable}
-use Rattle.operations.specs.Promise.{Met, Promised}
+use Rattle.operations.specs.Promise.{CloseFactors, Met, Promised}
 use Rattle.operations.proofs.Proposals.{result-answered, result-good, result-held, result-done}
 
 -- sources of n rows that hold accepted factors, sets that fit, a matrix that is not singular, and a place of the shelf
@@ -63,6 +64,9 @@ pub record Ready (t n : ℕ) (o : Operation Number) : Type 0 where
 
 pub ready-demand : {t n : ℕ} {o : Operation Number} → Ready t n o → Demand n o
 ready-demand {t} {n} {o} w = demand n o (w .some) (w .few) (w .six) (w .proper) (w .regular)
+
+pub ready-close : {t n : ℕ} {o : Operation Number} → Ready t n o → CloseFactors n o
+ready-close {t} {n} {o} w = demand-close n o (w .some) (w .few) (w .six) (w .proper) (w .regular)
 
 -- WHAT THE RULE'S CODE HANDS BACK for an operation
 abbrev pub resultOf : ℕ → Operation Number → Refactored
@@ -79,27 +83,11 @@ above-zero : (x : Fraction) → eqb (x .top) 0 ≡ false → AboveZero x
 above-zero x e = let f : x .top ≡ 0 → ⊥ = eqb-false (x .top) 0 e in omega arith
 
 -- a word joined is not singular, so only a submatrix is tested for it
-whole : (n : ℕ) (L : List (Step Number)) → Proper (BandedNumbers n) n (joined L) → Regular n (exactly (joined L))
+pub whole : (n : ℕ) (L : List (Step Number)) → Proper (BandedNumbers n) n (joined L) → Regular n (exactly (joined L))
 whole n L h = joined-regular n (eachSteps value L) (proper-value n (joined L) h)
 
 -- READY: each operation on the places that its tests accepted
 module _ (s : Shelf) (good : Good s) where
-  pub product-ready : (l r t : ℕ) → firstOf (twoSources s l r t) ≡ Accepted → Ready t (rowsAt s l) (productAt s l r)
-  product-ready l r t e =
-      let a = two-accepted s l r t e in
-      let left = good .held l (a .0 .small) in
-      let right = subst (λ (n : ℕ). BandedNumbers n (factorsAt s r)) (sym (a .3)) (good .held r (a .1 .small) .banded) in
-      let h : Proper (BandedNumbers (rowsAt s l)) (rowsAt s l) (productAt s l r) = record { sources = (left .banded, (right, tt)); fit = omega arith } in
-      record {
-        small = a .2 .small;
-        some = a .0 .some;
-        few = left .few;
-        six = omega arith;
-        proper = h;
-        regular = whole _ _ h;
-        fits = left .few;
-      }
-
   module _ (p t : ℕ) (e : firstOf (oneSource s p t) ≡ Accepted) where
     source : (o : Operation Number) → length (steps o) ≤ 6 → Proper (BandedNumbers (rowsAt s p)) (rowsAt s p) o → Regular (rowsAt s p) (exactly o)
         → size (rowsAt s p) o ≤ rowsAt s p → Ready t (rowsAt s p) o
@@ -146,11 +134,6 @@ module _ (s : Shelf) (good : Good s) where
         source (submatrixAt s p I J) (omega arith) (fit-proper I J f) (above-zero (determinantOf (rowsAt s p) (exactly (submatrixAt s p I J))) g)
         (omega (arith, count-to (rowsAt s p) I, countTo-le (rowsAt s p) I))
 
-  pub whole-ready : (w : Way) (p t : ℕ) → firstOf (oneSource s p t) ≡ Accepted → Ready t (rowsAt s p) (takenAt w s p)
-  whole-ready w p t e =
-      let h : Proper (BandedNumbers (rowsAt s p)) (rowsAt s p) (takenAt w s p) = record { sources = (source-banded p t e, tt); fit = omega arith } in
-      source p t e (takenAt w s p) (omega arith) h (whole _ _ h) (omega arith)
-
   pub submatrix-ready : (p I J t : ℕ) → firstOf (submatrixTests s p I J t) ≡ Accepted → Ready t (rowsAt s p) (submatrixAt s p I J)
   submatrix-ready p I J t e =
       let b = first-passed (chosenTests s p I J t) (when (singular (rowsAt s p) (submatrixAt s p I J)) 17) e in
@@ -163,6 +146,12 @@ run-stored : (k : ℕ) (b : Factors Number) → Banded (λ a. 0 < a .m) (λ a. a
 run-stored k b h g r =
     banded-like (λ a. 0 < a .m) (λ a. a ≡ zeroNumber) Stored (λ a. a ≡ zeroNumber) k b b
     (λ i j x y. record { positive = λ p. in-range-stored (g i j x y) p (r i j x y); zero = λ z. z; back = λ z. z }) h
+
+-- behind a test that passed
+pub proposed-behind : {c : Bool} (k : ℕ) (L : List Verdict) (n : ℕ) (o : Operation Number) → c ≡ false → proposed L n o ≡ proposed (when c k ∷ L) n o
+unfolding proposed
+proposed-behind k L n o e =
+    ap (λ (v : Verdict). proposal v (size n o) (bound n o) (stepsMade rounded n o) (result rounded n o)) (sym (when-left k (L ++ (factorTest n o ∷ [])) e))
 
 -- WHAT WAS ACCEPTED can be kept, and meets demand 3
 module _ (L : List Verdict) (t n : ℕ) (o : Operation Number) (ready : firstOf L ≡ Accepted → Ready t n o) where
@@ -231,6 +220,7 @@ module _ (L : List Verdict) (t n : ℕ) (o : Operation Number) (ready : firstOf 
       foretold = ready-foretold (ready (verdict e .0));
       held = result-held t (size n o) (result rounded n o) (operationVerdict L n o) operation-fits s good e;
       demand = operation-demand (verdict e .0);
+      close = ready-close (ready (verdict e .0));
     }
 
     pub operation-done : (x : Proposed) (y : Operated) → x ≡ proposed L n o → (y ≡ kept s t x) × Good (y .shelf)
@@ -249,12 +239,12 @@ module _ (s : Shelf) (p I J t : ℕ) where
   chosen-verdict n u v e f g =
       g ∙ ap₂ (λ (w : Verdict) (m : ℕ). orElse w (when (unfit m I J) 8)) f e ∙ sym (first-last (oneSource s p t) fit)
 
-  pub chosen-fit : firstOf (chosenTests s p I J t) ≡ Accepted → Source s p × Fit (rowsAt s p) I J
+  pub chosen-fit : firstOf (chosenTests s p I J t) ≡ Accepted → Source (rowsAt s) p × Fit (rowsAt s p) I J
   chosen-fit e =
       let a = first-passed (oneSource s p t) fit e in
       (one-accepted s p t (a .0) .0, sets-accepted (rowsAt s p) I J (a .1))
 
-  pub submatrix-fit : firstOf (submatrixTests s p I J t) ≡ Accepted → Source s p × Fit (rowsAt s p) I J
+  pub submatrix-fit : firstOf (submatrixTests s p I J t) ≡ Accepted → Source (rowsAt s) p × Fit (rowsAt s p) I J
   submatrix-fit e = chosen-fit (first-passed (chosenTests s p I J t) _ e .0)
 
   by-chosen : (v : Verdict) → firstOf (chosenTests s p I J t) ≡ v

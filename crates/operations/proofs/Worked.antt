@@ -31,7 +31,7 @@ use Rattle.rule.specs.declared.Refactored.{Refactored}
 use Rattle.rule.specs.Chosen.{chosenOf, chosenMinor, chosenFactors, chosenSteps, turnedBy, Workable}
 use Rattle.rule.specs.Result.{workOf}
 use Rattle.table.proofs.Table.{table-same}
-use Rattle.operations.proofs.Made.{Made}
+use Rattle.operations.specs.Proposed.{Made}
 use Rattle.operations.proofs.Results.{Ready, ready-demand, ready-foretold, resultOf}
 
 -- the masks p and q give the rows and the columns of an operation on sources of n rows

@@ -1,5 +1,5 @@
--- FORECASTS (document 02, (k)): the steps of an operation on places, told without working it (`forecastCall`). A forecast names no target and tests as the
--- operation does, without 12, 14 and 17: what it tells of the operation itself (`Foretelling`).
+-- FORECASTS (document 02, (k)): the steps of an operation on places, told without working it (`forecastCall`), and of a recipe (`recipeForecast`). A forecast
+-- names no target and tests as the call does, without 12, 14 and 17: what it tells of the call itself (`Foretelling`).
 use Prim.Native.Nat.{ℕ, _<_}
 use mathlib.Core.Path.{_≡_}
 use mathlib.Core.Logic.{_⊎_}
@@ -13,8 +13,11 @@ use Rattle.places.specs.declared.Shelf.{Shelf}
 use Rattle.places.specs.Shelf.{rowsAt}
 use Rattle.places.specs.Outcome.{Outcome}
 use Rattle.places.specs.Tests.{sourceTests, bothSources}
+use Rattle.conditions.specs.Conditions.{recipeAlone}
+use Rattle.recipes.specs.declared.Recipe.{Recipe}
+use Rattle.recipes.specs.Recipe.{placesIn}
 use Rattle.operations.specs.Operations.{done, productAt, inverseAt, converseAt, submatrixAt, setTests}
-use Rattle.operations.specs.Operations.{productCall, inverseCall, converseCall, transposeCall, submatrixCall}
+use Rattle.operations.specs.Operations.{joinedRows, joinedAt, productCall, inverseCall, converseCall, transposeCall, submatrixCall}
 use Rattle.operations.specs.declared.Task.{Task}
 use Rattle.operations.specs.declared.Task.the-variants.{Product, Inverse, Converse, Transpose, Submatrix}
 use Rattle.operations.specs.declared.Foretold.{Foretold}
@@ -32,6 +35,10 @@ forecastCall s (Converse p) = foretelling (sourceTests s p) (stepsForetold (rows
 forecastCall s (Transpose p) = foretelling (sourceTests s p) 0
 forecastCall s (Submatrix p I J) = foretelling (setTests s p I J) (stepsForetold (rowsAt s p) (submatrixAt s p I J))
 
+-- of a recipe, whose array no task can hold
+unfoldable pub recipeForecast : Shelf → Recipe → Report
+recipeForecast s r = foretelling (recipeAlone (rowsAt s) (r .count) (placesIn r)) (stepsForetold (joinedRows s r) (joinedAt s r))
+
 -- the operation itself, to place t
 abbrev pub taskCall : Shelf → Task → ℕ → Outcome
 taskCall s (Product l r) t = productCall s l r t
@@ -48,16 +55,21 @@ Found (Converse p) k = k ≡ 14
 Found (Transpose p) k = ⊥
 Found (Submatrix p I J) k = (k ≡ 14) ⊎ (k ≡ 17)
 
--- WHAT A FORECAST f TELLS of its operation, which reports r: it is turned down alike; or it is done in the steps foretold; or its working turns it down
-pub data Foretells (o : Task) (f r : Report) : Type 0 where
-  turned-down : (k offset : ℕ) → f ≡ refused k offset → r ≡ refused k offset → Foretells o f r
-  done-in : (b e : ℕ) → f ≡ accepted (pos e ∷ []) → r ≡ accepted (done b e) → Foretells o f r
-  found-out : (e k : ℕ) → f ≡ accepted (pos e ∷ []) → r ≡ refused k 0 → Found o k → Foretells o f r
+-- of a recipe 14
+abbrev pub RecipeFound : ℕ → Type 0
+RecipeFound k = k ≡ 14
+
+-- WHAT A FORECAST f TELLS of its call, which reports r: it is turned down alike; or it is done in the steps foretold; or its working turns it down, with a
+-- number that only that finds
+pub data Foretells (F : ℕ → Type 0) (f r : Report) : Type 0 where
+  turned-down : (k offset : ℕ) → f ≡ refused k offset → r ≡ refused k offset → Foretells F f r
+  done-in : (b e : ℕ) → f ≡ accepted (pos e ∷ []) → r ≡ accepted (done b e) → Foretells F f r
+  found-out : (e k : ℕ) → f ≡ accepted (pos e ∷ []) → r ≡ refused k 0 → F k → Foretells F f r
 
 -- so to any place that is there and empty; and to whatever place, what was done was foretold
-pub record Foretelling (s : Shelf) (o : Task) (f : Report) : Type 0 where
-  pub to-empty : (t : ℕ) → t < 8 → rowsAt s t ≡ 0 → Foretells o f (taskCall s o t .report)
-  pub made : (t b e : ℕ) → taskCall s o t .report ≡ accepted (done b e) → f ≡ accepted (pos e ∷ [])
+pub record Foretelling (s : Shelf) (F : ℕ → Type 0) (call : ℕ → Outcome) (f : Report) : Type 0 where
+  pub to-empty : (t : ℕ) → t < 8 → rowsAt s t ≡ 0 → Foretells F f (call t .report)
+  pub made : (t b e : ℕ) → call t .report ≡ accepted (done b e) → f ≡ accepted (pos e ∷ [])
 
 -- what a forecast's answer reports
 abbrev pub foretoldReport : Foretold → Report

@@ -1,5 +1,5 @@
--- The code's own step between working a result and keeping it (`Proposed`): k rows with factors, a bound and steps, or a refusal and no rows. Nothing
--- that a caller sees.
+-- The code's own steps: a joined word made for the rule (`Made`), and, between working a result and keeping it, k rows with factors, a bound and steps, or a
+-- refusal and no rows (`Proposed`). Nothing that a caller sees.
 use Prim.Native.Nat.{ℕ, _<_}
 use mathlib.Core.Path.{_≡_}
 use mathlib.Core.Bool.{cond}
@@ -8,8 +8,10 @@ use lib.ListN.{length, replicate}
 use Rattle.number.specs.declared.Number.{Number}
 use Rattle.number.specs.Number.{zeroNumber, rounded}
 use Rattle.words.specs.Word.{Factors, exchanged}
-use Rattle.words.specs.Operation.{Operation, size, bound, result}
+use Rattle.words.specs.Operation.{Step, Operation, size, bound, result}
 use Rattle.words.specs.Effort.{stepsMade}
+use Rattle.walk.specs.declared.Joined.{Joined}
+use Rattle.walk.specs.Lent.{stepsOf, Prepared}
 use Rattle.rule.specs.declared.Refactored.{Refactored}
 use Rattle.table.specs.Table.{tableOf}
 use Rattle.verdict.specs.declared.Refusal.{Refusal}
@@ -73,3 +75,10 @@ filledBy x = filledAnswer (x .shelf) (x .answer)
 -- what can be kept: where it was not turned down, it fits a place of the shelf
 abbrev pub Keepable : ℕ → Proposed → Type 0
 Keepable t x = (e d : ℕ) → x .answer ≡ answer.Done e d → (t < 8) × Fits (x .rows) (x .factors)
+
+-- the word w, with the letters l and the factors b, has the steps L of n rows
+pub record Made (n : ℕ) (L : List (Step Number)) (w : Joined) (l b : List ℕ) : Type 0 where
+  pub prepared : Prepared w l b
+  pub rows-are : w .n ≡ n
+  pub many : w .count ≡ length L
+  pub steps-are : stepsOf w b ≡ L

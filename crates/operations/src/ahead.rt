@@ -1,41 +1,34 @@
 // Forecasts (document 02, (k)): the steps that an operation on places will make. It tests as the operation does, without a target, 14 and 17.
 ghost use mathlib.Core.Path.{_≡_};
-ghost use Prim.Native.Nat.{_<_};
+ghost use Prim.Native.Nat.{_≤_, _<_};
+ghost use Rattle.conditions.specs.Conditions.{sourcesAlone};
+ghost use Rattle.recipes.specs.Recipe.{placesIn};
 ghost use Rattle.places.specs.Shelf.{rowsAt, Good};
-ghost use Rattle.places.specs.Tests.{sourceTests, bothSources};
+ghost use Rattle.places.specs.Tests.{sourceTests};
 ghost use Rattle.words.specs.Effort.{stepsForetold};
-ghost use Rattle.operations.specs.Operations.{productAt, inverseAt, submatrixAt, setTests};
+ghost use Rattle.operations.specs.Operations.{submatrixAt, joinedRows, joinedAt, setTests};
 ghost use Rattle.operations.specs.Forecast.{foretelling, foretoldReport};
 use crate::Foretold;
 use crate::effort;
 use places::Shelf;
 use places::judge;
+use recipes::Recipe;
 use verdict::Verdict;
 use verdict::test;
 
-pub fn product(shelf: Shelf, left: usize, right: usize) -> Foretold
-    requires { ⌜ Good shelf ⌝ }
-    ensures { λ r. ⌜ foretoldReport r ≡ foretelling (bothSources shelf left right) (stepsForetold (rowsAt shelf left) (productAt shelf left right)) ⌝ }
+// The words of one to six steps, joined.
+pub fn joined(shelf: Shelf, recipe: Recipe) -> Foretold
+    requires { ⌜ Good shelf × (1 ≤ recipe .count) × (recipe .count ≤ 6) ⌝ }
+    ensures { λ r. ⌜ foretoldReport r
+        ≡ foretelling (sourcesAlone (rowsAt shelf) (placesIn recipe)) (stepsForetold (joinedRows shelf recipe) (joinedAt shelf recipe)) ⌝ }
 {
-    let first = judge::both_sources(shelf, left, right);
+    let first = judge::sources_alone(shelf, recipe);
     if let Verdict::Refused(why) = first {
         return Foretold::Refused(why);
     }
-    let n = places::rows_at(shelf, left);
-    Foretold::Steps(effort::of_sizes(2, n, n))
-}
-
-// One source, taken whole: its re-signed inverse or its converse.
-pub fn whole(shelf: Shelf, source: usize) -> Foretold
-    requires { ⌜ Good shelf ⌝ }
-    ensures { λ r. ⌜ foretoldReport r ≡ foretelling (sourceTests shelf source) (stepsForetold (rowsAt shelf source) (inverseAt shelf source)) ⌝ }
-{
-    let first = judge::source(shelf, source);
-    if let Verdict::Refused(why) = first {
-        return Foretold::Refused(why);
-    }
-    let n = places::rows_at(shelf, source);
-    Foretold::Steps(effort::of_sizes(1, n, n))
+    let steps = recipe.steps;
+    let n = places::rows_at(shelf, steps[0].place);
+    Foretold::Steps(effort::of_sizes(recipe.count, n, n))
 }
 
 // A transpose has no word.

@@ -1,19 +1,20 @@
-// The operations on places: transpose, product, re-signed inverse, converse, submatrix; minors; and a place filled from time stamps. A result is worked first
-// and kept by a step of its own.
+// The operations on places: transpose, product, re-signed inverse, converse, submatrix, recipes of steps joined; minors; and a place filled from time stamps. A
+// result is worked first and kept by a step of its own.
 ghost use mathlib.Core.Path.{_≡_};
 ghost use Rattle.places.specs.Shelf.{rowsAt, Good};
-ghost use Rattle.operations.specs.Operations.{productAt, inverseAt, converseAt, submatrixAt};
-ghost use Rattle.operations.specs.Operations.{transposeCall, buildCall, productCall, inverseCall, converseCall, submatrixCall, minorCall};
+ghost use Rattle.operations.specs.Operations.{productAt, inverseAt, converseAt, submatrixAt, joinedRows, joinedAt};
+ghost use Rattle.operations.specs.Operations.{transposeCall, buildCall, productCall, inverseCall, converseCall, submatrixCall, recipeCall, minorCall};
 ghost use Rattle.operations.specs.Reports.{filledOutcome, operatedOutcome, valuedReport};
-ghost use Rattle.operations.specs.Forecast.{forecastCall, taskCall, foretoldReport, Foretelling};
+ghost use Rattle.operations.specs.Forecast.{forecastCall, recipeForecast, taskCall, foretoldReport, Found, RecipeFound, Foretelling};
 ghost use Rattle.operations.specs.Promise.{Promised, BuildPromised};
 use number::Number;
 use places::Shelf;
 use places::judge;
+use recipes::Recipe;
+use recipes::Way;
 use verdict::Refusal;
 use verdict::Verdict;
 use verdict::test;
-use walk::Way;
 
 mod ahead; // ahead.rt: forecasts
 mod effort; // effort.rt: steps by sizes
@@ -105,7 +106,8 @@ pub fn product(shelf: Shelf, left: usize, right: usize, target: usize) -> Operat
     ensures { λ r. ⌜ Good (r .shelf) ⌝ }
     ensures { λ r. ⌜ Promised (r .shelf) target (rowsAt shelf left) (productAt shelf left right) (r .answer) ⌝ }
 {
-    work::keep(shelf, target, work::product(shelf, left, right, target))
+    let steps = recipes::two(left, right);
+    work::keep(shelf, target, work::joined(shelf, steps, target))
 }
 
 // The re-signed inverse of a place, to an empty place.
@@ -115,11 +117,8 @@ pub fn inverse(shelf: Shelf, source: usize, target: usize) -> Operated
     ensures { λ r. ⌜ Good (r .shelf) ⌝ }
     ensures { λ r. ⌜ Promised (r .shelf) target (rowsAt shelf source) (inverseAt shelf source) (r .answer) ⌝ }
 {
-    work::keep(
-        shelf,
-        target,
-        work::of_whole(shelf, Way::Inverted, source, target),
-    )
+    let steps = recipes::one(Way::Inverted, source);
+    work::keep(shelf, target, work::joined(shelf, steps, target))
 }
 
 // The converse of a place, to an empty place.
@@ -129,11 +128,8 @@ pub fn converse(shelf: Shelf, source: usize, target: usize) -> Operated
     ensures { λ r. ⌜ Good (r .shelf) ⌝ }
     ensures { λ r. ⌜ Promised (r .shelf) target (rowsAt shelf source) (converseAt shelf source) (r .answer) ⌝ }
 {
-    work::keep(
-        shelf,
-        target,
-        work::of_whole(shelf, Way::Conversed, source, target),
-    )
+    let steps = recipes::one(Way::Conversed, source);
+    work::keep(shelf, target, work::joined(shelf, steps, target))
 }
 
 // The chosen rows and columns of a place, given as masks, to an empty place.
@@ -175,12 +171,12 @@ pub fn perform(shelf: Shelf, task: Task, target: usize) -> Operated
 pub fn forecast(shelf: Shelf, task: Task) -> Foretold
     requires { ⌜ Good shelf ⌝ }
     ensures { λ r. ⌜ foretoldReport r ≡ forecastCall shelf task ⌝ }
-    ensures { λ r. ⌜ Foretelling shelf task (foretoldReport r) ⌝ }
+    ensures { λ r. ⌜ Foretelling shelf (Found task) (taskCall shelf task) (foretoldReport r) ⌝ }
 {
     match task {
-        Task::Product { left, right } => ahead::product(shelf, left, right),
-        Task::Inverse(source) => ahead::whole(shelf, source),
-        Task::Converse(source) => ahead::whole(shelf, source),
+        Task::Product { left, right } => ahead::joined(shelf, recipes::two(left, right)),
+        Task::Inverse(source) => ahead::joined(shelf, recipes::one(Way::Inverted, source)),
+        Task::Converse(source) => ahead::joined(shelf, recipes::one(Way::Conversed, source)),
         Task::Transpose(source) => ahead::transpose(shelf, source),
         Task::Submatrix {
             source,
@@ -188,6 +184,39 @@ pub fn forecast(shelf: Shelf, task: Task) -> Foretold
             columns,
         } => ahead::submatrix(shelf, source, rowset::wide(rows), rowset::wide(columns)),
     }
+}
+
+// A recipe: the product of its steps, 2 to 6, each a place taken plain, as its re-signed inverse, its converse or its transpose, to an empty place. The words
+// of the steps are joined in their order and the rule is run once.
+pub fn perform_recipe(shelf: Shelf, recipe: Recipe, target: usize) -> Operated
+    requires { ⌜ Good shelf ⌝ }
+    ensures { λ r. ⌜ operatedOutcome r ≡ recipeCall shelf recipe target ⌝ }
+    ensures { λ r. ⌜ Good (r .shelf) ⌝ }
+    ensures { λ r. ⌜ Promised (r .shelf) target (joinedRows shelf recipe) (joinedAt shelf recipe) (r .answer) ⌝ }
+{
+    if judge::miscounted(recipe.count) {
+        let answer = Performed::Refused(Refusal {
+            number: 18,
+            offset: 0,
+        });
+        return Operated { shelf, answer };
+    }
+    work::keep(shelf, target, work::joined(shelf, recipe, target))
+}
+
+// The steps that a recipe will make, without working it.
+pub fn forecast_recipe(shelf: Shelf, recipe: Recipe) -> Foretold
+    requires { ⌜ Good shelf ⌝ }
+    ensures { λ r. ⌜ foretoldReport r ≡ recipeForecast shelf recipe ⌝ }
+    ensures { λ r. ⌜ Foretelling shelf RecipeFound (recipeCall shelf recipe) (foretoldReport r) ⌝ }
+{
+    if judge::miscounted(recipe.count) {
+        return Foretold::Refused(Refusal {
+            number: 18,
+            offset: 0,
+        });
+    }
+    ahead::joined(shelf, recipe)
 }
 
 // Any minor of a place, its row and column sets given as masks.

@@ -1,12 +1,14 @@
 // The operations: a result is worked first (`Proposed`) and kept by a step of its own.
 ghost use mathlib.Core.Path.{_≡_};
-ghost use Prim.Native.Nat.{_<_};
-ghost use Rattle.walk.specs.Steps.{wayOf};
-ghost use Rattle.places.specs.Shelf.{rowsAt, Good};
-ghost use Rattle.places.specs.Tests.{oneSource, twoSources};
+ghost use mathlib.Core.List.{map};
+ghost use Prim.Native.Nat.{_≤_, _<_};
+ghost use lib.ListN.{length};
 ghost use Rattle.verdict.specs.Verdict.{firstOf};
-ghost use Rattle.operations.specs.Operations.{productAt, takenAt, submatrixAt, submatrixTests};
-ghost use Rattle.operations.specs.Proposed.{turnedDown, transposeProposal, buildProposal, proposed, kept, filledBy, rangedOf, Keepable};
+ghost use Rattle.conditions.specs.Conditions.{sourcesTo};
+ghost use Rattle.recipes.specs.Recipe.{placeOf, placesIn, stepsIn, slotAt};
+ghost use Rattle.places.specs.Shelf.{rowsAt, Good};
+ghost use Rattle.operations.specs.Operations.{submatrixAt, submatrixTests, stepWith, joinedRows, joinedAt};
+ghost use Rattle.operations.specs.Proposed.{turnedDown, transposeProposal, buildProposal, proposed, kept, filledBy, rangedOf, Keepable, Made};
 use crate::Bounded;
 use crate::Filled;
 use crate::Operated;
@@ -15,10 +17,12 @@ use crate::Proposed;
 use crate::value;
 use places::Shelf;
 use places::judge;
+use recipes::Recipe;
 use rule::Refactored;
 use verdict::Refusal;
 use verdict::Verdict;
 use verdict::test;
+use walk::Joined;
 use walk::Way;
 use walk::source;
 
@@ -137,45 +141,48 @@ fn ranged(result: Refactored) -> Proposed
     }
 }
 
-pub fn product(shelf: Shelf, left: usize, right: usize, target: usize) -> Proposed
-    requires { ⌜ Good shelf ⌝ }
-    ensures { λ r. ⌜ r ≡ proposed (twoSources shelf left right target) (rowsAt shelf left) (productAt shelf left right) ⌝ }
-    ensures { λ r. ⌜ Keepable target r ⌝ }
+// The steps of a recipe put one after the other, in their order, as a word of n rows.
+fn put_steps(
+    shelf: Shelf,
+    recipe: Recipe,
+    n: usize,
+    l: &mut [u16; 342],
+    b: &mut [u64; 768],
+) -> Joined
+    requires { ⌜ (1 ≤ n) × (n ≤ 8) × (recipe .count ≤ 6) × ((c : _) → c < recipe .count → placeOf (slotAt recipe c) < 8) ⌝ }
+    requires { ⌜ (length (now l) ≡ 342) × (length (now b) ≡ 768) ⌝ }
+    ensures { λ r. ⌜ Made n (map (stepWith shelf) (stepsIn recipe)) r (now (l .exit)) (now (b .exit)) ⌝ }
 {
-    let first = judge::two_sources(shelf, left, right, target);
-    if let Verdict::Refused(why) = first {
-        return turned_down(why);
+    let steps = recipe.steps;
+    let count = recipe.count;
+    let mut word = source::no_steps(n);
+    for c in 0..count {
+        let step = steps[c];
+        let way = step.way;
+        let table = places::table_at(shelf, step.place);
+        word = source::put_step(word, &mut *l, &mut *b, way, table);
     }
-    let n = places::rows_at(shelf, left);
-    let b = places::table_at(shelf, left);
-    let c = places::table_at(shelf, right);
-    let mut letters = [0u16; 342];
-    let mut sources = [0u64; 768];
-    let none = source::no_steps(n);
-    let one = source::put_step(none, &mut letters, &mut sources, Way::Plain, b);
-    let both = source::put_step(one, &mut letters, &mut sources, Way::Plain, c);
-    let all = rowset::run(1, n);
-    ranged(rule::work(both, &letters, &sources, b, all, all))
+    word
 }
 
-// One source taken this way: inverted it is the re-signed inverse, conversed the converse.
-pub fn of_whole(shelf: Shelf, way: Way, source: usize, target: usize) -> Proposed
-    requires { ⌜ Good shelf ⌝ }
-    ensures { λ r. ⌜ r ≡ proposed (oneSource shelf source target) (rowsAt shelf source) (takenAt (wayOf way) shelf source) ⌝ }
+// The words of one to six steps, joined: the rule is run once.
+pub fn joined(shelf: Shelf, recipe: Recipe, target: usize) -> Proposed
+    requires { ⌜ Good shelf × (1 ≤ recipe .count) × (recipe .count ≤ 6) ⌝ }
+    ensures { λ r. ⌜ r ≡ proposed (sourcesTo (rowsAt shelf) (placesIn recipe) target) (joinedRows shelf recipe) (joinedAt shelf recipe) ⌝ }
     ensures { λ r. ⌜ Keepable target r ⌝ }
 {
-    let first = judge::one_source(shelf, source, target);
+    let first = judge::sources_to(shelf, recipe, target);
     if let Verdict::Refused(why) = first {
         return turned_down(why);
     }
-    let n = places::rows_at(shelf, source);
-    let b = places::table_at(shelf, source);
+    let steps = recipe.steps;
+    let n = places::rows_at(shelf, steps[0].place);
     let mut letters = [0u16; 342];
     let mut sources = [0u64; 768];
-    let none = source::no_steps(n);
-    let word = source::put_step(none, &mut letters, &mut sources, way, b);
+    let word = put_steps(shelf, recipe, n, &mut letters, &mut sources);
     let all = rowset::run(1, n);
-    ranged(rule::work(word, &letters, &sources, b, all, all))
+    let blank = table::blank();
+    ranged(rule::work(word, &letters, &sources, blank, all, all))
 }
 
 // The tests of a submatrix before its factors are worked. Whether it is singular is asked of sets that fit.

@@ -1,4 +1,5 @@
 pub mod Shelf
 pub mod Tests
+pub mod Faults
 pub mod Check
 pub mod Outcome

@@ -2,9 +2,14 @@
 ghost use mathlib.Core.Path.{_≡_};
 ghost use Prim.Native.Nat.{_≤_, _<_};
 ghost use Rattle.verdict.specs.Verdict.{firstOf};
-ghost use Rattle.places.specs.Tests.{unfit, sourceTests, targetTests, oneSource, bothSources, twoSources};
+ghost use Rattle.conditions.specs.Conditions.{miscounted, sourcesAlone, sourcesTo};
+ghost use Rattle.recipes.specs.Recipe.{placesIn};
+ghost use Rattle.places.specs.Shelf.{rowsAt};
+ghost use Rattle.places.specs.Tests.{unfit, sourceTests, targetTests, oneSource};
+ghost use Rattle.places.specs.Faults.{faultsOf};
 use crate::Shelf;
 use crate::rows_at;
+use recipes::Recipe;
 use verdict::Verdict;
 use verdict::test;
 
@@ -44,37 +49,71 @@ pub fn one_source(shelf: Shelf, source: usize, target: usize) -> Verdict
     v
 }
 
-// Two sources alone.
-pub fn both_sources(shelf: Shelf, left: usize, right: usize) -> Verdict
-    ensures { λ r. ⌜ r ≡ firstOf (bothSources shelf left right) ⌝ }
+// What may be wrong with some place of a recipe.
+struct Faults {
+    above: bool,
+    empty: bool,
+    unlike: bool,
+}
+
+// One pass over the places of a recipe's steps, each compared in size with the first. The other slots are not looked at.
+fn faults_of(shelf: Shelf, recipe: Recipe) -> Faults
+    requires { ⌜ (1 ≤ recipe .count) × (recipe .count ≤ 6) ⌝ }
+    ensures { λ r. ⌜ r ≡ faultsOf shelf recipe ⌝ }
 {
-    let first = rows_at(shelf, left);
-    let second = rows_at(shelf, right);
+    let steps = recipe.steps;
+    let first = rows_at(shelf, steps[0].place);
+    let mut above = false;
+    let mut empty = false;
+    let mut unlike = false;
+    for c in 0..recipe.count {
+        let place = steps[c].place;
+        let rows = rows_at(shelf, place);
+        above = above | (7 < place);
+        empty = empty | (rows == 0);
+        unlike = unlike | (first != rows);
+    }
+    Faults {
+        above,
+        empty,
+        unlike,
+    }
+}
+
+// The sources of a recipe's steps alone.
+pub fn sources_alone(shelf: Shelf, recipe: Recipe) -> Verdict
+    requires { ⌜ (1 ≤ recipe .count) × (recipe .count ≤ 6) ⌝ }
+    ensures { λ r. ⌜ r ≡ firstOf (sourcesAlone (rowsAt shelf) (placesIn recipe)) ⌝ }
+{
+    let any = faults_of(shelf, recipe);
     let mut v = Verdict::Accepted;
-    v = test(v, 7 < left, 1);
-    v = test(v, 7 < right, 1);
-    v = test(v, first == 0, 11);
-    v = test(v, second == 0, 11);
-    v = test(v, first != second, 13);
+    v = test(v, any.above, 1);
+    v = test(v, any.empty, 11);
+    v = test(v, any.unlike, 13);
     v
 }
 
-// Two sources and a target.
-pub fn two_sources(shelf: Shelf, left: usize, right: usize, target: usize) -> Verdict
-    ensures { λ r. ⌜ r ≡ firstOf (twoSources shelf left right target) ⌝ }
+// The sources of a recipe's steps, and a target.
+pub fn sources_to(shelf: Shelf, recipe: Recipe, target: usize) -> Verdict
+    requires { ⌜ (1 ≤ recipe .count) × (recipe .count ≤ 6) ⌝ }
+    ensures { λ r. ⌜ r ≡ firstOf (sourcesTo (rowsAt shelf) (placesIn recipe) target) ⌝ }
 {
-    let rows = rows_at(shelf, left);
-    let columns = rows_at(shelf, right);
+    let any = faults_of(shelf, recipe);
     let there = rows_at(shelf, target);
     let mut v = Verdict::Accepted;
-    v = test(v, 7 < left, 1);
-    v = test(v, 7 < right, 1);
+    v = test(v, any.above, 1);
     v = test(v, 7 < target, 1);
-    v = test(v, rows == 0, 11);
-    v = test(v, columns == 0, 11);
+    v = test(v, any.empty, 11);
     v = test(v, there != 0, 12);
-    v = test(v, rows != columns, 13);
+    v = test(v, any.unlike, 13);
     v
+}
+
+// Whether a recipe has not 2 to 6 steps.
+pub fn miscounted(count: usize) -> bool
+    ensures { λ r. ⌜ r ≡ miscounted count ⌝ }
+{
+    (count < 2) | (6 < count)
 }
 
 // Whether row and column sets of n rows are of unequal count, empty, or beyond n.

@@ -1,5 +1,5 @@
 -- A reply is given where its text was put and its shelf is handed back (`replied`), and one for an outcome is one for an equal outcome (`told-as`,
--- `performed-as`, `bytes-as`). The answer to a line by its length (`answer-overlong`, `answer-asked`).
+-- `report-as`, `performed-as`, `bytes-as`). The answer to a line by its length (`answer-overlong`, `answer-asked`).
 use Prim.Native.Nat.{ℕ}
 use mathlib.Core.Path.{_≡_, refl, sym, _∙_}
 use mathlib.Core.Bool.{Bool, true, false}
@@ -8,7 +8,7 @@ use lib.IntN.{ℤ}
 use Rattle.lines.specs.Text.{Puts}
 use Rattle.verdict.specs.Report.{Report}
 use Rattle.places.specs.declared.Shelf.{Shelf}
-use Rattle.places.specs.Outcome.{Outcome}
+use Rattle.places.specs.Outcome.{Outcome, outcome}
 use Rattle.answers.specs.Answers.{reportText, withBytes, badText}
 use Rattle.shelf.specs.Calls.{writeCall, carryCall}
 use Rattle.shelf.specs.Run.{run, write, carry}
@@ -23,6 +23,11 @@ module _ {out after : List ℕ} {at : ℕ} {r : Answered} where
 
   pub told-as : (word : List ℕ) (o : Outcome) {o′ : Outcome} → o ≡ o′ → Replied (told word o) out at after r → Replied (told word o′) out at after r
   told-as word o e p = rw e at p
+
+  -- where the shelf stays, for an equal report
+  pub report-as : (word : List ℕ) {s : Shelf} {a b : Report} → a ≡ b → Replied (told word (outcome s a)) out at after r
+      → Replied (told word (outcome s b)) out at after r
+  report-as word e p = rw e at p
 
   pub performed-as : (o : Outcome) {o′ : Outcome} → o ≡ o′ → Replied (toldPerformed o) out at after r → Replied (toldPerformed o′) out at after r
   performed-as o e p = rw e at p

@@ -11,14 +11,15 @@ use Rattle.lines.specs.Ascii.{ascii}
 use Rattle.lines.proofs.Text.{cond-cases, bytes-short}
 use Rattle.notices.specs.Sentence.{notice, refusalText}
 use Rattle.notices.proofs.Room.{refusal-short}
+use Rattle.conditions.specs.Conditions.{above}
+use Rattle.recipes.specs.Codes.{recipeBy}
 use Rattle.places.specs.declared.Shelf.{Shelf}
 use Rattle.places.specs.Shelf.{Good}
-use Rattle.places.specs.Tests.{above}
-use Rattle.shelf.specs.Run.{Call, operate, run}
+use Rattle.shelf.specs.Run.{Call, operate, recipe, run}
 use Rattle.shelf.proofs.Returns.{report-few, write-length, sentence-length, carry-length, rest-length}
 use Rattle.answers.proofs.Lengths.{report-short, two-short, items-short, place-short}
 use Rattle.requests.specs.declared.commands.Command.{Command}
-use Rattle.requests.specs.declared.commands.Command.the-variants.{Load, Write, Length, Drop, Operation, Build, Minor, Carry, Reversals}
+use Rattle.requests.specs.declared.commands.Command.the-variants.{Load, Write, Length, Drop, Operation, Recipe, Build, Minor, Carry, Reversals}
 use Rattle.requests.specs.declared.commands.Command.the-variants.{Add, Multiply, Divide, Rest, Sentence, Show, Bad}
 use Rattle.requests.specs.declared.commands.Kind.{Kind}
 use Rattle.requests.specs.declared.commands.Mode.{Mode}
@@ -27,8 +28,8 @@ use Rattle.requests.specs.Requests.{Asked, requestOf}
 use Rattle.requests.proofs.Tails.{request-bytes}
 use Rattle.replies.specs.Calls.{lentCount, lentBytes, lentItems, taskOf, showText}
 use Rattle.answers.specs.Answers.{twoTexts}
-use Rattle.replies.specs.Replies.{Reply, reply, told, toldWorked, toldBytes, toldItems, operationReply, replyBy, replyTo, overlong, answerTo}
-use Rattle.replies.specs.Replies.{replyToLine, longestAnswer}
+use Rattle.replies.specs.Replies.{Reply, reply, told, toldWorked, toldPerformed, toldBytes, toldItems, operationReply, recipeReply, replyBy}
+use Rattle.replies.specs.Replies.{replyTo, overlong, answerTo, replyToLine, longestAnswer}
 use Rattle.replies.proofs.Lent.{length-items}
 
 -- there is room for the end of the line
@@ -47,6 +48,9 @@ module _ (s : Shelf) (c : Call) where
 
   told-worked : Short (toldWorked (run s c))
   told-worked = told-two (ascii "number") 2 (ascii " rest") (omega arith)
+
+  told-performed : Short (toldPerformed (run s c))
+  told-performed = told-two (ascii "bound") 1 (ascii " steps") (omega arith)
 
   told-bytes : (word : List ℕ) → length word ≤ 9 → length (run s c .bytes) ≤ 2048 → Short (toldBytes word (run s c))
   unfolding Short
@@ -71,8 +75,12 @@ show-short s g p =
     (λ e. place-short s p (g .held p (omega (arith, ltb-false 7 p e)) .few))
 
 operation-short : (s : Shelf) (mode : Mode) (kind : Kind) (v : List ℕ) → Short (operationReply s mode kind v)
-operation-short s Direct kind v = told-two s (operate (taskOf kind v) (getD v 3 0)) (ascii "bound") 1 (ascii " steps") (omega arith)
+operation-short s Direct kind v = told-performed s (operate (taskOf kind v) (getD v 3 0))
 operation-short s Foretold kind v = told-short s _ (ascii "steps") (omega arith)
+
+recipe-short : (s : Shelf) (mode : Mode) (v codes : List ℕ) → Short (recipeReply s mode v codes)
+recipe-short s Direct v codes = told-performed s (recipe (recipeBy codes) (getD v 3 0))
+recipe-short s Foretold v codes = told-short s _ (ascii "steps") (omega arith)
 
 -- THE CONSOLE'S WORDS
 by-short : (s : Shelf) → Good s → (c : Command) (v bytes : List ℕ) (items : List ℤ) (wholes : List ℕ) → length bytes ≤ 2048
@@ -84,6 +92,7 @@ by-short s g Write v bytes items wholes h =
 by-short s g Length v bytes items wholes h = told-short s _ (ascii "length") (omega arith)
 by-short s g Drop v bytes items wholes h = told-short s _ (ascii "dropped") (omega arith)
 by-short s g (Operation mode kind) v bytes items wholes h = operation-short s mode kind v
+by-short s g (Recipe mode) v bytes items wholes h = recipe-short s mode v wholes
 by-short s g Build v bytes items wholes h = told-short s _ (ascii "bound") (omega arith)
 by-short s g Minor v bytes items wholes h = told-short s _ (ascii "number") (omega arith)
 by-short s g Carry v bytes items wholes h =

@@ -6,8 +6,8 @@ use lib.IntN.{ℤ, pos}
 use lib.ListN.{replicate, getD}
 use Rattle.requests.specs.declared.commands.Kind.{Kind}
 use Rattle.requests.specs.declared.commands.Kind.the-variants as kind
+use Rattle.conditions.specs.Conditions.{above}
 use Rattle.places.specs.declared.Shelf.{Shelf}
-use Rattle.places.specs.Tests.{above}
 use Rattle.operations.specs.declared.Task.{Task}
 use Rattle.operations.specs.declared.Task.the-variants.{Product, Inverse, Converse, Transpose, Submatrix}
 use Rattle.notices.specs.Sentence.{refusalText}

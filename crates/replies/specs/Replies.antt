@@ -10,15 +10,17 @@ use lib.ListN.{length, getD}
 use Rattle.lines.specs.Ascii.{ascii}
 use Rattle.lines.specs.Text.{Puts}
 use Rattle.rests.specs.declared.Operator.the-variants as Operator
+use Rattle.recipes.specs.Codes.{recipeBy}
 use Rattle.places.specs.declared.Shelf.{Shelf}
 use Rattle.places.specs.Outcome.{Outcome}
 use Rattle.notices.specs.Sentence.{notice}
-use Rattle.shelf.specs.Run.{run, load, write, byteLength, drop, operate, forecast, build, minor, carry, reversals, arithmetic, rest, sentence}
+use Rattle.shelf.specs.Run.{run, load, write, byteLength, drop, operate, forecast, recipe, forecastRecipe, build, minor, carry, reversals}
+use Rattle.shelf.specs.Run.{arithmetic, rest, sentence}
 use Rattle.answers.specs.Answers.{reportText, performedText, workedText, withBytes, badText}
 use Rattle.answers.specs.Items.{withItems}
 use Rattle.replies.specs.declared.calls.Answered.{Answered}
 use Rattle.requests.specs.declared.commands.Command.{Command}
-use Rattle.requests.specs.declared.commands.Command.the-variants.{Load, Write, Length, Drop, Operation, Build, Minor, Carry, Reversals}
+use Rattle.requests.specs.declared.commands.Command.the-variants.{Load, Write, Length, Drop, Operation, Recipe, Build, Minor, Carry, Reversals}
 use Rattle.requests.specs.declared.commands.Command.the-variants.{Add, Multiply, Divide, Rest, Sentence, Show, Bad}
 use Rattle.requests.specs.declared.commands.Kind.{Kind}
 use Rattle.requests.specs.declared.commands.Mode.{Mode}
@@ -63,6 +65,11 @@ abbrev pub operationReply : Shelf → Mode → Kind → (v : List ℕ) → Reply
 operationReply s Direct kind v = toldPerformed (run s (operate (taskOf kind v) (getD v 3 0)))
 operationReply s Foretold kind v = told (ascii "steps") (run s (forecast (taskOf kind v)))
 
+-- A RECIPE likewise, with the codes of its steps
+abbrev pub recipeReply : Shelf → Mode → (v codes : List ℕ) → Reply
+recipeReply s Direct v codes = toldPerformed (run s (recipe (recipeBy codes) (getD v 3 0)))
+recipeReply s Foretold v codes = told (ascii "steps") (run s (forecastRecipe (recipeBy codes)))
+
 -- THE CONSOLE'S WORDS, each with its numbers v, bytes, items and whole numbers
 unfoldable pub replyBy : Shelf → Command → (v bytes : List ℕ) → List ℤ → (wholes : List ℕ) → Reply
 replyBy s Load v bytes items wholes = told (ascii "loaded") (run s (load (getD v 0 0) bytes))
@@ -70,6 +77,7 @@ replyBy s Write v bytes items wholes = toldBytes (ascii "wrote") (run s (write (
 replyBy s Length v bytes items wholes = told (ascii "length") (run s (byteLength (getD v 0 0)))
 replyBy s Drop v bytes items wholes = told (ascii "dropped") (run s (drop (getD v 0 0)))
 replyBy s (Operation mode kind) v bytes items wholes = operationReply s mode kind v
+replyBy s (Recipe mode) v bytes items wholes = recipeReply s mode v wholes
 replyBy s Build v bytes items wholes = told (ascii "bound") (run s (build (getD v 0 0) wholes))
 replyBy s Minor v bytes items wholes = told (ascii "number") (run s (minor (getD v 0 0) (mask (getD v 1 0)) (mask (getD v 2 0))))
 replyBy s Carry v bytes items wholes = toldItems (ascii "carried") (run s (carry (getD v 0 0) items (lentItems (lentCount (getD v 1 0)))))

@@ -68,6 +68,7 @@ fn to_command(
         Command::Length => calls::length(shelf, a, out, at),
         Command::Drop => calls::drop(shelf, a, out, at),
         Command::Operation { mode, kind } => tasks::answer(shelf, mode, kind, v, out, at),
+        Command::Recipe(mode) => tasks::recipe(shelf, mode, v, wholes, out, at),
         Command::Build => calls::filled(shelf::build(shelf, a, wholes), out, at),
         Command::Minor => calls::minor(shelf, a, tasks::mask(b), tasks::mask(c), out, at),
         Command::Carry => calls::carry(shelf, a, b, list, out, at),

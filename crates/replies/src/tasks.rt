@@ -1,14 +1,19 @@
-// Operations: worked, or foretold.
+// Operations and recipes: worked, or foretold.
 ghost use mathlib.Core.Path.{_≡_};
 ghost use Rattle.lines.specs.Ascii.{ascii};
 ghost use Rattle.places.specs.Shelf.{Good};
-ghost use Rattle.shelf.specs.Run.{run, operate, forecast};
+ghost use Rattle.places.specs.Outcome.{outcome};
+ghost use Rattle.operations.specs.Reports.{operatedOutcome};
+ghost use Rattle.operations.specs.Forecast.{foretoldReport};
 ghost use Rattle.replies.specs.Calls.{mask, taskBy};
-ghost use Rattle.replies.specs.Replies.{Replied, told, toldPerformed, operationReply};
+ghost use Rattle.replies.specs.Replies.{Replied, told, toldPerformed, operationReply, recipeReply};
 use crate::calls;
 use crate::calls::Answered;
+use recipes::codes;
 use requests::Kind;
 use requests::Mode;
+use shelf::Foretold;
+use shelf::Operated;
 use shelf::Shelf;
 use shelf::Task;
 
@@ -36,25 +41,23 @@ fn task_of(kind: Kind, a: usize, b: usize, c: usize) -> Task
     }
 }
 
-// What an operation did.
-fn direct(shelf: Shelf, task: Task, target: usize, out: &mut [u8], at: usize) -> Answered
-    requires { ⌜ Good shelf ⌝ }
+// What an operation or a recipe did.
+fn performed(done: Operated, out: &mut [u8], at: usize) -> Answered
+    requires { ⌜ Good (done .shelf) ⌝ }
     ensures { λ r. ⌜ Good (r .shelf) ⌝ }
-    ensures { λ r. ⌜ Replied (toldPerformed (run shelf (operate task target))) (now (out .entry)) at (now (out .exit)) r ⌝ }
+    ensures { λ r. ⌜ Replied (toldPerformed (operatedOutcome done)) (now (out .entry)) at (now (out .exit)) r ⌝ }
 {
-    let done = shelf::perform(shelf, task, target);
     let left = done.shelf;
     let answer = done.answer;
     calls::after(left, answers::put_performed(out, at, answer))
 }
 
-// Its steps alone.
-fn foretold(shelf: Shelf, task: Task, out: &mut [u8], at: usize) -> Answered
+// The steps that it will make, alone.
+fn foretold(shelf: Shelf, answer: Foretold, out: &mut [u8], at: usize) -> Answered
     requires { ⌜ Good shelf ⌝ }
     ensures { λ r. ⌜ Good (r .shelf) ⌝ }
-    ensures { λ r. ⌜ Replied (told (ascii "steps") (run shelf (forecast task))) (now (out .entry)) at (now (out .exit)) r ⌝ }
+    ensures { λ r. ⌜ Replied (told (ascii "steps") (outcome shelf (foretoldReport answer))) (now (out .entry)) at (now (out .exit)) r ⌝ }
 {
-    let answer = shelf::forecast(shelf, task);
     calls::after(shelf, answers::put_foretold(out, at, answer))
 }
 
@@ -77,7 +80,28 @@ pub fn answer(
     let target = v[3];
     let task = task_of(kind, a, b, c);
     match mode {
-        Mode::Direct => direct(shelf, task, target, out, at),
-        Mode::Foretold => foretold(shelf, task, out, at),
+        Mode::Direct => performed(shelf::perform(shelf, task, target), out, at),
+        Mode::Foretold => foretold(shelf, shelf::forecast(shelf, task), out, at),
+    }
+}
+
+// A recipe likewise, with the codes of its steps.
+pub fn recipe(
+    shelf: Shelf,
+    mode: Mode,
+    v: [usize; 4],
+    steps: &[u64],
+    out: &mut [u8],
+    at: usize,
+) -> Answered
+    requires { ⌜ Good shelf ⌝ }
+    ensures { λ r. ⌜ Good (r .shelf) ⌝ }
+    ensures { λ r. ⌜ Replied (recipeReply shelf mode v (now (steps .entry))) (now (out .entry)) at (now (out .exit)) r ⌝ }
+{
+    let target = v[3];
+    let recipe = codes::recipe(steps);
+    match mode {
+        Mode::Direct => performed(shelf::perform_recipe(shelf, recipe, target), out, at),
+        Mode::Foretold => foretold(shelf, shelf::forecast_recipe(shelf, recipe), out, at),
     }
 }

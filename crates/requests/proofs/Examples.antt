@@ -2,16 +2,19 @@
 use mathlib.Core.Path.{_≡_, refl}
 use mathlib.Core.List.{[], _∷_}
 use lib.IntN.{pos, negsuc}
+use Rattle.walk.specs.declared.Way.the-variants.{Plain, Inverted, Conversed, Transposed}
+use Rattle.recipes.specs.Codes.{stepCode}
 use Rattle.lines.specs.Ascii.{ascii}
 use Rattle.lines.specs.Words.{before, parted, same}
 use Rattle.lines.specs.Decimal.{allNumerals, valueFrom}
 use Rattle.lines.specs.Hexadecimal.{allDigits, spelledBytes}
-use Rattle.requests.specs.declared.commands.Command.the-variants.{Load, Length, Operation, Build, Carry, Add, Sentence}
+use Rattle.requests.specs.declared.commands.Command.the-variants.{Load, Length, Operation, Recipe, Build, Carry, Add, Sentence}
 use Rattle.requests.specs.declared.commands.Kind.the-variants.{Product, Submatrix}
 use Rattle.requests.specs.declared.commands.Mode.the-variants.{Direct, Foretold}
 use Rattle.requests.specs.Commands.{entryForm, modeOf, formBy}
 use Rattle.requests.specs.Lists.{spelledList}
 use Rattle.requests.specs.Items.{spelledItem}
+use Rattle.requests.specs.Steps.{spelledWay, spelledStep}
 use Rattle.requests.specs.Requests.{askedAlone, askedBytes, askedItems, askedWholes, bad, letterNumbers, requestOf}
 
 product : requestOf (ascii "product 0 1 2") ≡ askedAlone (Operation Direct Product) (0 ∷ 1 ∷ 0 ∷ 2 ∷ [])
@@ -30,6 +33,46 @@ product-target = refl
 submatrix-foretold : requestOf (ascii "forecast submatrix 0 3 5") ≡ askedAlone (Operation Foretold Submatrix) (0 ∷ 3 ∷ 5 ∷ 0 ∷ [])
 unfolding requestOf modeOf formBy entryForm same parted letterNumbers allNumerals valueFrom
 submatrix-foretold = refl
+
+-- a recipe: the codes of its steps, and its target behind three numbers that are not asked for
+recipe : requestOf (ascii "recipe 7 0,plain 1,transpose 2,inverse 3,converse")
+    ≡ askedWholes (Recipe Direct) (0 ∷ 0 ∷ 0 ∷ 7 ∷ []) (stepCode Plain 0 ∷ stepCode Transposed 1 ∷ stepCode Inverted 2 ∷ stepCode Conversed 3 ∷ [])
+unfolding requestOf modeOf formBy entryForm same parted letterNumbers allNumerals valueFrom spelledList before spelledWay stepCode spelledStep
+recipe = refl
+
+-- no step
+recipe-none : requestOf (ascii "recipe 7") ≡ askedWholes (Recipe Direct) (0 ∷ 0 ∷ 0 ∷ 7 ∷ []) []
+unfolding requestOf modeOf formBy entryForm same parted letterNumbers allNumerals valueFrom spelledList before spelledWay stepCode spelledStep
+recipe-none = refl
+
+-- the largest place
+recipe-largest : requestOf (ascii "recipe 4294967295 4294967295,transpose")
+    ≡ askedWholes (Recipe Direct) (0 ∷ 0 ∷ 0 ∷ 4294967295 ∷ []) (stepCode Transposed 4294967295 ∷ [])
+unfolding requestOf modeOf formBy entryForm same parted letterNumbers allNumerals valueFrom spelledList before spelledWay stepCode spelledStep
+recipe-largest = refl
+
+-- its forecast has no target
+recipe-foretold : requestOf (ascii "forecast recipe 0,plain 1,transpose 0,inverse")
+    ≡ askedWholes (Recipe Foretold) (0 ∷ 0 ∷ 0 ∷ 0 ∷ []) (stepCode Plain 0 ∷ stepCode Transposed 1 ∷ stepCode Inverted 0 ∷ [])
+unfolding requestOf modeOf formBy entryForm same parted letterNumbers allNumerals valueFrom spelledList before spelledWay stepCode spelledStep
+recipe-foretold = refl
+
+-- no place, no way, a place too large, and a second comma
+recipe-placeless : requestOf (ascii "recipe 7 ,plain") ≡ bad
+unfolding requestOf modeOf formBy entryForm same parted letterNumbers allNumerals valueFrom spelledList before spelledWay stepCode spelledStep
+recipe-placeless = refl
+
+recipe-wayless : requestOf (ascii "recipe 7 0") ≡ bad
+unfolding requestOf modeOf formBy entryForm same parted letterNumbers allNumerals valueFrom spelledList before spelledWay stepCode spelledStep
+recipe-wayless = refl
+
+recipe-larger : requestOf (ascii "recipe 7 4294967296,plain") ≡ bad
+unfolding requestOf modeOf formBy entryForm same parted letterNumbers allNumerals valueFrom spelledList before spelledWay stepCode spelledStep
+recipe-larger = refl
+
+recipe-commas : requestOf (ascii "recipe 7 0,plain,") ≡ bad
+unfolding requestOf modeOf formBy entryForm same parted letterNumbers allNumerals valueFrom spelledList before spelledWay stepCode spelledStep
+recipe-commas = refl
 
 -- a word that is no operation's, none, and the same once more
 drop-foretold : requestOf (ascii "forecast drop 0") ≡ bad

@@ -1,6 +1,6 @@
 -- What stands behind a request's numbers: nothing (`nothing-left`), bytes (`bytes-read`), two items (`two-read`); the request by its parts (`request-is`); and
 -- how many bytes it has at most (`request-bytes`).
-use Prim.Native.Nat.{ℕ, _-_, _*_, _/_, _^_, _≤_, _<_}
+use Prim.Native.Nat.{ℕ, _*_, _/_, _≤_, _<_}
 use native.Mathlib.Nat.{zero-add}
 use native.Mathlib.Omega.{arith}
 use mathlib.Core.Path.{_≡_, refl, sym, ap, _∙_}
@@ -22,7 +22,7 @@ use Rattle.requests.specs.declared.commands.Form.{Form}
 use Rattle.requests.specs.declared.commands.Mode.{Mode}
 use Rattle.requests.specs.declared.commands.Mode.the-variants.{Direct, Foretold}
 use Rattle.requests.specs.declared.commands.Tail.{Tail}
-use Rattle.requests.specs.declared.commands.Tail.the-variants.{None, Bytes, Items, Two, Stamps, Places}
+use Rattle.requests.specs.declared.commands.Tail.the-variants.{None, Bytes, Items, Two, Wholes}
 use Rattle.requests.specs.declared.request.Request.{Request}
 use Rattle.requests.specs.Words.{wordsOf, wordsAt, firstWord, wordsBehind}
 use Rattle.requests.specs.Commands.{modeOf, formBy}
@@ -192,8 +192,7 @@ words-few command Two values [] = omega arith
 words-few command Two values (w ∷ []) = omega arith
 words-few command Two values (w ∷ v ∷ []) = list-few (askedItems command values) (λ l. omega arith) (spelledItems 16 (w ∷ v ∷ []))
 words-few command Two values (w ∷ v ∷ u ∷ ws) = omega arith
-words-few command Stamps values ws = list-few (askedWholes command values) (λ l. omega arith) (spelledWholes (2 ^ 64 - 1) 16 ws)
-words-few command Places values ws = list-few (askedWholes command values) (λ l. omega arith) (spelledWholes (2 ^ 32 - 1) 16 ws)
+words-few command (Wholes member) values ws = list-few (askedWholes command values) (λ l. omega arith) (spelledWholes member 16 ws)
 
 tail-few : (command : Command) (t : Tail) (o : Option Values) → FewBytes (withTail command t o)
 tail-few command t none = omega arith

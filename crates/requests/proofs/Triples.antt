@@ -34,7 +34,7 @@ minus-small (suc n) h = omega arith
 pub held-minus : {x : ℤ} {n : ℕ} → x ≡ negℤ (pos n) → n ≤ 2 ^ 63 → toZ w64 (ofZ w64 x) ≡ negℤ (pos n)
 held-minus {n = n} e h = rw e (held (minus-small n h))
 
-part-before : (s : List ℕ) (n : ℕ) → n ≡ length (before 44 s) → take (n - 0) s ≡ before 44 s
+pub part-before : (s : List ℕ) (n : ℕ) → n ≡ length (before 44 s) → take (n - 0) s ≡ before 44 s
 part-before s n e =
     let z : n - 0 ≡ length (before 44 s) = omega arith in
     rw z (take-before 44 s)

@@ -7,14 +7,15 @@ use mathlib.Core.List.{List, [], _∷_}
 use lib.ListN.{set}
 use Rattle.lines.specs.Ascii.{ascii}
 use Rattle.requests.specs.declared.commands.Command.{Command}
-use Rattle.requests.specs.declared.commands.Command.the-variants.{Load, Write, Length, Drop, Operation, Build, Minor, Carry, Reversals}
+use Rattle.requests.specs.declared.commands.Command.the-variants.{Load, Write, Length, Drop, Operation, Recipe, Build, Minor, Carry, Reversals}
 use Rattle.requests.specs.declared.commands.Command.the-variants.{Add, Multiply, Divide, Rest, Sentence, Show, Bad}
 use Rattle.requests.specs.declared.commands.Kind.the-variants.{Product, Inverse, Converse, Transpose, Submatrix}
 use Rattle.requests.specs.declared.commands.Mode.{Mode}
 use Rattle.requests.specs.declared.commands.Mode.the-variants.{Direct, Foretold}
 use Rattle.requests.specs.declared.commands.Form.{Form}
 use Rattle.requests.specs.declared.commands.Tail.{Tail}
-use Rattle.requests.specs.declared.commands.Tail.the-variants.{None, Bytes, Items, Two, Stamps, Places}
+use Rattle.requests.specs.declared.commands.Tail.the-variants.{None, Bytes, Items, Two, Wholes}
+use Rattle.requests.specs.declared.wholes.Member.the-variants.{Stamp, Place, Step}
 use Rattle.lines.specs.Words.{same}
 
 -- a word, and its form: a command, the letters of its numbers (P a place or another number of 32 bits, M a mask, C a length to lend, - no number), and what
@@ -34,6 +35,7 @@ operationForms mode =
     ∷ entry "converse" (Operation mode Converse) "P--P" None
     ∷ entry "transpose" (Operation mode Transpose) "P--P" None
     ∷ entry "submatrix" (Operation mode Submatrix) "PMMP" None
+    ∷ entry "recipe" (Recipe mode) "---P" (Wholes Step)
     ∷ []
 
 abbrev pub firstForms : List Entry
@@ -42,7 +44,7 @@ firstForms =
     ∷ entry "write" Write "PC--" None
     ∷ entry "length" Length "P---" None
     ∷ entry "drop" Drop "P---" None
-    ∷ entry "build" Build "P---" Stamps
+    ∷ entry "build" Build "P---" (Wholes Stamp)
     ∷ []
 
 abbrev pub secondForms : List Entry
@@ -54,7 +56,7 @@ secondForms =
     ∷ entry "multiply" Multiply "----" Two
     ∷ entry "divide" Divide "----" Two
     ∷ entry "rest" Rest "----" Bytes
-    ∷ entry "sentence" Sentence "CPP-" Places
+    ∷ entry "sentence" Sentence "CPP-" (Wholes Place)
     ∷ entry "show" Show "P---" None
     ∷ []
 

@@ -1,5 +1,5 @@
 -- What a line asks (`requestOf`): a command with its numbers, and behind them bytes, items, whole numbers or nothing.
-use Prim.Native.Nat.{ℕ, _-_, _*_, _/_, _^_}
+use Prim.Native.Nat.{ℕ, _*_, _/_}
 use mathlib.Core.Path.{_≡_}
 use mathlib.Core.Bool.{cond, not, _&&_}
 use mathlib.Core.List.{List, [], _∷_}
@@ -18,7 +18,8 @@ use Rattle.requests.specs.declared.commands.Form.{Form}
 use Rattle.requests.specs.declared.commands.Mode.{Mode}
 use Rattle.requests.specs.declared.commands.Mode.the-variants.{Direct, Foretold}
 use Rattle.requests.specs.declared.commands.Tail.{Tail}
-use Rattle.requests.specs.declared.commands.Tail.the-variants.{None, Bytes, Items, Two, Stamps, Places}
+use Rattle.requests.specs.declared.commands.Tail.the-variants.{None, Bytes, Items, Two, Wholes}
+use Rattle.requests.specs.declared.wholes.Member.{Member}
 use Rattle.requests.specs.declared.request.Numbers.{Numbers}
 use Rattle.requests.specs.declared.request.Request.{Request}
 use Rattle.requests.specs.Words.{wordsOf, wordsAt, firstWord, wordsBehind}
@@ -137,9 +138,9 @@ withTwo command values (w ∷ []) = bad
 withTwo command values (w ∷ v ∷ []) = withItems command values (w ∷ v ∷ [])
 withTwo command values (w ∷ v ∷ u ∷ ws) = bad
 
--- at most 16 whole numbers, each at most `most`
-abbrev pub withWholes : ℕ → Command → List ℕ → List (List ℕ) → Asked
-withWholes most command values ws = withList (askedWholes command values) (spelledWholes most 16 ws)
+-- at most 16 whole numbers
+abbrev pub withWholes : Member → Command → List ℕ → List (List ℕ) → Asked
+withWholes member command values ws = withList (askedWholes command values) (spelledWholes member 16 ws)
 
 abbrev pub withTail : Command → Tail → Option Values → Asked
 withTail command t none = bad
@@ -147,8 +148,7 @@ withTail command None (some v) = withNothing command (v .values) (v .left)
 withTail command Bytes (some v) = withBytes command (v .values) (v .left)
 withTail command Items (some v) = withItems command (v .values) (v .left)
 withTail command Two (some v) = withTwo command (v .values) (v .left)
-withTail command Stamps (some v) = withWholes (2 ^ 64 - 1) command (v .values) (v .left)
-withTail command Places (some v) = withWholes (2 ^ 32 - 1) command (v .values) (v .left)
+withTail command (Wholes member) (some v) = withWholes member command (v .values) (v .left)
 
 -- the request of a form with the words behind the first
 abbrev pub formRequest : Form → List (List ℕ) → Asked

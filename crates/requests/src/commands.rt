@@ -1,6 +1,7 @@
 // The words of the console, and what follows each: a table of forms.
 ghost use mathlib.Core.Path.{_≡_};
 ghost use Rattle.requests.specs.Commands.{operationForms, firstForms, secondForms, noForm, entryForm, formFrom, modeOf, withoutTarget, formBy};
+use crate::wholes::Member;
 
 // The kinds of operations.
 pub enum Kind {
@@ -24,6 +25,8 @@ pub enum Command {
     Length,
     Drop,
     Operation { mode: Mode, kind: Kind },
+    // An operation whose sources are a list.
+    Recipe(Mode),
     Build,
     Minor,
     Carry,
@@ -45,9 +48,8 @@ pub enum Tail {
     Items,
     // Exactly two items.
     Two,
-    // At most 16 whole numbers: stamps of 64 bits, or places of 32.
-    Stamps,
-    Places,
+    // At most 16 whole numbers.
+    Wholes(Member),
 }
 
 // A command, the letters of its numbers (P a place or another number of 32 bits, M a mask, C a length to lend, - no number), and what stands behind them.
@@ -103,7 +105,9 @@ fn operation_forms(w: &[u8], mode: Mode, before: Form) -> Form
     let f = operation(w, f, b"inverse", mode, Kind::Inverse, b"P--P");
     let f = operation(w, f, b"converse", mode, Kind::Converse, b"P--P");
     let f = operation(w, f, b"transpose", mode, Kind::Transpose, b"P--P");
-    operation(w, f, b"submatrix", mode, Kind::Submatrix, b"PMMP")
+    let f = operation(w, f, b"submatrix", mode, Kind::Submatrix, b"PMMP");
+    let steps = Tail::Wholes(Member::Step);
+    named(w, f, b"recipe", Command::Recipe(mode), b"---P", steps)
 }
 
 fn first_forms(w: &[u8], before: Form) -> Form
@@ -113,7 +117,8 @@ fn first_forms(w: &[u8], before: Form) -> Form
     let f = named(w, f, b"write", Command::Write, b"PC--", Tail::None);
     let f = named(w, f, b"length", Command::Length, b"P---", Tail::None);
     let f = named(w, f, b"drop", Command::Drop, b"P---", Tail::None);
-    named(w, f, b"build", Command::Build, b"P---", Tail::Stamps)
+    let stamps = Tail::Wholes(Member::Stamp);
+    named(w, f, b"build", Command::Build, b"P---", stamps)
 }
 
 fn second_forms(w: &[u8], before: Form) -> Form
@@ -126,7 +131,8 @@ fn second_forms(w: &[u8], before: Form) -> Form
     let f = named(w, f, b"multiply", Command::Multiply, b"----", Tail::Two);
     let f = named(w, f, b"divide", Command::Divide, b"----", Tail::Two);
     let f = named(w, f, b"rest", Command::Rest, b"----", Tail::Bytes);
-    let f = named(w, f, b"sentence", Command::Sentence, b"CPP-", Tail::Places);
+    let places = Tail::Wholes(Member::Place);
+    let f = named(w, f, b"sentence", Command::Sentence, b"CPP-", places);
     named(w, f, b"show", Command::Show, b"P---", Tail::None)
 }
 

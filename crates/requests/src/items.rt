@@ -75,7 +75,7 @@ fn spelled_by(first: ReadNumber, second: ReadNumber, third: ReadNumber) -> ReadI
 }
 
 // What stands behind the first n bytes and one more.
-fn behind(s: &[u8], n: usize) -> &[u8]
+pub fn behind(s: &[u8], n: usize) -> &[u8]
     ensures { λ r. ⌜ now r ≡ drop (n + 1) (now (s .entry)) ⌝ }
 {
     if s.len() <= n {

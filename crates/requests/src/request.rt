@@ -14,6 +14,7 @@ use crate::commands::Tail;
 use crate::items;
 use crate::lists::ReadList;
 use crate::wholes;
+use crate::wholes::Member;
 use lines::ReadBytes;
 use lines::ReadWhole;
 
@@ -192,19 +193,19 @@ fn with_two(
     request
 }
 
-// The words that are left as whole numbers of at most `most`.
+// The words that are left as whole numbers.
 fn with_wholes(
     line: &[u8],
     command: Command,
     values: [usize; 4],
     at: usize,
-    most: u64,
+    member: Member,
     wholes: &mut [u64],
 ) -> Request
     requires { ⌜ 16 ≤ length (now wholes) ⌝ }
-    ensures { λ r. ⌜ AsksWholes r (now (wholes .exit)) (withWholes most command values (wordsAt (now (line .entry)) at)) ⌝ }
+    ensures { λ r. ⌜ AsksWholes r (now (wholes .exit)) (withWholes member command values (wordsAt (now (line .entry)) at)) ⌝ }
 {
-    let read = wholes::read(line, at, most, wholes);
+    let read = wholes::read(line, at, member, wholes);
     match read {
         ReadList::Count(n) => Request {
             command,
@@ -240,8 +241,7 @@ fn with_tail(
         Tail::Bytes => with_bytes(line, command, values, next, bytes),
         Tail::Items => with_items(line, command, values, next, list),
         Tail::Two => with_two(line, command, values, next, list),
-        Tail::Stamps => with_wholes(line, command, values, next, u64::MAX, wholes),
-        Tail::Places => with_wholes(line, command, values, next, 4294967295, wholes),
+        Tail::Wholes(member) => with_wholes(line, command, values, next, member, wholes),
         Tail::None => with_nothing(line, command, values, next),
     }
 }

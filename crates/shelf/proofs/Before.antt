@@ -25,7 +25,7 @@ use Rattle.places.specs.declared.Shelf.{Shelf}
 use Rattle.places.specs.Shelf.{holding, rowsAt, factorsAt, Good}
 use Rattle.places.specs.Tests.{targetTests}
 use Rattle.places.proofs.Holding.{fits-table, rows-held, factors-held}
-use Rattle.places.proofs.Verdicts.{target-accepted}
+use Rattle.conditions.proofs.Passed.{target-accepted}
 use Rattle.operations.specs.Before.{WithoutZeros}
 use Rattle.shelf.specs.Calls.{changing, ofReading, readTo, loadCall}
 use Rattle.shelf.specs.Before.{oldLoad, LoadsBefore, LoadedAsBefore, same, was-six}
@@ -80,7 +80,7 @@ module _ (bytes : List ℕ) where
         stored-by : (w : Reading) → oldReading bytes ≡ w → ofReading bytes w ≡ Accepted → WithoutZeros (readTo s p w) p
         stored-by (matrix n L q) e f =
             let h = old-stored bytes n L q e in
-            let small : p < 8 = target-accepted s p (passed .0) .small in
+            let small : p < 8 = target-accepted (rowsAt s) p (passed .0) .small in
             let fits = fits-table n (squareOf n L) (h .few) (stored-banded n (squareOf n L) (h .stored)) in
             let r : rowsAt (holding s p n (squareOf n L)) p ≡ n = rows-held s good p n (tableOf n (squareOf n L)) small fits in
             subst (λ (m : ℕ). Each Stored m (factorsAt (holding s p n (squareOf n L)) p)) (sym r)

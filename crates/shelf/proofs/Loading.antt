@@ -27,7 +27,7 @@ use Rattle.verdict.specs.declared.Verdict.{Verdict}
 use Rattle.verdict.specs.declared.Verdict.the-variants.{Accepted, Refused}
 use Rattle.shelf.specs.declared.Changed.{Changed}
 use Rattle.table.specs.Table.{tableOf, squareOf}
-use Rattle.places.specs.Shelf.{holding, Fits, Good}
+use Rattle.places.specs.Shelf.{rowsAt, holding, Fits, Good}
 use Rattle.verdict.specs.Verdict.{firstOf, orElse, refusedAt}
 use Rattle.places.specs.Outcome.{Outcome}
 use Rattle.places.specs.Tests.{targetTests}
@@ -38,7 +38,8 @@ use Rattle.table.proofs.Table.{table-same}
 use Rattle.table.proofs.Square.{square-factors}
 use Rattle.places.proofs.Holding.{fits-table, good-put}
 use Rattle.verdict.proofs.Verdicts.{first-last, first-passed}
-use Rattle.places.proofs.Verdicts.{target-accepted, after-good}
+use Rattle.conditions.proofs.Passed.{target-accepted}
+use Rattle.places.proofs.Verdicts.{after-good}
 
 -- accepted factors, one behind the other, can be stored
 pub banded-rows : (n : ℕ) (b : Factors Number) → 0 < n → n ≤ 8 → BandedNumbers n b → Storable n (rowByRow n b)
@@ -124,7 +125,7 @@ module _ (s : Shelf) (p : ℕ) (bytes : List ℕ) where
     load-good =
         after-good s (readTo s p (matrixOf bytes)) good (firstOf (loadTests s p bytes))
         (λ e.
-        let t = target-accepted s p (first-passed (targetTests s p) (ofReading bytes (matrixOf bytes)) e .0) in
+        let t = target-accepted (rowsAt s) p (first-passed (targetTests s p) (ofReading bytes (matrixOf bytes)) e .0) in
         read-good (t .small) (matrixOf bytes) refl)
 
     pub load-answered : (x : Changed) → changedOutcome x ≡ loadCall s p bytes → (changedOutcome x ≡ loadCall s p bytes) × Good (x .shelf)

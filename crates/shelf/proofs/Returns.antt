@@ -17,15 +17,18 @@ use Rattle.reader.specs.Matrix.{Reading, matrix, fault, matrixOf, behindBy}
 use Rattle.arithmetic.specs.Arithmetic.{arithmeticTests, arithmeticCall}
 use Rattle.lists.specs.Lists.{reversalsTests, reversalsCall}
 use Rattle.notices.specs.Sentence.{Notice, sentenceTests, sentenceOf, sentenceReport, bytesAfterSentence}
+use Rattle.conditions.specs.Conditions.{recipeAlone}
+use Rattle.recipes.specs.Recipe.{placesIn}
 use Rattle.places.specs.declared.Shelf.{Shelf}
+use Rattle.places.specs.Shelf.{rowsAt}
 use Rattle.places.specs.Tests.{sourceTests, bothSources, oneSource}
 use Rattle.operations.specs.declared.Task.{Task}
 use Rattle.operations.specs.declared.Task.the-variants.{Product, Inverse, Converse, Transpose, Submatrix}
-use Rattle.operations.specs.Forecast.{taskCall, forecastCall}
+use Rattle.operations.specs.Forecast.{taskCall, forecastCall, recipeForecast}
 use Rattle.operations.specs.Operations.{buildTests, setTests, minorTests, operationVerdict, transposeCall, buildCall, operationCall, minorCall}
 use Rattle.shelf.specs.Calls.{loadTests, writeTests, placeCarryTests, bytesAt, carriedAt}
 use Rattle.shelf.specs.Calls.{loadCall, dropCall, writeCall, lengthCall, carryCall, factorCall}
-use Rattle.shelf.specs.Run.{Call, load, write, byteLength, drop, operate, forecast, build, minor}
+use Rattle.shelf.specs.Run.{Call, load, write, byteLength, drop, operate, forecast, recipe, forecastRecipe, build, minor}
 use Rattle.shelf.specs.Run.{carry, reversals, arithmetic, rest, sentence, rows, factor, run}
 
 -- the values of a report, none of a refusal
@@ -59,13 +62,15 @@ forecast-few s (Submatrix p I J) = few (firstOf (setTests s p I J)) _ (omega ari
 
 -- a result with its rest has four values, no other call as many
 pub report-few : (s : Shelf) (c : Call) → length (valuesOf (run s c .report)) ≤ 4
-unfolding run loadCall dropCall writeCall lengthCall carryCall factorCall buildCall minorCall reversalsCall arithmeticCall sentenceReport
+unfolding run loadCall dropCall writeCall lengthCall carryCall factorCall buildCall minorCall reversalsCall arithmeticCall sentenceReport recipeForecast
 report-few s (load p bytes) = few (firstOf (loadTests s p bytes)) _ (omega arith)
 report-few s (write p out) = few (firstOf (writeTests s p out)) _ (omega arith)
 report-few s (byteLength p) = few (firstOf (sourceTests s p)) _ (omega arith)
 report-few s (drop p) = few (firstOf (sourceTests s p)) _ (omega arith)
 report-few s (operate o t) = task-few s o t
 report-few s (forecast o) = forecast-few s o
+report-few s (recipe r t) = operation-few s _ _ _ _
+report-few s (forecastRecipe r) = few (firstOf (recipeAlone (rowsAt s) (r .count) (placesIn r))) _ (omega arith)
 report-few s (build t stamps) = few (firstOf (buildTests s t stamps)) _ (omega arith)
 report-few s (minor p I J) = few (firstOf (minorTests s p I J)) _ (omega arith)
 report-few s (carry p items out) = few (firstOf (placeCarryTests s p items out)) _ (omega arith)

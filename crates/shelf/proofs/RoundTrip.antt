@@ -32,12 +32,12 @@ use Rattle.table.proofs.Square.{square-list, square-factors}
 use Rattle.places.proofs.Holding.{rows-held, factors-held, put-put, put-held}
 use Rattle.verdict.specs.Report.{accepted}
 use Rattle.verdict.proofs.Verdicts.{first-passed, report-accepted}
-use Rattle.places.proofs.Verdicts.{Source, target-accepted}
+use Rattle.conditions.proofs.Passed.{Source, target-accepted}
 use Rattle.shelf.specs.Calls.{changing, ofReading, loadTests, loadCall, bytesAt}
 use Rattle.shelf.proofs.Loading.{banded-rows, read-fits, load-done}
 
 -- WRITTEN BYTES READ BACK
-module _ (s : Shelf) (good : Good s) (q : ℕ) (held : Source s q) where
+module _ (s : Shelf) (good : Good s) (q : ℕ) (held : Source (rowsAt s) q) where
   storable : Storable (rowsAt s q) (rowByRow (rowsAt s q) (factorsAt s q))
   storable = banded-rows (rowsAt s q) (factorsAt s q) (held .some) (good .held q (held .small) .few) (good .held q (held .small) .banded)
 
@@ -72,7 +72,7 @@ module _ (s : Shelf) (good : Good s) (p : ℕ) (bytes : List ℕ) (bs : Bytes by
   written-by (matrix n L q) e f =
       let m = matrix-read bytes bs n L q e in
       let l : length bytes ≤ q = whole (ltb q (length bytes)) q (length bytes) refl f in
-      let small : p < 8 = target-accepted s p (passed .0) .small in
+      let small : p < 8 = target-accepted (rowsAt s) p (passed .0) .small in
       let fits = read-fits bytes bs n L q e in
       let new : loadCall s p bytes ≡ changing Accepted s (holding s p n (squareOf n L)) = sym (load-done s p bytes (passed .0) n L q e l) in
       let r : rowsAt (holding s p n (squareOf n L)) p ≡ n = rows-held s good p n (tableOf n (squareOf n L)) small fits in

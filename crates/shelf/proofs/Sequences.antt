@@ -1,7 +1,7 @@
 -- WHATEVER IS CALLED, in whatever order, the shelf stays good (`run-good`, `calls-good`): by cases on the call.
 use Prim.Native.Nat.{ℕ}
 use mathlib.Core.List.{List, [], _∷_}
-use Rattle.words.specs.Operation.{inverted, conversed}
+use Rattle.walk.specs.declared.Way.the-variants.{Inverted, Conversed}
 use Rattle.places.specs.declared.Shelf.{Shelf}
 use Rattle.places.specs.Shelf.{rowsAt, emptyShelf, Good}
 use Rattle.places.specs.Tests.{oneSource, twoSources}
@@ -10,12 +10,13 @@ use Rattle.places.proofs.Holding.{good-empty}
 use Rattle.operations.specs.declared.Task.{Task}
 use Rattle.operations.specs.declared.Task.the-variants.{Product, Inverse, Converse, Transpose, Submatrix}
 use Rattle.operations.specs.Forecast.{taskCall}
-use Rattle.operations.specs.Operations.{productAt, inverseAt, converseAt, submatrixAt, submatrixTests}
+use Rattle.operations.specs.Operations.{productAt, inverseAt, converseAt, submatrixAt, submatrixTests, joinedRows, joinedAt, recipeTests}
 use Rattle.operations.proofs.Proposals.{transpose-good}
 use Rattle.operations.proofs.Building.{build-good}
-use Rattle.operations.proofs.Results.{product-ready, whole-ready, submatrix-ready, operation-good}
+use Rattle.operations.proofs.Results.{submatrix-ready, operation-good}
+use Rattle.operations.proofs.Recipes.{product-ready, whole-ready, recipe-ready}
 use Rattle.shelf.specs.Calls.{writeCall, carryCall}
-use Rattle.shelf.specs.Run.{Call, load, write, byteLength, drop, operate, forecast, build, minor}
+use Rattle.shelf.specs.Run.{Call, load, write, byteLength, drop, operate, forecast, recipe, forecastRecipe, build, minor}
 use Rattle.shelf.specs.Run.{carry, reversals, arithmetic, rest, sentence, rows, factor}
 use Rattle.shelf.specs.Run.{Given, AllGiven, run, afterEach, afterCalls}
 use Rattle.shelf.proofs.Loading.{load-good}
@@ -23,8 +24,8 @@ use Rattle.shelf.proofs.Dropping.{drop-good}
 
 task-good : (s : Shelf) → Good s → (o : Task) (t : ℕ) → Good (taskCall s o t .shelf)
 task-good s g (Product l r) t = operation-good (twoSources s l r t) t (rowsAt s l) (productAt s l r) (product-ready s g l r t) s g
-task-good s g (Inverse p) t = operation-good (oneSource s p t) t (rowsAt s p) (inverseAt s p) (whole-ready s g inverted p t) s g
-task-good s g (Converse p) t = operation-good (oneSource s p t) t (rowsAt s p) (converseAt s p) (whole-ready s g conversed p t) s g
+task-good s g (Inverse p) t = operation-good (oneSource s p t) t (rowsAt s p) (inverseAt s p) (whole-ready s g Inverted p t) s g
+task-good s g (Converse p) t = operation-good (oneSource s p t) t (rowsAt s p) (converseAt s p) (whole-ready s g Conversed p t) s g
 task-good s g (Transpose p) t = transpose-good s p t g
 task-good s g (Submatrix p I J) t = operation-good (submatrixTests s p I J t) t (rowsAt s p) (submatrixAt s p I J) (submatrix-ready s g p I J t) s g
 
@@ -36,6 +37,8 @@ run-good s g (byteLength p) h = g
 run-good s g (drop p) h = drop-good s p g
 run-good s g (operate o t) h = task-good s g o t
 run-good s g (forecast o) h = g
+run-good s g (recipe r t) h = operation-good (recipeTests s r t) t (joinedRows s r) (joinedAt s r) (recipe-ready s g r t h) s g
+run-good s g (forecastRecipe r) h = g
 run-good s g (build t stamps) h = build-good s t stamps g
 run-good s g (minor p I J) h = g
 run-good s g (carry p items out) h = g

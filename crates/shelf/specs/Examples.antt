@@ -1,10 +1,12 @@
 -- Document 01's marked examples, P1 to P12, as rows of one table (`markedTable`): P1 to P4 of the arithmetic beneath the calls, the others as calls on a shelf,
--- with what is returned and what is then held. Worked examples of places with zeros (`bandedTable`).
+-- with what is returned and what is then held. Worked examples of places with zeros (`bandedTable`), and of recipes
+-- (`recipeTable`).
 use Prim.Native.Nat.{ℕ, _+_, _-_, _^_}
 use mathlib.Core.Bool.{true, cond, _&&_}
 use mathlib.Core.List.{List, [], _∷_, _++_}
 use lib.Dec.{ltb, eqb}
 use lib.IntN.{pos, negsuc}
+use lib.ListN.{length}
 use Rattle.number.specs.declared.Number.{Number}
 use Rattle.number.specs.Number.{zeroNumber, oneNumber, sumOf, productOf}
 use Rattle.number.specs.Examples.{Row, row, up, down}
@@ -15,12 +17,16 @@ use Rattle.items.specs.Examples.{plusOneItem, minusOneItem, zeroItem}
 use Rattle.lists.specs.Examples.{lentSeven}
 use Rattle.verdict.specs.Verdict.{refusedAt}
 use Rattle.verdict.specs.Report.{accepted, refused}
+use Rattle.walk.specs.declared.Way.the-variants.{Plain, Inverted, Conversed, Transposed}
+use Rattle.recipes.specs.declared.RecipeStep.{RecipeStep}
+use Rattle.recipes.specs.declared.Recipe.{Recipe}
+use Rattle.recipes.specs.Recipe.{taken}
 use Rattle.places.specs.declared.Shelf.{Shelf}
 use Rattle.places.specs.Shelf.{factorsAt, holding, emptyShelf}
 use Rattle.places.specs.Outcome.{Outcome}
 use Rattle.operations.specs.declared.Task.the-variants as Task
 use Rattle.operations.specs.Operations.{factorTest, submatrixAt, singular}
-use Rattle.shelf.specs.Run.{load, write, product, inverse, converse, submatrix, minor, byteLength, forecast, carry, run}
+use Rattle.shelf.specs.Run.{load, write, product, inverse, converse, submatrix, minor, byteLength, forecast, recipe, forecastRecipe, carry, run}
 
 -- place 0 holds n rows with all factors one
 abbrev onesOf : ℕ → Shelf
@@ -101,4 +107,24 @@ bandedTable =
     (three ∷ down 2863311531 32 ∷ half ∷ down 2863311531 32 ∷ down 2863311531 32 ∷ zeroNumber ∷ half ∷ zeroNumber ∷ half ∷ [])
     ∷ row (run banded (carry 0 (plusOneItem ++ zeroItem ++ minusOneItem) (zeroItem ++ zeroItem ++ zeroItem)) .items)
     (plusOneItem ++ zeroItem ++ (negsuc 0 ∷ pos (2 ^ 31) ∷ negsuc 29 ∷ []))  -- 1, 0, -1 is carried to 1, 0, -2
+    ∷ []
+
+-- RECIPES (document 02, (f))
+abbrev steps : List RecipeStep → Recipe
+steps L = record { steps = L; count = length L }
+
+abbrev threeSteps : Recipe
+threeSteps = steps (taken Plain 0 ∷ taken Transposed 1 ∷ taken Inverted 0 ∷ [])
+
+unfoldable pub recipeTable : List Row
+recipeTable =
+    row (run unlike (recipe (steps (taken Plain 0 ∷ taken Plain 1 ∷ [])) 7)) (run unlike (product 0 1 7))  -- two plain steps: the product call
+    ∷ row (held 2 (run unlike (recipe (steps (taken Plain 0 ∷ taken Transposed 1 ∷ [])) 7)))
+    (three ∷ down 2863311531 31 ∷ down 3579139413 31 ∷ down 2863311531 33 ∷ [])  -- times the transpose: 3 4, 5 7, so 3, 4/3, 5/3, 1/3
+    ∷ row (held 2 (run unlike (recipe (steps (taken Inverted 1 ∷ taken Conversed 0 ∷ [])) 7)))
+    (down (2 ^ 31) 28 ∷ down 2684354560 32 ∷ down 3221225472 33 ∷ down (2 ^ 31) 34 ∷ [])  -- 3 2, 1 1 times 2 1, 1 1: 8 5, 3 2, so 8, 5/8, 3/8, 1/8
+    ∷ row (run unlike (recipe threeSteps 7) .report) (accepted (pos 75 ∷ pos 36 ∷ []))  -- 4 × 3 × 6 + 3
+    ∷ row (run unlike (forecastRecipe threeSteps) .report) (accepted (pos 36 ∷ []))
+    ∷ row (run unlike (recipe (steps (taken Plain 0 ∷ [])) 9) .report) (refused 18 0)  -- 18 before 1
+    ∷ row (run unlike (forecastRecipe (steps (taken Plain 9 ∷ []))) .report) (refused 18 0)
     ∷ []

@@ -2,8 +2,10 @@
 -- (`afterCalls`). Sequences, the C interface and the
 -- console cite this list.
 use Prim.Native.Nat.{ℕ}
+use mathlib.Core.Path.{_≡_}
 use mathlib.Core.List.{List, [], _∷_}
 use lib.IntN.{ℤ}
+use lib.ListN.{length}
 use Rattle.group.specs.Group.{Bytes}
 use Rattle.reader.specs.Matrix.{behindOf}
 use Rattle.lists.specs.Lists.{reversalsCall}
@@ -11,16 +13,17 @@ use Rattle.rests.specs.declared.Operator.{Operator}
 use Rattle.arithmetic.specs.Arithmetic.{arithmeticCall}
 use Rattle.verdict.specs.Report.{accepted}
 use Rattle.notices.specs.Sentence.{Notice, sentenceReport, bytesAfterSentence}
+use Rattle.recipes.specs.declared.Recipe.{Recipe}
 use Rattle.places.specs.declared.Shelf.{Shelf}
 use Rattle.places.specs.Outcome.{Outcome, outcome}
 use Rattle.operations.specs.declared.Task.{Task}
 use Rattle.operations.specs.declared.Task.the-variants.{Product, Inverse, Converse, Transpose, Submatrix}
-use Rattle.operations.specs.Operations.{buildCall, minorCall}
-use Rattle.operations.specs.Forecast.{taskCall, forecastCall}
+use Rattle.operations.specs.Operations.{buildCall, recipeCall, minorCall}
+use Rattle.operations.specs.Forecast.{taskCall, forecastCall, recipeForecast}
 use Rattle.shelf.specs.Calls.{loadCall, dropCall, writeCall, lengthCall, carryCall, rowsCall, factorCall}
 
--- a call with what it is given: places, an operation with its places and masks, bytes, time stamps, an operator, items, what a sentence tells, and last the
--- bytes or items that it is lent to write to. An operation has its target behind it; a forecast has none
+-- a call with what it is given: places, an operation with its places and masks, a recipe, bytes, time stamps, an operator, items, what a sentence tells, and
+-- last the bytes or items that it is lent to write to. An operation and a recipe have their target behind them; a forecast has none
 pub data Call : Type 0 where
   load : ℕ → List ℕ → Call
   write : ℕ → List ℕ → Call
@@ -28,6 +31,8 @@ pub data Call : Type 0 where
   drop : ℕ → Call
   operate : Task → ℕ → Call
   forecast : Task → Call
+  recipe : Recipe → ℕ → Call
+  forecastRecipe : Recipe → Call
   build : ℕ → List ℕ → Call
   minor : ℕ → ℕ → ℕ → Call
   carry : ℕ → List ℤ → List ℤ → Call
@@ -62,6 +67,8 @@ run s (byteLength p) = outcome s (lengthCall s p)
 run s (drop p) = dropCall s p
 run s (operate o t) = taskCall s o t
 run s (forecast o) = outcome s (forecastCall s o)
+run s (recipe r t) = recipeCall s r t
+run s (forecastRecipe r) = outcome s (recipeForecast s r)
 run s (build t stamps) = buildCall s t stamps
 run s (minor p I J) = outcome s (minorCall s p I J)
 run s (carry p items out) = carryCall s p items out
@@ -72,7 +79,7 @@ run s (sentence a out) = record { shelf = s; report = sentenceReport a out; byte
 run s (rows p) = outcome s (rowsCall s p)
 run s (factor p i j) = outcome s (factorCall s p i j)
 
--- the bytes of a load are bytes
+-- the bytes of a load are bytes, and a recipe has six slots
 abbrev pub Given : Call → Type 0
 Given (load p bytes) = Bytes bytes
 Given (write p out) = Unit {0}
@@ -80,6 +87,8 @@ Given (byteLength p) = Unit {0}
 Given (drop p) = Unit {0}
 Given (operate o t) = Unit {0}
 Given (forecast o) = Unit {0}
+Given (recipe r t) = length (r .steps) ≡ 6
+Given (forecastRecipe r) = Unit {0}
 Given (build t stamps) = Unit {0}
 Given (minor p I J) = Unit {0}
 Given (carry p items out) = Unit {0}

@@ -1,9 +1,10 @@
--- WHAT THE ANSWERS PROMISE: demand 3 (`product-answered`, `inverse-answered`, `converse-answered`, `submatrix-answered`) and the promise of a build
--- (`build-answered`); `away-answered`, `away-promising` of a shelf that is turned away. An answer with number 0 is the shelf's own, of an accepted call, since
--- 255 is not 0 and every test of these calls has a number above 0 (`Numbered`).
-use Prim.Native.Nat.{ℕ}
+-- WHAT THE ANSWERS PROMISE: demand 3 (`product-answered`, `inverse-answered`, `converse-answered`, `submatrix-answered`, `recipe-answered`) and the promise
+-- of a build (`build-answered`); `away-answered`, `away-promising` of a shelf that is turned away. An answer with number 0 is the shelf's own, of an accepted
+-- call, since 255 is not 0 and every test of these calls has a number above 0 (`Numbered`).
+use Prim.Native.Nat.{ℕ, suc}
 use native.Mathlib.Omega.{arith}
 use mathlib.Core.Path.{_≡_, refl, sym, ap, _∙_, subst}
+use mathlib.Core.Bool.{Bool}
 use mathlib.Core.List.{List, [], _∷_, _++_}
 use lib.IntN.{ℤ, pos, natAbs}
 use lib.ListN.{length, getD}
@@ -11,41 +12,51 @@ use Rattle.words.specs.Effort.{stepsMade}
 use Rattle.number.specs.declared.Number.{Number}
 use Rattle.number.specs.Number.{rounded}
 use Rattle.words.specs.Word.{Factors}
-use Rattle.words.specs.Operation.{Operation, inverted, conversed, size, bound, rowByRow, result}
+use Rattle.words.specs.Operation.{Operation, size, bound, rowByRow, result}
 use Rattle.verdict.specs.declared.Verdict.{Verdict}
 use Rattle.verdict.specs.declared.Verdict.the-variants.{Accepted, Refused}
-use Rattle.verdict.specs.Verdict.{when, firstOf}
+use Rattle.verdict.specs.Verdict.{firstOf}
 use Rattle.table.specs.Table.{outside}
 use Rattle.stamps.specs.Stamps.{mistimed, builtFactors, stampBound}
 use Rattle.places.specs.declared.Shelf.{Shelf}
 use Rattle.places.specs.Outcome.{Outcome}
 use Rattle.places.specs.Shelf.{rowsAt, holding, Good}
-use Rattle.places.specs.Tests.{above, empty, full, differ, unfit, targetTests, oneSource, twoSources}
+use Rattle.places.specs.Tests.{unfit, targetTests, oneSource, twoSources}
+use Rattle.conditions.specs.Conditions.{miscounted, above, eachTested, empty, full, differ, alikeTests, sourcesTo}
+use Rattle.walk.specs.declared.Way.the-variants.{Inverted, Conversed}
+use Rattle.recipes.specs.declared.Recipe.{Recipe}
+use Rattle.recipes.specs.Recipe.{placesIn}
 use Rattle.places.proofs.Checking.{good-tested}
 use Rattle.operations.specs.Operations.{resulting, done, factorTest, operationVerdict, operationCall, productAt, inverseAt, converseAt, submatrixAt}
-use Rattle.operations.specs.Operations.{singular, chosenTests, submatrixTests}
+use Rattle.operations.specs.Operations.{singular, chosenTests, submatrixTests, joinedRows, joinedAt, recipeTests}
 use Rattle.operations.specs.Operations.{buildTests, buildCall}
 use Rattle.operations.specs.Promise.{Met, Built}
-use Rattle.operations.proofs.Results.{Ready, product-ready, whole-ready, submatrix-ready, operation-met}
+use Rattle.operations.proofs.Results.{Ready, submatrix-ready, operation-met}
+use Rattle.operations.proofs.Recipes.{product-ready, whole-ready, recipe-ready}
 use Rattle.operations.proofs.Building.{build-met}
-use Rattle.shelf.specs.Run.{Call, product, inverse, converse, submatrix, build, run}
+use Rattle.shelf.specs.Run.{Call, product, inverse, converse, submatrix, recipe, build, run}
 use Rattle.tnb_c.specs.declared.Answer.{Answer}
 use Rattle.tnb_c.specs.Answers.{turnedAway, checked, answerOf, Promising, Answered, BuiltAnswer}
 use Rattle.tnb_c.proofs.Checked.{run-checked}
-use Rattle.tnb_c.proofs.Numbers.{Numbered, AllNumbered, numbered, behind-numbered, one-more}
+use Rattle.tnb_c.proofs.Numbers.{Numbered, AllNumbered, numbered, behind-numbered, one-more, all-numbered}
 
--- the tests of a target, of one source and of two
+-- the tests of a target, and of sources with one
 target-numbered : (s : Shelf) (t : ℕ) → AllNumbered (targetTests s t)
-target-numbered s t = (numbered (above t) 0, (numbered (full s t) 11, tt))
+target-numbered s t = (numbered (above t) 0, (numbered (full (rowsAt s) t) 11, tt))
 
-pub one-numbered : (s : Shelf) (p t : ℕ) → AllNumbered (oneSource s p t)
-one-numbered s p t = (numbered (above p) 0, (numbered (above t) 0, (numbered (empty s p) 10, (numbered (full s t) 11, tt))))
+each-numbered : (f : ℕ → Bool) (k : ℕ) (L : List ℕ) → AllNumbered (eachTested f (suc k) L)
+each-numbered f k [] = tt
+each-numbered f k (p ∷ L) = (numbered (f p) k, each-numbered f k L)
 
-pub two-numbered : (s : Shelf) (l r t : ℕ) → AllNumbered (twoSources s l r t)
-two-numbered s l r t =
-    let states : AllNumbered (when (empty s l) 11 ∷ when (empty s r) 11 ∷ when (full s t) 12 ∷ when (differ s l r) 13 ∷ []) =
-    (numbered (empty s l) 10, (numbered (empty s r) 10, (numbered (full s t) 11, (numbered (differ s l r) 12, tt)))) in
-    (numbered (above l) 0, (numbered (above r) 0, (numbered (above t) 0, states)))
+alike-numbered : (rows : ℕ → ℕ) (L : List ℕ) → AllNumbered (alikeTests rows L)
+alike-numbered rows [] = tt
+alike-numbered rows (p ∷ L) = each-numbered (differ rows p) 12 L
+
+pub sources-numbered : (s : Shelf) (L : List ℕ) (t : ℕ) → AllNumbered (sourcesTo (rowsAt s) L t)
+sources-numbered s L t =
+    let rows = rowsAt s in
+    all-numbered (eachTested above 1 L) _ (each-numbered above 0 L)
+    (numbered (above t) 0, all-numbered (eachTested (empty rows) 11 L) _ (each-numbered (empty rows) 10 L) (numbered (full rows t) 11, alike-numbered rows L))
 
 -- A PROMISE P of the shelf, the bound and the steps
 module _ (P : Shelf → ℕ → ℕ → Type 0) where
@@ -90,22 +101,31 @@ operation-answered L t n o ready numbers s good c e =
 module _ (s : Shelf) (good : Good s) where
   pub product-answered : (l r t : ℕ) → Answered (answerOf (checked s (product l r t))) t (rowsAt s l) (productAt s l r)
   unfolding run
-  product-answered l r t = operation-answered (twoSources s l r t) t _ _ (product-ready s good l r t) (two-numbered s l r t) s good (product l r t) refl
+  product-answered l r t =
+      operation-answered (twoSources s l r t) t _ _ (product-ready s good l r t) (sources-numbered s (l ∷ r ∷ []) t) s good (product l r t) refl
 
   pub inverse-answered : (p t : ℕ) → Answered (answerOf (checked s (inverse p t))) t (rowsAt s p) (inverseAt s p)
   unfolding run
-  inverse-answered p t = operation-answered (oneSource s p t) t _ _ (whole-ready s good inverted p t) (one-numbered s p t) s good (inverse p t) refl
+  inverse-answered p t =
+      operation-answered (oneSource s p t) t _ _ (whole-ready s good Inverted p t) (sources-numbered s (p ∷ []) t) s good (inverse p t) refl
 
   pub converse-answered : (p t : ℕ) → Answered (answerOf (checked s (converse p t))) t (rowsAt s p) (converseAt s p)
   unfolding run
-  converse-answered p t = operation-answered (oneSource s p t) t _ _ (whole-ready s good conversed p t) (one-numbered s p t) s good (converse p t) refl
+  converse-answered p t =
+      operation-answered (oneSource s p t) t _ _ (whole-ready s good Conversed p t) (sources-numbered s (p ∷ []) t) s good (converse p t) refl
 
   pub submatrix-answered : (p I J t : ℕ) → Answered (answerOf (checked s (submatrix p I J t))) t (rowsAt s p) (submatrixAt s p I J)
   unfolding run
   submatrix-answered p I J t =
       operation-answered (submatrixTests s p I J t) t _ _ (submatrix-ready s good p I J t)
       (one-more (chosenTests s p I J t) (singular (rowsAt s p) (submatrixAt s p I J)) 16
-      (one-more (oneSource s p t) (unfit (rowsAt s p) I J) 7 (one-numbered s p t))) s good (submatrix p I J t) refl
+      (one-more (oneSource s p t) (unfit (rowsAt s p) I J) 7 (sources-numbered s (p ∷ []) t))) s good (submatrix p I J t) refl
+
+  pub recipe-answered : (r : Recipe) (t : ℕ) → length (r .steps) ≡ 6 → Answered (answerOf (checked s (recipe r t))) t (joinedRows s r) (joinedAt s r)
+  unfolding run
+  recipe-answered r t long =
+      operation-answered (recipeTests s r t) t _ _ (recipe-ready s good r t long)
+      (numbered (miscounted (r .count)) 17, sources-numbered s (placesIn r) t) s good (recipe r t) refl
 
   -- THE PROMISE OF A BUILD
   pub build-answered : (t : ℕ) (stamps : List ℕ) → BuiltAnswer (answerOf (checked s (build t stamps))) t stamps

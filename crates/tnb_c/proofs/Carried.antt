@@ -16,7 +16,7 @@ use Rattle.places.specs.declared.Shelf.{Shelf}
 use Rattle.places.specs.Shelf.{rowsAt, factorsAt, Good}
 use Rattle.places.specs.Check.{isGood}
 use Rattle.places.specs.Outcome.{Outcome}
-use Rattle.places.specs.Tests.{above, empty}
+use Rattle.conditions.specs.Conditions.{above, empty}
 use Rattle.places.proofs.Checking.{good-tested}
 use Rattle.shelf.specs.Calls.{placeCarryTests, carryCall}
 use Rattle.shelf.specs.Run.{carry, run}
@@ -33,7 +33,7 @@ module _ (s : Shelf) (p : ℕ) (given out : List ℤ) where
       let outside = anyOutside (carriedList n (factorsAt s p) (itemsOf given)) in
       let lists : AllNumbered (carryTests n (factorsAt s p) given out) =
       (numbered (not (proper n n (listOf given))) 8, (numbered outside 13, (numbered (ltb (length out) (3 * n)) 9, tt))) in
-      (numbered (above p) 0, (numbered (empty s p) 10, lists))
+      (numbered (above p) 0, (numbered (empty (rowsAt s) p) 10, lists))
 
   -- what an outcome promises of the list that it leaves
   abbrev SteadyOutcome : Outcome → Type 0

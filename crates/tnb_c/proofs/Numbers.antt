@@ -1,5 +1,5 @@
 -- A refusal never has the number 0, which says accepted: so of every list of tests whose numbers are above 0 (`numbered`, `behind-numbered`, `one-more`,
--- `numbered-accepted`).
+-- `all-numbered`, `numbered-accepted`).
 use Prim.Native.Nat.{ℕ, suc, _<_}
 use native.Mathlib.Omega.{arith}
 use mathlib.Core.Path.{_≡_, refl}
@@ -38,6 +38,11 @@ behind-numbered v (w ∷ L) g h = behind-numbered (orElse v w) L (or-numbered v 
 pub one-more : (L : List Verdict) (b : Bool) (k : ℕ) → AllNumbered L → AllNumbered (L ++ (when b (suc k) ∷ []))
 one-more [] b k h = (numbered b k, tt)
 one-more (v ∷ L) b k h = (h .0, one-more L b k (h .1))
+
+-- one list of tests behind another
+pub all-numbered : (L M : List Verdict) → AllNumbered L → AllNumbered M → AllNumbered (L ++ M)
+all-numbered [] M g h = h
+all-numbered (v ∷ L) M g h = (g .0, all-numbered L M (g .1) h)
 
 -- so a number 0 is that of an accepted call
 pub numbered-accepted : (v : Verdict) (values : List ℤ) → Numbered v → numberOf (reportOf v values) ≡ 0 → v ≡ Accepted

@@ -2,7 +2,7 @@
 -- call is run (`run`, the one list of calls), any other is turned away with 255 (`foreign`). What a call does as a struct that C can hold: `answerOf`,
 -- `lengthOf`, `valueOf`, `workedOf`, `statusOf`. Demand 3 of an answer: `Answered`; the promise of a build: `BuiltAnswer`; of a carry: `SteadyStatus`; of a
 -- worked number: `LoggedAnswer`; of a sentence: `SentenceAnswer`. Any sequence of calls: `afterAnswers`.
-use Prim.Native.Nat.{ℕ, _≤_}
+use Prim.Native.Nat.{ℕ, _≤_, _<_}
 use mathlib.Core.Path.{_≡_}
 use mathlib.Core.Bool.{cond}
 use mathlib.Core.List.{List, []}
@@ -20,14 +20,17 @@ use Rattle.places.specs.Outcome.{Outcome}
 use Rattle.notices.specs.Sentence.{Notice, isUnsayable}
 use Rattle.notices.specs.Promise.{TellsOnly, sentenceRoom}
 use Rattle.lists.specs.Promise.{NoMoreReversals}
-use Rattle.operations.specs.declared.Task.{Task}
+use Rattle.walk.specs.declared.Way.{Way}
+use Rattle.recipes.specs.Recipe.{taken}
+use Rattle.recipes.specs.Codes.{stepCode, stepBy}
 use Rattle.operations.specs.Promise.{Met, Built}
-use Rattle.shelf.specs.Run.{Call, load, write, byteLength, drop, operate, forecast, build, minor, run, afterEach}
+use Rattle.shelf.specs.Run.{Call, load, write, byteLength, drop, operate, forecast, recipe, forecastRecipe, build, minor, run, afterEach}
 use Rattle.shelf.specs.Run.{carry, reversals, arithmetic, rest, sentence, rows, factor}
 use Rattle.tnb_c.specs.declared.Answer.{Answer}
 use Rattle.tnb_c.specs.declared.Length.{Length}
 use Rattle.tnb_c.specs.declared.Status.{Status}
 use Rattle.tnb_c.specs.declared.Steps.{Steps}
+use Rattle.tnb_c.specs.declared.recipe.Step.{Step}
 use Rattle.tnb_c.specs.declared.Value.{Value}
 use Rattle.tnb_c.specs.declared.Worked.{Worked}
 
@@ -42,6 +45,8 @@ foreign s (byteLength p) = turnedAway s [] []
 foreign s (drop p) = turnedAway s [] []
 foreign s (operate o t) = turnedAway s [] []
 foreign s (forecast o) = turnedAway s [] []
+foreign s (recipe r t) = turnedAway s [] []
+foreign s (forecastRecipe r) = turnedAway s [] []
 foreign s (build t stamps) = turnedAway s [] []
 foreign s (minor p I J) = turnedAway s [] []
 foreign s (carry p items out) = turnedAway s [] out
@@ -102,6 +107,10 @@ workedOf r = record {
 abbrev pub statusOf : Report → Status
 statusOf r = record { number = numberOf r; offset = offsetOf r }
 
+-- a step of a recipe, as C holds it
+abbrev pub stepOf : Way → ℕ → Step
+stepOf w p = record { code = stepCode w p }
+
 abbrev pub stepsOf : Report → Steps
 stepsOf r = record { number = numberOf r; offset = offsetOf r; steps = natAbs (valueAt 0 r) }
 
@@ -117,13 +126,18 @@ Answered a t n o = Promising (λ s k e. Met s t n o k e) a
 abbrev pub BuiltAnswer : Answer → (t : ℕ) → (stamps : List ℕ) → Type 0
 BuiltAnswer a t stamps = Promising (λ s k e. Built s t stamps k) a
 
--- THE PROMISE OF A FORECAST (document 02, request (k)): to whatever place, an operation that is answered 0 was foretold, and made just those steps
-abbrev pub ForetoldAnswer : Shelf → Task → Steps → Type 0
-ForetoldAnswer s o f = (t : ℕ) → (let a = answerOf (checked s (operate o t)) in a .number ≡ 0 → (f .number ≡ 0) × (f .steps ≡ a .steps))
+-- THE PROMISE OF A FORECAST (document 02, request (k)): to whatever place, an operation or recipe that is answered 0 was foretold, and made just those steps
+abbrev pub ForetoldAnswer : Shelf → (ℕ → Call) → Steps → Type 0
+ForetoldAnswer s call f = (t : ℕ) → (let a = answerOf (checked s (call t)) in a .number ≡ 0 → (f .number ≡ 0) × (f .steps ≡ a .steps))
 
 -- and of a length: whatever is lent, a write that is answered 0 took just so many bytes
 abbrev pub MeasuredAnswer : Shelf → ℕ → Length → Type 0
 MeasuredAnswer s p f = (out : List ℕ) → (let w = lengthOf (checked s (write p out) .report) in w .number ≡ 0 → (f .number ≡ 0) × (f .length ≡ w .length))
+
+-- THE PROMISE OF A STEP (document 02, request (f)): a recipe takes it for this place in this way; a place above 7 is told by 8, which is no place either
+pub record StepAnswer (w : Way) (p : ℕ) (x : Step) : Type 0 where
+  pub there : p < 8 → stepBy (x .code) ≡ taken w p
+  pub above : 8 ≤ p → stepBy (x .code) ≡ taken w 8
 
 -- THE PROMISE OF A CARRY (document 02, request (b)): where its number is 0, the list that was written has no more reversals than the list that was given
 abbrev pub SteadyStatus : Status → (given out : List ℤ) → Type 0

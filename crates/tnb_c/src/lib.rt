@@ -8,7 +8,8 @@ ghost use Rattle.lists.specs.Lists.{reversalsCall};
 ghost use Rattle.arithmetic.specs.Arithmetic.{arithmeticCall};
 ghost use Rattle.notices.specs.Sentence.{notice, sentenceReport, bytesAfterSentence};
 ghost use Rattle.operations.specs.Operations.{productAt, inverseAt, converseAt, submatrixAt};
-ghost use Rattle.shelf.specs.Run.{load, drop, write, byteLength, product, inverse, converse, submatrix, transpose, build, minor, forecast, carry, rows, factor};
+ghost use Rattle.shelf.specs.Run.{load, drop, write, byteLength, product, inverse, converse, submatrix, transpose, build, minor, operate, forecast};
+ghost use Rattle.shelf.specs.Run.{carry, rows, factor};
 ghost use Rattle.tnb_c.specs.Answers.{checked, answerOf, lengthOf, valueOf, workedOf, statusOf, stepsOf};
 ghost use Rattle.tnb_c.specs.Answers.{Answered, BuiltAnswer, ForetoldAnswer, MeasuredAnswer, SteadyStatus, LoggedAnswer, SentenceAnswer};
 use arithmetic::Operator;
@@ -17,6 +18,7 @@ use places::Shelf;
 use places::check;
 
 mod answers; // answers.rt: the shelf's answers as structs
+mod recipe; // recipe.rt: recipes and their steps
 
 // What a call answers that may change the shelf: 0, or the number of the refusal with its offset; the bound of an operation or a build and the steps of an
 // operation, else 0; and the shelf after it.
@@ -194,7 +196,7 @@ pub extern "C" fn tnb_transpose(shelf: Shelf, source: usize, target: usize) -> A
 // The steps that an operation will make.
 fn foretold(shelf: Shelf, task: Task) -> Steps
     ensures { λ r. ⌜ r ≡ stepsOf (checked shelf (forecast task) .report) ⌝ }
-    ensures { λ r. ⌜ ForetoldAnswer shelf task r ⌝ }
+    ensures { λ r. ⌜ ForetoldAnswer shelf (operate task) r ⌝ }
 {
     if check::is_good(shelf) {
         return answers::foretold(operations::forecast(shelf, task));
@@ -210,7 +212,7 @@ fn foretold(shelf: Shelf, task: Task) -> Steps
 #[no_mangle]
 pub extern "C" fn tnb_forecast_product(shelf: Shelf, left: usize, right: usize) -> Steps
     ensures { λ r. ⌜ r ≡ stepsOf (checked shelf (forecast (Task.Product left right)) .report) ⌝ }
-    ensures { λ r. ⌜ ForetoldAnswer shelf (Task.Product left right) r ⌝ }
+    ensures { λ r. ⌜ ForetoldAnswer shelf (operate (Task.Product left right)) r ⌝ }
 {
     foretold(shelf, Task::Product { left, right })
 }
@@ -219,7 +221,7 @@ pub extern "C" fn tnb_forecast_product(shelf: Shelf, left: usize, right: usize) 
 #[no_mangle]
 pub extern "C" fn tnb_forecast_inverse(shelf: Shelf, source: usize) -> Steps
     ensures { λ r. ⌜ r ≡ stepsOf (checked shelf (forecast (Task.Inverse source)) .report) ⌝ }
-    ensures { λ r. ⌜ ForetoldAnswer shelf (Task.Inverse source) r ⌝ }
+    ensures { λ r. ⌜ ForetoldAnswer shelf (operate (Task.Inverse source)) r ⌝ }
 {
     foretold(shelf, Task::Inverse(source))
 }
@@ -228,7 +230,7 @@ pub extern "C" fn tnb_forecast_inverse(shelf: Shelf, source: usize) -> Steps
 #[no_mangle]
 pub extern "C" fn tnb_forecast_converse(shelf: Shelf, source: usize) -> Steps
     ensures { λ r. ⌜ r ≡ stepsOf (checked shelf (forecast (Task.Converse source)) .report) ⌝ }
-    ensures { λ r. ⌜ ForetoldAnswer shelf (Task.Converse source) r ⌝ }
+    ensures { λ r. ⌜ ForetoldAnswer shelf (operate (Task.Converse source)) r ⌝ }
 {
     foretold(shelf, Task::Converse(source))
 }
@@ -237,7 +239,7 @@ pub extern "C" fn tnb_forecast_converse(shelf: Shelf, source: usize) -> Steps
 #[no_mangle]
 pub extern "C" fn tnb_forecast_transpose(shelf: Shelf, source: usize) -> Steps
     ensures { λ r. ⌜ r ≡ stepsOf (checked shelf (forecast (Task.Transpose source)) .report) ⌝ }
-    ensures { λ r. ⌜ ForetoldAnswer shelf (Task.Transpose source) r ⌝ }
+    ensures { λ r. ⌜ ForetoldAnswer shelf (operate (Task.Transpose source)) r ⌝ }
 {
     foretold(shelf, Task::Transpose(source))
 }
@@ -251,7 +253,7 @@ pub extern "C" fn tnb_forecast_submatrix(
     columns: u8,
 ) -> Steps
     ensures { λ r. ⌜ r ≡ stepsOf (checked shelf (forecast (Task.Submatrix source rows columns)) .report) ⌝ }
-    ensures { λ r. ⌜ ForetoldAnswer shelf (Task.Submatrix source rows columns) r ⌝ }
+    ensures { λ r. ⌜ ForetoldAnswer shelf (operate (Task.Submatrix source rows columns)) r ⌝ }
 {
     foretold(
         shelf,

@@ -1,6 +1,5 @@
--- Laws of verdicts: one list of tests behind another (`first-append`, `first-last`), and what a passed test has shown (`or-else-both`, `when-passed`,
--- `first-passed`, `when-accepted`,
--- `report-accepted`).
+-- Laws of verdicts: one list of tests behind another (`first-append`, `first-last`), and what a passed test has shown (`or-else-both`, `append-passed`,
+-- `when-passed`, `first-passed`, `when-accepted`, `report-accepted`); the first test of a list, by its condition (`when-refused`, `when-left`).
 -- All by cases on a verdict: behind a refusal nothing changes.
 use Prim.Native.Nat.{ℕ}
 use native.Mathlib.Omega.{arith}
@@ -11,9 +10,9 @@ use lib.IntN.{ℤ}
 use Rattle.verdict.specs.declared.Verdict.{Verdict}
 use Rattle.verdict.specs.declared.Verdict.the-variants.{Accepted, Refused}
 use Rattle.verdict.specs.Report.{accepted, reportOf}
-use Rattle.verdict.specs.Verdict.{firstBehind, firstOf, orElse, when}
+use Rattle.verdict.specs.Verdict.{refusedAt, firstBehind, firstOf, orElse, when}
 
-or-else-assoc : (u v w : Verdict) → orElse u (orElse v w) ≡ orElse (orElse u v) w
+pub or-else-assoc : (u v w : Verdict) → orElse u (orElse v w) ≡ orElse (orElse u v) w
 or-else-assoc Accepted v w = refl
 or-else-assoc (Refused r) v w = refl
 
@@ -44,6 +43,9 @@ pub or-else-both : (u v : Verdict) → orElse u v ≡ Accepted → (u ≡ Accept
 or-else-both Accepted v e = (refl, e)
 or-else-both (Refused w) v e = absurd (let z : _≡_ {A = ℕ} 0 1 = cc in omega arith)
 
+pub append-passed : (L M : List Verdict) → firstOf (L ++ M) ≡ Accepted → (firstOf L ≡ Accepted) × (firstOf M ≡ Accepted)
+append-passed L M e = or-else-both (firstOf L) (firstOf M) (sym (first-append L M) ∙ e)
+
 pub when-passed : (t : Bool) (k : ℕ) → when t k ≡ Accepted → t ≡ false
 when-passed false k e = refl
 when-passed true k e = absurd (let z : _≡_ {A = ℕ} 0 1 = cc in omega arith)
@@ -58,6 +60,15 @@ when-accepted true k L e =
     let h = or-else-both (when true k) (firstOf L) (sym (first-behind (when true k) L) ∙ e) in
     absurd (let g : when true k ≡ Accepted = h .0 in let z : _≡_ {A = ℕ} 0 1 = cc in omega arith)
 when-accepted false k L e = (refl, e)
+
+-- where its condition holds, and where it does not
+pub when-refused : {c : Bool} (k : ℕ) (L : List Verdict) → c ≡ true → firstOf (when c k ∷ L) ≡ refusedAt k 0
+unfolding firstBehind
+when-refused k L e = ap (λ (b : Bool). firstOf (when b k ∷ L)) e ∙ first-behind (refusedAt k 0) L
+
+pub when-left : {c : Bool} (k : ℕ) (L : List Verdict) → c ≡ false → firstOf (when c k ∷ L) ≡ firstOf L
+unfolding firstBehind
+when-left k L e = ap (λ (b : Bool). firstOf (when b k ∷ L)) e
 
 -- a report says whether the call was accepted
 pub report-accepted : (v : Verdict) (values : List ℤ) → reportOf v values ≡ accepted values → v ≡ Accepted

@@ -10,7 +10,7 @@ use borrow.Author.Tests.{ltb-true, eqb-false, not-true}
 use lib.Dec.{T, eqb, leb, ltb, eqb→eq, leb→le}
 use lib.ListN.{getD, length, replicate}
 use Rattle.rowset.proofs.Finite.{and-left, and-right, T-true, all, all-at}
-use Rattle.words.specs.Word.{Letter, E, Et, D, Dinv, Word, ascending, descending, word, inverseWord, converseWord}
+use Rattle.words.specs.Word.{Letter, E, Et, D, Dinv, Word, ascending, descending, word, inverseWord, converseWord, transposedWord}
 use Rattle.walk.specs.declared.Way.{Way}
 use Rattle.walk.specs.declared.Way.the-variants.{Plain, Inverted, Conversed, Transposed}
 use Rattle.walk.specs.declared.letters.Move.{Move}
@@ -136,7 +136,7 @@ unfolding spelt along right entries same within adjacent staged plainMove moveBy
 converse-all = tt
 
 transpose-all : T (all 8 (λ n. spelt n Transposed))
-unfolding spelt along right entries same within adjacent staged plainMove moveBy placeWord word ascending descending
+unfolding spelt along right entries same within adjacent staged plainMove moveBy placeWord word ascending descending transposedWord
 transpose-all = tt
 
 -- WHAT THE TEST SAYS

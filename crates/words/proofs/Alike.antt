@@ -1,12 +1,12 @@
 -- Words whose letters correspond one by one (`Matched P`): the word of a matrix (matched-word), words joined (matched-append), the inverse's word and the
--- converse's (matched-inverse, matched-converse). So the words of steps whose sources are alike (Alike, AlikeSteps): letters-joined. Steps are alike in other
--- numbers (alike-each). A word corresponds to itself in its weights and entries (letters-self).
-use mathlib.Core.Path.{_≡_, refl, sym, ap}
+-- converse's (matched-inverse, matched-converse), the transposed word (matched-transposed). So the words of steps whose sources are alike (Alike,
+-- AlikeSteps): letters-joined. Steps are alike in other numbers (alike-each). A word corresponds to itself in its weights and entries (letters-self).
+use mathlib.Core.Path.{_≡_, refl, ap}
 use mathlib.Core.List.{List, [], _∷_, _++_}
 use Prim.Native.Nat.{ℕ, zero, suc, _+_, _-_, _≤_, _<_}
 use native.Mathlib.Omega.{arith}
 use Rattle.words.specs.Word.{Factors, Letter, E, Et, D, Dinv, Word, ascending, descending, forUp, word, inverseLetter, inverseWord, converseLetter}
-use Rattle.words.specs.Word.{converseWord, exchanged}
+use Rattle.words.specs.Word.{converseWord, transposedLetter, transposedWord}
 use Rattle.words.specs.Operation.{Way, plain, inverted, conversed, transposed, Step, step, stepWord, joinedWord, eachSteps}
 use Rattle.words.proofs.Walks.{All}
 use Rattle.words.specs.Sources.{Weighted, Sources}
@@ -66,6 +66,12 @@ module _ {A B : Type 0} (P : Letter A → Letter B → Type 0) where
   matched-converse n h [] [] g = tt
   matched-converse n h (x ∷ U) (y ∷ X) g = (h x y (g .0), matched-converse n h U X (g .1))
 
+  pub matched-transposed : ((x : Letter A) (y : Letter B) → P x y → P (transposedLetter x) (transposedLetter y)) → (U : Word A) (X : Word B) → Matched P U X
+      → Matched P (transposedWord U) (transposedWord X)
+  unfolding transposedWord
+  matched-transposed h [] [] g = tt
+  matched-transposed h (x ∷ U) (y ∷ X) g = matched-append (transposedWord U) (transposedWord X) _ _ (matched-transposed h U X (g .1)) (h x y (g .0), tt)
+
 -- A WORD AND ITSELF, where only the weights and entries of one side are looked at
 pub letters-self : {A : Type 0} (P Q : A → Type 0) (n : ℕ) (W : Word A) → All (Weights P Q n) W → Matched (Letters (λ w v. P w) (λ e f. Q e) n) W W
 letters-self P Q n [] h = tt
@@ -79,9 +85,6 @@ module _ {A B : Type 0} (P Q : A → B → Type 0) (n : ℕ) where
   pub record Alike (b : Factors A) (c : Factors B) : Type 0 where
     pub off : (i j : ℕ) → 1 ≤ i → i ≤ n → 1 ≤ j → j ≤ n → (i ≡ j → ⊥) → P (b i j) (c i j)
     pub on : (i : ℕ) → 1 ≤ i → i ≤ n → Q (b i i) (c i i)
-
-  alike-exchanged : (b : Factors A) (c : Factors B) → Alike b c → Alike (exchanged b) (exchanged c)
-  alike-exchanged b c h = record { off = λ i j p q r s e. h .off j i r s p q (λ f. e (sym f)); on = h .on }
 
   pub letters-word : (b : Factors A) (c : Factors B) → Alike b c → Matched (Letters P Q n) (word n b) (word n c)
   letters-word b c h =
@@ -102,6 +105,12 @@ module _ {A B : Type 0} (P Q : A → B → Type 0) (n : ℕ) where
   letters-converse (D e) (D f) h = λ i x y. h (n + 1 - i) (omega arith) (omega arith)
   letters-converse (Dinv e) (Dinv f) h = λ i x y. h (n + 1 - i) (omega arith) (omega arith)
 
+  letters-transposed : (x : Letter A) (y : Letter B) → Letters P Q n x y → Letters P Q n (transposedLetter x) (transposedLetter y)
+  letters-transposed (E j w) (E i v) h = h
+  letters-transposed (Et j w) (Et i v) h = h
+  letters-transposed (D e) (D f) h = h
+  letters-transposed (Dinv e) (Dinv f) h = h
+
   -- steps taken the same way, their sources alike
   pub data AlikeStep : Step A → Step B → Type 0 where
     alike : {w : Way} {b : Factors A} {c : Factors B} → Alike b c → AlikeStep (step w b) (step w c)
@@ -116,7 +125,8 @@ module _ {A B : Type 0} (P Q : A → B → Type 0) (n : ℕ) where
   letters-step (step plain b) (step plain c) (alike h) = letters-word b c h
   letters-step (step inverted b) (step inverted c) (alike h) = matched-inverse (Letters P Q n) letters-inverse (word n b) (word n c) (letters-word b c h)
   letters-step (step conversed b) (step conversed c) (alike h) = matched-converse (Letters P Q n) n letters-converse (word n b) (word n c) (letters-word b c h)
-  letters-step (step transposed b) (step transposed c) (alike h) = letters-word (exchanged b) (exchanged c) (alike-exchanged b c h)
+  letters-step (step transposed b) (step transposed c) (alike h) =
+      matched-transposed (Letters P Q n) letters-transposed (word n b) (word n c) (letters-word b c h)
 
   pub letters-joined : (L : List (Step A)) (M : List (Step B)) → AlikeSteps L M → Matched (Letters P Q n) (joinedWord n L) (joinedWord n M)
   unfolding joinedWord

@@ -8,7 +8,7 @@ use native.Mathlib.Nat.{mul-le-mul}
 use native.Mathlib.Omega.{arith}
 use lib.ListN.{length}
 use Rattle.words.specs.Word.{Factors, Letter, E, Et, D, Dinv, Word, ascending, descending, forUp, forDown, word, inverseLetter, inverseWord, total}
-use Rattle.words.specs.Word.{converseLetter, converseWord, exchanged}
+use Rattle.words.specs.Word.{converseLetter, converseWord, transposedLetter, transposedWord}
 use Rattle.words.proofs.Related.{letterCost}
 use Rattle.words.specs.Operation.{plain, inverted, conversed, transposed, Step, step, stepWord, joinedWord}
 
@@ -114,11 +114,22 @@ module _ {A : Type 0} (f : Letter A → ℕ) where
     converse-total n [] = refl
     converse-total n (l ∷ W) = omega (arith, converse-total n W, converse-letter n l)
 
+    transposed-letter : (l : Letter A) → f (transposedLetter l) ≡ f l
+    transposed-letter (E j w) = moving j w .1 ∙ sym (moving j w .0)
+    transposed-letter (Et j w) = moving j w .0 ∙ sym (moving j w .1)
+    transposed-letter (D g) = refl
+    transposed-letter (Dinv g) = refl
+
+    transposed-total : (W : Word A) → total f (transposedWord W) ≡ total f W
+    unfolding transposedWord total
+    transposed-total [] = refl
+    transposed-total (l ∷ W) = total-append (transposedWord W) (transposedLetter l ∷ []) ∙ omega (arith, transposed-total W, transposed-letter l)
+
     step-total : (n : ℕ) (s : Step A) → 1 ≤ n → total f (stepWord n s) ≡ e * (n * n - n) + d
     step-total n (step plain b) l = word-total n b l
     step-total n (step inverted b) l = inverse-total (word n b) ∙ word-total n b l
     step-total n (step conversed b) l = converse-total n (word n b) ∙ word-total n b l
-    step-total n (step transposed b) l = word-total n (exchanged b) l
+    step-total n (step transposed b) l = transposed-total (word n b) ∙ word-total n b l
 
     joined-total : (n : ℕ) (L : List (Step A)) → 1 ≤ n → total f (joinedWord n L) ≡ length L * (e * (n * n - n) + d)
     unfolding joinedWord total

@@ -9,7 +9,7 @@ use Rattle.number.specs.Number.{roundBy, renormalised, sumBy, productBy, quotie
 use Rattle.number.specs.Signed.{signedRound, signedSum, withSign, signedProduct}
 use Rattle.words.specs.RowSet.{has, put, count, allBefore, equal, rows, ofMask, among}
 use Rattle.words.specs.Latest.{some, latest}
-use Rattle.words.specs.Word.{ascending, descending, word, inverseWord, converseWord, total}
+use Rattle.words.specs.Word.{ascending, descending, word, inverseWord, converseWord, transposedWord, total}
 use Rattle.words.specs.Walk.{oneAt, moved, scaled, act, walk, minor, carryLetter, carry}
 use Rattle.words.specs.Formula.{latestBefore, onDiagonal, belowDiagonal, bandedBelow, factorsBy}
 use Rattle.words.specs.Operation.{joinedWord, boundOf, rowByRow, result}
@@ -17,10 +17,10 @@ use Rattle.words.specs.Effort.{setsWith, updated, sumOver, factorSteps, 
 use Rattle.words.specs.Examples.{ruleTable, twoZerosTable, boundTable, stepsTable}
 
 pub rule-examples : AllHold ruleTable
-unfolding ruleTable has put count allBefore equal rows ofMask among ascending descending word inverseWord converseWord joinedWord oneAt moved scaled act walk
-    minor carryLetter carry some latest latestBefore onDiagonal belowDiagonal bandedBelow factorsBy result rowByRow roundBy renormalised sumBy productBy
-    quotientBy signedRound signedSum withSign signedProduct inRange size lib.Ieee.span lib.Ieee.climb mathlib.Core.Bool.xor
-rule-examples = (refl, (refl, (refl, (refl, (refl, (refl, (refl, (refl, (refl, (refl, (refl, tt)))))))))))
+unfolding ruleTable has put count allBefore equal rows ofMask among ascending descending word inverseWord converseWord transposedWord joinedWord
+    oneAt moved scaled act walk minor carryLetter carry some latest latestBefore onDiagonal belowDiagonal bandedBelow factorsBy result rowByRow
+    roundBy renormalised sumBy productBy quotientBy signedRound signedSum withSign signedProduct inRange size lib.Ieee.span lib.Ieee.climb mathlib.Core.Bool.xor
+rule-examples = (refl, (refl, (refl, (refl, (refl, (refl, (refl, (refl, (refl, (refl, (refl, (refl, tt))))))))))))
 
 pub zero-examples : AllHold twoZerosTable
 unfolding twoZerosTable has put count allBefore equal rows ofMask ascending descending word oneAt moved scaled act walk minor some latest latestBefore
@@ -29,7 +29,7 @@ zero-examples = (refl, (refl, (refl, tt)))
 
 pub bound-examples : AllHold boundTable
 unfolding boundTable ascending
-bound-examples = (refl, (refl, (refl, tt)))
+bound-examples = (refl, (refl, (refl, (refl, (refl, tt)))))
 
 pub steps-examples : AllHold stepsTable
 unfolding stepsTable setsWith updated total sumOver factorSteps stepsMade choose quotientSteps has put count allBefore equal rows ofMask among ascending

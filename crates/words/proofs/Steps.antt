@@ -1,19 +1,19 @@
 -- The words of steps: what holds of every letter of a step's word (step-all) and of joined words (joined-all), where the sources' factors have a property
 -- (Sources; sources-at of one of them). So the rows of joined words are among 1 .. n (joined-rows), and their weights have what the factors off the diagonal
 -- have, their entries what those on it have (joined-weights). The walk of joined words (walk-joined).
-use mathlib.Core.Path.{_≡_, refl, sym, subst}
+use mathlib.Core.Path.{_≡_, refl, subst}
 use mathlib.Core.List.{List, [], _∷_}
 use Prim.Native.Nat.{ℕ, zero, suc, _+_, _-_}
 use native.Mathlib.Omega.{arith}
 use lib.ListN.{drop}
 use Rattle.fraction.specs.Arithmetic.{Arithmetic}
 use Rattle.words.specs.RowSet.{In}
-use Rattle.words.specs.Word.{Factors, Letter, E, Et, D, Dinv, word, exchanged, inverseLetter, converseLetter}
+use Rattle.words.specs.Word.{Factors, Letter, E, Et, D, Dinv, word, inverseLetter, converseLetter, transposedLetter}
 use Rattle.words.specs.Walk.{State, walk}
 use Rattle.words.specs.Operation.{Step, step, plain, inverted, conversed, transposed, stepWord, joinedWord, eachFactor, eachSteps}
 use Rattle.words.specs.Sources.{Each, Weighted, Source, Sources}
 use Rattle.words.proofs.Walks.{Rows, All, all-append, walk-append}
-use Rattle.words.proofs.Words.{inverse-all, converse-all, inverse-row, converse-row}
+use Rattle.words.proofs.Words.{inverse-all, converse-all, transposed-all, inverse-row, converse-row, transposed-row}
 use Rattle.words.proofs.Stages.{word-all, word-rows}
 
 -- SOURCES in other numbers; and with a property that follows from another
@@ -45,17 +45,17 @@ module _ {A : Type 0} (R P Q : A → Type 0) (p : (x : A) → R x → P x) (q : 
   pub each-weighted : (b : Factors A) → Each R n b → Weighted P Q n b
   each-weighted b h = record { off = λ i j x y e. p (b i j) (h i j x y); on = λ i x. q (b i i) (h i i x x) }
 
--- EVERY LETTER has a property that the words of such sources have, and that letters keep in the inverse's word and in the converse's
+-- EVERY LETTER has a property that the words of such sources have, and that letters keep in the inverse's word, the converse's and the transposed one
 module _ {A : Type 0} (T : Factors A → Type 0) (Q : Letter A → Type 0) (n : ℕ)
     (in-word : (b : Factors A) → T b → All Q (word n b))
     (in-inverse : (l : Letter A) → Q l → Q (inverseLetter l))
     (in-converse : (l : Letter A) → Q l → Q (converseLetter n l))
-    (in-exchanged : (b : Factors A) → T b → T (exchanged b)) where
+    (in-transposed : (l : Letter A) → Q l → Q (transposedLetter l)) where
   pub step-all : (s : Step A) → Source T s → All Q (stepWord n s)
   step-all (step plain b) h = in-word b h
   step-all (step inverted b) h = inverse-all Q Q in-inverse (word n b) (in-word b h)
   step-all (step conversed b) h = converse-all Q Q n in-converse (word n b) (in-word b h)
-  step-all (step transposed b) h = in-word (exchanged b) (in-exchanged b h)
+  step-all (step transposed b) h = transposed-all Q Q in-transposed (word n b) (in-word b h)
 
   pub joined-all : (L : List (Step A)) → Sources T L → All Q (joinedWord n L)
   unfolding joinedWord
@@ -69,10 +69,10 @@ module _ {A : Type 0} (n : ℕ) where
   Any b = Unit {0}
 
   pub step-rows : (s : Step A) → All (Rows n) (stepWord n s)
-  step-rows (step w b) = step-all Any (Rows n) n (λ c h. word-rows n c) (inverse-row n) (converse-row n) (λ c h. tt) (step w b) tt
+  step-rows (step w b) = step-all Any (Rows n) n (λ c h. word-rows n c) (inverse-row n) (converse-row n) (transposed-row n) (step w b) tt
 
   pub joined-rows : (L : List (Step A)) → All (Rows n) (joinedWord n L)
-  joined-rows L = joined-all Any (Rows n) n (λ c h. word-rows n c) (inverse-row n) (converse-row n) (λ c h. tt) L (any L)
+  joined-rows L = joined-all Any (Rows n) n (λ c h. word-rows n c) (inverse-row n) (converse-row n) (transposed-row n) L (any L)
     where
       any : (L : List (Step A)) → Sources Any L
       any [] = tt
@@ -103,14 +103,17 @@ module _ {A : Type 0} (P Q : A → Type 0) (n : ℕ) where
   converse-weight (D e) h = λ i x. h (n + 1 - i) (omega (arith, x .1), omega (arith, x .0))
   converse-weight (Dinv e) h = λ i x. h (n + 1 - i) (omega (arith, x .1), omega (arith, x .0))
 
-  exchanged-weighted : (b : Factors A) → Weighted P Q n b → Weighted P Q n (exchanged b)
-  exchanged-weighted b h = record { off = λ i j x y e. h .off j i y x (λ f. e (sym f)); on = h .on }
+  transposed-weight : (l : Letter A) → Weights P Q n l → Weights P Q n (transposedLetter l)
+  transposed-weight (E j w) h = h
+  transposed-weight (Et j w) h = h
+  transposed-weight (D e) h = h
+  transposed-weight (Dinv e) h = h
 
   pub step-weights : (s : Step A) → Source (Weighted P Q n) s → All (Weights P Q n) (stepWord n s)
-  step-weights = step-all (Weighted P Q n) (Weights P Q n) n word-weights inverse-weight converse-weight exchanged-weighted
+  step-weights = step-all (Weighted P Q n) (Weights P Q n) n word-weights inverse-weight converse-weight transposed-weight
 
   pub joined-weights : (L : List (Step A)) → Sources (Weighted P Q n) L → All (Weights P Q n) (joinedWord n L)
-  joined-weights = joined-all (Weighted P Q n) (Weights P Q n) n word-weights inverse-weight converse-weight exchanged-weighted
+  joined-weights = joined-all (Weighted P Q n) (Weights P Q n) n word-weights inverse-weight converse-weight transposed-weight
 
 -- the walk of joined steps: the first step's word is walked last
 pub walk-joined : (K : Arithmetic) (n : ℕ) (s : Step (K .Num)) (L : List (Step (K .Num))) (ω : State K)

@@ -65,14 +65,14 @@ module _ {A : Type 0} (P Q : Letter A → Type 0) where
 
 -- rows stay among 1 .. n
 module _ {A : Type 0} (n : ℕ) where
+  pub transposed-row : (l : Letter A) → Rows n l → Rows n (transposedLetter l)
+  transposed-row (E j w) h = h
+  transposed-row (Et j w) h = h
+  transposed-row (D e) h = h
+  transposed-row (Dinv e) h = h
+
   pub transposed-rows : (W : Word A) → All (Rows n) W → All (Rows n) (transposedWord W)
-  transposed-rows = transposed-all (Rows n) (Rows n) one
-    where
-      one : (l : Letter A) → Rows n l → Rows n (transposedLetter l)
-      one (E j w) h = h
-      one (Et j w) h = h
-      one (D e) h = h
-      one (Dinv e) h = h
+  transposed-rows = transposed-all (Rows n) (Rows n) transposed-row
 
   pub inverse-row : (l : Letter A) → Rows n l → Rows n (inverseLetter l)
   inverse-row (E j w) h = h

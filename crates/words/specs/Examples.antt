@@ -14,7 +14,8 @@ use Rattle.words.specs.RowSet.{ofMask}
 use Rattle.words.specs.Word.{Factors, word, forUp}
 use Rattle.words.specs.Walk.{minor, carry}
 use Rattle.words.specs.Formula.{latestBefore, newFactor}
-use Rattle.words.specs.Operation.{Operation, product, inverse, converse, submatrix, size, bound, rowByRow, result}
+use Rattle.words.specs.Operation as words
+use Rattle.words.specs.Operation.{transposed, step, Operation, joined, product, inverse, converse, submatrix, size, boundOf, bound, rowByRow, result}
 use Rattle.words.specs.Effort.{stepsMade, stepsForetold}
 
 -- the source whose factors are all one
@@ -73,6 +74,8 @@ ruleTable =
     ∷ row (factorsOf 2 (product ones higher)) (two ∷ fiveHalves ∷ threeHalves ∷ half ∷ [])  -- beside it: the left word, then the right word
     ∷ row (factorsOf 2 (inverse ones)) (two ∷ half ∷ half ∷ half ∷ [])
     ∷ row (factorsOf 2 (converse ones)) (two ∷ half ∷ half ∷ half ∷ [])
+    ∷ row (factorsOf 2 (joined (step words.plain ones ∷ step transposed higher ∷ [])))
+    (three ∷ down 2863311531 31 ∷ down 3579139413 31 ∷ down 2863311531 33 ∷ [])  -- times a transpose: 3 4, 5 7, so 3, 4/3, 5/3, 1/3
     ∷ row (factorsOf 3 (cornerOf ones)) (oneNumber ∷ two ∷ oneNumber ∷ oneNumber ∷ [])
     ∷ row (minor rounded (word 3 ones) (ofMask 3 5) (ofMask 3 5)) five  -- rows and columns 1 and 3
     ∷ row (factorsOf 1 (inverse (λ i j. three))) (down 2863311531 33 ∷ [])  -- the inverse of 3
@@ -96,6 +99,8 @@ unfoldable pub boundTable : List Row
 boundTable =
     row (forUp 1 8 (λ n. bound n (product ones ones) ∷ [])) (11 ∷ 51 ∷ 123 ∷ 227 ∷ 363 ∷ 531 ∷ 731 ∷ 963 ∷ [])
     ∷ row (forUp 1 8 (λ n. bound n (inverse ones) ∷ [])) (7 ∷ 27 ∷ 63 ∷ 115 ∷ 183 ∷ 267 ∷ 367 ∷ 483 ∷ [])
+    ∷ row (forUp 1 6 (λ m. boundOf m 8 ∷ [])) (483 ∷ 963 ∷ 1443 ∷ 1923 ∷ 2403 ∷ 2883 ∷ [])  -- of up to six steps
+    ∷ row (bound 2 (joined (step words.plain ones ∷ step transposed ones ∷ []))) 51  -- a transposed step counts like any other
     ∷ row (bound 3 (cornerOf ones)) 63  -- which goes by the source's rows
     ∷ []
 

@@ -6,7 +6,7 @@ use Prim.Native.Nat.{ℕ, _+_, _-_, _*_, _≤_}
 use lib.ListN.{length}
 use Rattle.fraction.specs.Arithmetic.{Arithmetic}
 use Rattle.words.specs.RowSet.{RowSet, count, among}
-use Rattle.words.specs.Word.{Factors, Word, word, inverseWord, converseWord, exchanged, forUp}
+use Rattle.words.specs.Word.{Factors, Word, word, inverseWord, converseWord, transposedWord, forUp}
 use Rattle.words.specs.Walk.{minor}
 use Rattle.words.specs.Formula.{newFactor}
 
@@ -27,7 +27,7 @@ module _ {A : Type 0} (n : ℕ) where
   stepWord (step plain b) = word n b
   stepWord (step inverted b) = inverseWord (word n b)
   stepWord (step conversed b) = converseWord n (word n b)
-  stepWord (step transposed b) = word n (exchanged b)
+  stepWord (step transposed b) = transposedWord (word n b)
 
   -- the words of the steps, joined in their order
   unfoldable pub joinedWord : List (Step A) → Word A

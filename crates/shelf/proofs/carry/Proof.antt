@@ -6,7 +6,9 @@ use Rattle.words.proofs.Banded.{banded-ranged}
 use Rattle.verdict.specs.declared.Verdict.the-variants.{Accepted}
 use Rattle.verdict.specs.Verdict.{firstOf}
 use Rattle.places.specs.Tests.{sourceTests}
-use Rattle.places.proofs.Verdicts.{Source, source-accepted}
+use Rattle.conditions.proofs.Passed.{Source}
+use Rattle.places.specs.Shelf.{rowsAt}
+use Rattle.places.proofs.Verdicts.{source-accepted}
 use Rattle.shelf.proofs.Carrying.{carry-turned, carry-done}
 use borrow.Author.Needs.{needs}
 use Rattle.shelf.proofs.carry.Statement.{statement}
@@ -22,7 +24,7 @@ told c = c .before .before .before .before
 accepted : (c : tie.After-enum-told) → firstOf (sourceTests (entry c .args .shelf) (entry c .args .place)) ≡ Accepted
 accepted c = sym (c .before .before .source .ensures) ∙ c .enum-told .given .1
 
-source : (c : tie.After-enum-told) → Source (entry c .args .shelf) (entry c .args .place)
+source : (c : tie.After-enum-told) → Source (rowsAt (entry c .args .shelf)) (entry c .args .place)
 source c = source-accepted _ _ (accepted c)
 
 source-requires : tie.Need-source-requires

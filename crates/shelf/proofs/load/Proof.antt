@@ -1,6 +1,6 @@
 -- A load: its place judged, the bytes read, and what was read put there (laws in Loading).
 use Rattle.verdict.specs.declared.Verdict.the-variants.{Accepted}
-use Rattle.places.specs.Shelf.{withTable}
+use Rattle.places.specs.Shelf.{rowsAt, withTable}
 use Rattle.shelf.specs.Calls.{changing}
 use Rattle.verdict.specs.Verdict.{firstOf}
 use Rattle.places.specs.Tests.{targetTests}
@@ -12,7 +12,7 @@ use lib.ListN.{take}
 use Rattle.group.specs.Group.{Bytes}
 use Rattle.reader.specs.declared.ReadOutcome.the-variants.{Matrix}
 use Rattle.reader.specs.Matrix.{OutcomeInside, matrix, matrixOf}
-use Rattle.places.proofs.Verdicts.{target-accepted}
+use Rattle.conditions.proofs.Passed.{target-accepted}
 use Rattle.shelf.proofs.Loading.{parsed-fault, parsed-matrix, square-taken, read-fits, load-turned, load-fault, load-behind, load-done, load-answered}
 use borrow.Author.Needs.{needs}
 use Rattle.shelf.proofs.load.Statement.{statement}
@@ -86,7 +86,7 @@ with-table-requires c κs =
     let told = o .before .before .before in
     let entry = told .before .before .before in
     let fits = read-fits _ (bytes-in entry) _ _ _ (found o) in
-    (entry .before .pre, target-accepted _ _ (accepted told) .small, rw (c .spread .ensures ∙ square-taken _ _) fits)
+    (entry .before .pre, target-accepted (rowsAt (entry .before .args .shelf)) _ (accepted told) .small, rw (c .spread .ensures ∙ square-taken _ _) fits)
 
 enum-known-outcome-2 : tie.Need-enum-known-outcome-2
 enum-known-outcome-2 c = search needs

@@ -1,7 +1,7 @@
 -- `foretold` meets its contract.
 use mathlib.Core.Path.{refl, sym, ap, _∙_}
 use Rattle.places.specs.Outcome.{Outcome}
-use Rattle.shelf.specs.Run.{forecast, run}
+use Rattle.shelf.specs.Run.{operate, forecast, run}
 use Rattle.tnb_c.specs.declared.Steps.{Steps}
 use Rattle.tnb_c.specs.Answers.{stepsOf}
 use Rattle.tnb_c.proofs.Checked.{answered, turned-away}
@@ -34,8 +34,10 @@ returns-2 : tie.Need-returns-2
 returns-2 c =
     let tested = c .before .is-good .ensures .0 in
     let a = c .before .before .args in
-    let is = turned-away (a .shelf) (forecast (a .task)) answer tested {r = record { number = 255; offset = 0; steps = 0 }} (c .if1 .left) refl in
-    (is, away-foretold (a .shelf) (sym tested ∙ c .if1 .left) (a .task) _ is)
+    let none : Steps = record { number = 255; offset = 0; steps = 0 } in (
+      turned-away (a .shelf) (forecast (a .task)) answer tested {r = none} (c .if1 .left) refl,
+      away-foretold (a .shelf) (sym tested ∙ c .if1 .left) (operate (a .task)) none (λ t. refl),
+    )
 
 pub foretold-spec : {M : Type 1} → statement M
 foretold-spec =

@@ -7,7 +7,8 @@ use Rattle.verdict.specs.declared.Verdict.the-variants.{Accepted}
 use Rattle.verdict.specs.Verdict.{firstOf, orElse, when}
 use Rattle.places.specs.Shelf.{rowsAt}
 use Rattle.rowset.proofs.Counts.{mask-count}
-use Rattle.places.proofs.Verdicts.{Source, Fit, rows-few}
+use Rattle.conditions.proofs.Passed.{Source}
+use Rattle.places.proofs.Verdicts.{Fit, rows-few}
 use Rattle.operations.specs.Operations.{setTests}
 use Rattle.operations.proofs.MinorCalls.{set-verdict, sets-passed}
 use Rattle.words.specs.Effort.{minorForetold, resultSteps}
@@ -34,7 +35,7 @@ passed c = sym (tested (c .before .before)) ∙ c .enum-told .given .1
 
 -- the source's rows, and sets that fit
 fit : (c : tie.After-enum-told)
-    → (let a = entry (c .before .before) .args in Source (a .shelf) (a .source) × Fit (rowsAt (a .shelf) (a .source)) (a .rows) (a .columns))
+    → (let a = entry (c .before .before) .args in Source (rowsAt (a .shelf)) (a .source) × Fit (rowsAt (a .shelf) (a .source)) (a .rows) (a .columns))
 fit c = let a = entry (c .before .before) .args in sets-passed (a .shelf) (a .source) (a .rows) (a .columns) (passed c)
 
 few : (c : tie.After-enum-told) → (let a = entry (c .before .before) .args in rowsAt (a .shelf) (a .source) ≤ 8)

@@ -4,7 +4,8 @@ use native.Mathlib.Omega.{arith}
 use mathlib.Core.Path.{_≡_, sym, _∙_}
 use Rattle.verdict.specs.declared.Verdict.the-variants.{Accepted}
 use Rattle.verdict.specs.Verdict.{firstOf}
-use Rattle.places.proofs.Verdicts.{Source, Fit}
+use Rattle.conditions.proofs.Passed.{Source}
+use Rattle.places.proofs.Verdicts.{Fit}
 use Rattle.places.specs.Shelf.{rowsAt}
 use Rattle.operations.specs.Operations.{submatrixTests, submatrixAt}
 use Rattle.walk.specs.Steps.{stepOf}
@@ -23,7 +24,7 @@ entry c = c .before .before .before
 accepted : (c : tie.After-enum-told) → (let a = entry c .args in firstOf (submatrixTests (a .shelf) (a .source) (a .rows) (a .columns) (a .target)) ≡ Accepted)
 accepted c = sym (c .before .before .submatrix-tests .ensures) ∙ c .enum-told .given .1
 
-fit : (c : tie.After-enum-told) → (let a = entry c .args in Source (a .shelf) (a .source) × Fit (rowsAt (a .shelf) (a .source)) (a .rows) (a .columns))
+fit : (c : tie.After-enum-told) → (let a = entry c .args in Source (rowsAt (a .shelf)) (a .source) × Fit (rowsAt (a .shelf) (a .source)) (a .rows) (a .columns))
 fit c = let a = entry c .args in submatrix-fit (a .shelf) (a .source) (a .rows) (a .columns) (a .target) (accepted c)
 
 ready : (c : tie.After-enum-told)

@@ -44,6 +44,12 @@ enum-known-command c = search needs
 answer-requires : tie.Need-answer-requires
 answer-requires c κs = search needs
 
+enum-known-command-2 : tie.Need-enum-known-command-2
+enum-known-command-2 c = search needs
+
+recipe-requires : tie.Need-recipe-requires
+recipe-requires c κs = search needs
+
 enum-told-5 : tie.Need-enum-told-5
 enum-told-5 c = search needs
 
@@ -139,6 +145,8 @@ to-command-spec =
     drop-requires
     enum-known-command
     answer-requires
+    enum-known-command-2
+    recipe-requires
     enum-told-5
     build-requires
     filled-requires
@@ -175,6 +183,8 @@ to-command-spec =
     arms.answered-drop
     arms.kept-operation
     arms.answered-operation
+    arms.kept-recipe
+    arms.answered-recipe
     arms.kept-build
     arms.answered-build
     arms.kept-minor

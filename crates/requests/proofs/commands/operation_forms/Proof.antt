@@ -1,4 +1,4 @@
--- `requests::commands::operation_forms` meets its contract: entry by entry, each by what `operation` ensures.
+-- `requests::commands::operation_forms` meets its contract: entry by entry, each by what `operation` or `named` ensures.
 use mathlib.Core.Path.{_∙_}
 use Rattle.requests.proofs.Forms.{onto}
 use borrow.Author.Needs.{needs}
@@ -35,17 +35,25 @@ slice-aggregate-operation-5 c = search needs
 operation-requires-5 : tie.Need-operation-requires-5
 operation-requires-5 c κs = search needs
 
+slice-aggregate-named : tie.Need-slice-aggregate-named
+slice-aggregate-named c = search needs
+
+named-requires : tie.Need-named-requires
+named-requires c κs = search needs
+
 returns : tie.Need-returns
 returns c =
-    let c4 = c .before .before .before in
+    let c5 = c .before .before .before in
+    let c4 = c5 .before .before .before in
     let c3 = c4 .before .before .before in
     let c2 = c3 .before .before .before in
     let c1 = c2 .before .before .before in
-    c .operation5 .ensures ∙ onto _ _ _
+    c .named .ensures ∙ onto _ _ _
+    (c5 .operation5 .ensures ∙ onto _ _ _
     (c4 .operation4 .ensures ∙ onto _ _ _
     (c3 .operation3 .ensures ∙ onto _ _ _
     (c2 .operation2 .ensures ∙ onto _ _ _
-    (c1 .operation .ensures))))
+    (c1 .operation .ensures)))))
 
 pub operation-forms-spec : {M : Type 1} → statement M
 operation-forms-spec =
@@ -61,4 +69,6 @@ operation-forms-spec =
     operation-requires-4
     slice-aggregate-operation-5
     operation-requires-5
+    slice-aggregate-named
+    named-requires
     returns)

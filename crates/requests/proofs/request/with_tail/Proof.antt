@@ -29,20 +29,14 @@ enum-told-3 c = search needs
 with-two-requires : tie.Need-with-two-requires
 with-two-requires c κs = search needs
 
-enum-told-4 : tie.Need-enum-told-4
-enum-told-4 c = search needs
+enum-known-tail : tie.Need-enum-known-tail
+enum-known-tail c = search needs
 
 with-wholes-requires : tie.Need-with-wholes-requires
 with-wholes-requires c κs = search needs
 
-enum-told-5 : tie.Need-enum-told-5
-enum-told-5 c = search needs
-
-with-wholes-requires-2 : tie.Need-with-wholes-requires-2
-with-wholes-requires-2 c κs = search needs
-
-enum-told-6 : tie.Need-enum-told-6
-enum-told-6 c = search needs
+enum-told-4 : tie.Need-enum-told-4
+enum-told-4 c = search needs
 
 with-nothing-requires : tie.Need-with-nothing-requires
 with-nothing-requires c κs = search needs
@@ -64,18 +58,14 @@ returns-4 c =
 
 returns-5 : tie.Need-returns-5
 returns-5 c =
-    let well = c .before .before .before .before .before in
-    c .with-wholes .ensures _ _ ∙ rw (c .before .before .enum-told4 .given .1, not-false (well .before .before .before .args .read .well) (well .if1 .left))
+    let well = c .before .before .before .before .before .before in
+    c .with-wholes .ensures _ _
+    ∙ rw (c .before .before .before .tail .given .1, not-false (well .before .before .before .args .read .well) (well .if1 .left))
 
 returns-6 : tie.Need-returns-6
 returns-6 c =
-    let well = c .before .before .before .before .before in
-    c .with-wholes2 .ensures _ _ ∙ rw (c .before .before .enum-told5 .given .1, not-false (well .before .before .before .args .read .well) (well .if1 .left))
-
-returns-7 : tie.Need-returns-7
-returns-7 c =
     let well = c .before .before .before .before in
-    c .with-nothing .ensures _ _ _ ∙ rw (c .before .enum-told6 .given .1, not-false (well .before .before .before .args .read .well) (well .if1 .left))
+    c .with-nothing .ensures _ _ _ ∙ rw (c .before .enum-told4 .given .1, not-false (well .before .before .before .args .read .well) (well .if1 .left))
 
 pub with-tail-spec : {M : Type 1} → statement M
 with-tail-spec =
@@ -89,15 +79,12 @@ with-tail-spec =
     with-items-requires
     enum-told-3
     with-two-requires
-    enum-told-4
+    enum-known-tail
     with-wholes-requires
-    enum-told-5
-    with-wholes-requires-2
-    enum-told-6
+    enum-told-4
     with-nothing-requires
     returns-2
     returns-3
     returns-4
     returns-5
-    returns-6
-    returns-7)
+    returns-6)

@@ -11,10 +11,10 @@ use Rattle.requests.proofs.wholes.read.Statement.{statement}
 use Rattle.requests.proofs.wholes.read.Tie as tie
 
 abbrev Inv-loop : tie.InvT-loop
-Inv-loop line at most list₀ next₀ count₀ list next count = Passed (wholeNumber most) 1 line at list₀ list next count
+Inv-loop line at member list₀ next₀ count₀ list next count = Passed (wholeNumber member) 1 line at list₀ list next count
 
 abbrev μ-loop : tie.MeasureT-loop
-μ-loop line at most list₀ next₀ count₀ list next count = 16 - count
+μ-loop line at member list₀ next₀ count₀ list next count = 16 - count
 
 loop-holds : tie.Need-loop-holds Inv-loop μ-loop
 loop-holds c = passed-none (c .before .before .pre)
@@ -28,8 +28,8 @@ returns c = passed-many (c .before .before .loop .inv) (omega arith) (c .if1 .ta
 word-requires : tie.Need-word-requires Inv-loop μ-loop
 word-requires c κs = search needs
 
-read-whole-requires : tie.Need-read-whole-requires Inv-loop μ-loop
-read-whole-requires c κs = search needs
+spelled-member-requires : tie.Need-spelled-member-requires Inv-loop μ-loop
+spelled-member-requires c κs = search needs
 
 enum-known-number : tie.Need-enum-known-number Inv-loop μ-loop
 enum-known-number c = search needs
@@ -49,7 +49,7 @@ same-length-2 c = search needs
 returns-2 : tie.Need-returns-2 Inv-loop μ-loop
 returns-2 c =
     passed-other (c .before .before .before .before .before .before .loop .inv) (omega arith) (omega arith)
-    (ap singleNumber (sym (rw (c .before .before .before .word .ensures) at (c .before .before .read-whole .ensures .0)) ∙ c .enum-told .given .1))
+    (ap singleNumber (sym (rw (c .before .before .before .word .ensures) at (c .before .before .spelled-member .ensures)) ∙ c .enum-told .given .1))
 
 next-word-requires : tie.Need-next-word-requires Inv-loop μ-loop
 next-word-requires c κs = search needs
@@ -62,7 +62,7 @@ loop-less c = search needs
 
 loop-again : tie.Need-loop-again Inv-loop μ-loop
 loop-again c =
-    let is = sym (rw (c .before .before .before .before .before .word .ensures) at (c .before .before .before .before .read-whole .ensures .0))
+    let is = sym (rw (c .before .before .before .before .before .word .ensures) at (c .before .before .before .before .spelled-member .ensures))
     ∙ c .before .before .number .given .1 in
     rw (c .next-word .ensures)
     (passed-more (c .before .before .before .before .before .before .before .before .loop .inv) (omega arith) (omega arith) (_ ∷ [])
@@ -84,7 +84,7 @@ read-spec =
     same-length
     returns
     word-requires
-    read-whole-requires
+    spelled-member-requires
     enum-known-number
     mul-list
     slice-write-list

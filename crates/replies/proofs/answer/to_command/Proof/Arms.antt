@@ -53,102 +53,111 @@ answered-operation c =
     let call = c .before .before .answer .ensures in
     (call .0, rw (c .before .before .before .before .before .command .given .1) (call .1))
 
-pub kept-build : tie.Need-same-length-6
+pub kept-recipe : tie.Need-same-length-6
+kept-recipe c = search needs
+
+pub answered-recipe : tie.Need-returns-6
+unfolding replyBy
+answered-recipe c =
+    let call = c .before .before .recipe .ensures in
+    (call .0, rw (c .before .before .before .before .before .command2 .given .1) (call .1))
+
+pub kept-build : tie.Need-same-length-7
 kept-build c = search needs
 
-pub answered-build : tie.Need-returns-6
+pub answered-build : tie.Need-returns-7
 unfolding replyBy run
 answered-build c =
     let call = c .before .before .before .before .build .ensures .0 in
     let reply = c .before .before .filled .ensures in
     (reply .0, rw (c .before .before .before .before .before .enum-told5 .given .1) (told-as (ascii "bound") _ call (reply .1)))
 
-pub kept-minor : tie.Need-same-length-7
+pub kept-minor : tie.Need-same-length-8
 kept-minor c = search needs
 
-pub answered-minor : tie.Need-returns-7
+pub answered-minor : tie.Need-returns-8
 unfolding replyBy
 answered-minor c =
     let masks = c .before .before .before .before in
     let call = rw (masks .before .mask .ensures, masks .mask2 .ensures) at (c .before .before .minor .ensures .1) in
     (c .before .before .minor .ensures .0, rw (masks .before .before .enum-told6 .given .1) call)
 
-pub kept-carry : tie.Need-same-length-8
+pub kept-carry : tie.Need-same-length-9
 kept-carry c = search needs
 
-pub answered-carry : tie.Need-returns-8
+pub answered-carry : tie.Need-returns-9
 unfolding replyBy
 answered-carry c =
     let call = c .before .before .carry .ensures in
     (call .0, rw (c .before .before .before .before .enum-told7 .given .1) (call .1))
 
-pub kept-reversals : tie.Need-same-length-9
+pub kept-reversals : tie.Need-same-length-10
 kept-reversals c = search needs
 
-pub answered-reversals : tie.Need-returns-9
+pub answered-reversals : tie.Need-returns-10
 unfolding replyBy
 answered-reversals c =
     let call = c .before .before .reversals .ensures in
     (call .0, rw (c .before .before .before .before .enum-told8 .given .1) (call .1))
 
-pub kept-add : tie.Need-same-length-10
+pub kept-add : tie.Need-same-length-11
 kept-add c = search needs
 
-pub answered-add : tie.Need-returns-10
+pub answered-add : tie.Need-returns-11
 unfolding replyBy
 answered-add c =
     let call = c .before .before .arithmetic .ensures in
     (call .0, rw (c .before .before .before .before .enum-told9 .given .1) (call .1))
 
-pub kept-multiply : tie.Need-same-length-11
+pub kept-multiply : tie.Need-same-length-12
 kept-multiply c = search needs
 
-pub answered-multiply : tie.Need-returns-11
+pub answered-multiply : tie.Need-returns-12
 unfolding replyBy
 answered-multiply c =
     let call = c .before .before .arithmetic2 .ensures in
     (call .0, rw (c .before .before .before .before .enum-told10 .given .1) (call .1))
 
-pub kept-divide : tie.Need-same-length-12
+pub kept-divide : tie.Need-same-length-13
 kept-divide c = search needs
 
-pub answered-divide : tie.Need-returns-12
+pub answered-divide : tie.Need-returns-13
 unfolding replyBy
 answered-divide c =
     let call = c .before .before .arithmetic3 .ensures in
     (call .0, rw (c .before .before .before .before .enum-told11 .given .1) (call .1))
 
-pub kept-rest : tie.Need-same-length-13
+pub kept-rest : tie.Need-same-length-14
 kept-rest c = search needs
 
-pub answered-rest : tie.Need-returns-13
+pub answered-rest : tie.Need-returns-14
 unfolding replyBy
 answered-rest c =
     let call = c .before .before .rest .ensures in
     (call .0, rw (c .before .before .before .before .enum-told12 .given .1) (call .1))
 
-pub kept-sentence : tie.Need-same-length-14
+pub kept-sentence : tie.Need-same-length-15
 kept-sentence c = search needs
 
-pub answered-sentence : tie.Need-returns-14
+pub answered-sentence : tie.Need-returns-15
 unfolding replyBy
 answered-sentence c =
     let call = c .before .before .sentence .ensures in
     (call .0, rw (c .before .before .before .before .enum-told13 .given .1) (call .1))
 
-pub kept-show : tie.Need-same-length-15
+pub kept-show : tie.Need-same-length-16
 kept-show c = search needs
 
-pub answered-show : tie.Need-returns-15
+pub answered-show : tie.Need-returns-16
 unfolding replyBy
 answered-show c =
     let call = c .before .before .show .ensures in
     (call .0, rw (c .before .before .before .before .enum-told14 .given .1) (call .1))
 
-pub kept-bad : tie.Need-same-length-16
+pub kept-bad : tie.Need-same-length-17
 kept-bad c = search needs
 
-pub answered-bad : tie.Need-returns-16
+pub answered-bad : tie.Need-returns-17
 unfolding replyBy
 answered-bad c =
     let told = c .before .before .before .before .before in

@@ -1,0 +1,2 @@
+pub mod Recipe
+pub mod Codes
