@@ -1,10 +1,10 @@
 -- FORECASTS by what was found (`told-refused`, `told-steps`). WHAT A FORECAST TELLS (`to-empty`, `forecast-tells`, and `recipe-tells` of a recipe): with a
 -- target that is there and empty the call's tests are the forecast's, then 17 and 14 (`told-by`), and where it is accepted its steps are those foretold. So a
--- forecast of whatever is accepted has the steps that are returned (`foretold-made`, `recipe-made`). For whole sources they are one formula (`product-total`,
--- `inverse-total`, `converse-total`, `recipe-total`).
+-- forecast of whatever is accepted has the steps that are returned (`foretold-made`, `recipe-made`). Slots behind a recipe's count have no part in it
+-- (`forecast-others`). For whole sources they are one formula (`product-total`, `inverse-total`, `converse-total`, `recipe-total`).
 use Prim.Native.Nat.{ℕ, _<_}
 use native.Mathlib.Omega.{arith}
-use mathlib.Core.Path.{_≡_, refl, sym, ap, _∙_, subst}
+use mathlib.Core.Path.{_≡_, refl, sym, ap, ap₂, _∙_, subst}
 use mathlib.Core.Logic.{inl, inr}
 use mathlib.Core.Bool.{Bool, true, false, false≢true}
 use mathlib.Core.List.{List, [], _∷_, map}
@@ -12,7 +12,7 @@ use lib.IntN.{pos, natAbs}
 use lib.ListN.{length, getD}
 use Rattle.number.specs.declared.Number.{Number}
 use Rattle.number.specs.Number.{rounded}
-use Rattle.words.specs.Operation.{Operation, size, bound, rowByRow, result}
+use Rattle.words.specs.Operation.{Operation, joined, size, bound, rowByRow, result}
 use Rattle.words.specs.Effort.{stepsMade, stepsForetold, wholeSteps}
 use Rattle.words.proofs.Totals.{whole-total}
 use Rattle.table.specs.Table.{outside}
@@ -25,7 +25,8 @@ use Rattle.verdict.proofs.Verdicts.{or-else-accepted, or-else-both, first-behin
 use Rattle.conditions.specs.Conditions.{miscounted, sourcesAlone, sourcesTo, recipeAlone}
 use Rattle.conditions.proofs.Passed.{Target, counted, apart, to-target}
 use Rattle.recipes.specs.declared.Recipe.{Recipe}
-use Rattle.recipes.specs.Recipe.{stepsIn, placesIn}
+use Rattle.recipes.specs.declared.RecipeStep.{RecipeStep}
+use Rattle.recipes.specs.Recipe.{placeOf, stepsIn, placesIn}
 use Rattle.recipes.proofs.Slots.{taken-length}
 use Rattle.walk.specs.declared.Way.the-variants.{Inverted, Conversed}
 use Rattle.places.specs.declared.Shelf.{Shelf}
@@ -41,7 +42,7 @@ use Rattle.operations.specs.Operations.{singular, chosenTests, submatrix
 use Rattle.operations.specs.Forecast.{foretelling, forecastCall, recipeForecast, taskCall, foretoldReport, Found, RecipeFound, Foretells, Foretelling}
 use Rattle.operations.specs.Forecast as forecast
 use Rattle.operations.proofs.Results.{Ready, ready-foretold, submatrix-ready}
-use Rattle.operations.proofs.Recipes.{product-ready, whole-ready, recipe-ready}
+use Rattle.operations.proofs.Recipes.{product-ready, whole-ready, recipe-ready, rows-others}
 
 module _ (L : List Verdict) where
   pub told-refused : (w : Refusal) (n : ℕ) → firstOf L ≡ Refused w → foretoldReport (foretold.Refused w) ≡ foretelling L n
@@ -178,6 +179,26 @@ module _ (s : Shelf) (g : Good s) (r : Recipe) (long : length (r .steps) ≡ 6) 
   pub recipe-tells : (f : Report) → f ≡ recipeForecast s r → Foretelling s RecipeFound (recipeCall s r) f
   recipe-tells f e = subst (Foretelling s RecipeFound (recipeCall s r)) (sym e) (record { to-empty = recipe-to-empty; made = recipe-made })
 
+-- where the count is wrong, nothing else has a part
+miscounted-told : (s : Shelf) (r : Recipe) (n : ℕ) → miscounted (r .count) ≡ true
+    → foretelling (recipeAlone (rowsAt s) (r .count) (placesIn r)) n ≡ refused 18 0
+miscounted-told s r n e = ap (λ (v : Verdict). reportOf v (pos n ∷ [])) (when-refused 18 (sourcesAlone (rowsAt s) (placesIn r)) e)
+
+-- what stands behind the count changes nothing here either
+pub forecast-others : (s : Shelf) (r q : Recipe) → r .count ≡ q .count → stepsIn r ≡ stepsIn q → recipeForecast s r ≡ recipeForecast s q
+unfolding recipeForecast
+forecast-others s r q many same = by (miscounted (r .count)) refl
+  where
+    by : (b : Bool) → miscounted (r .count) ≡ b
+        → foretelling (recipeAlone (rowsAt s) (r .count) (placesIn r)) (stepsForetold (joinedRows s r) (joinedAt s r))
+        ≡ foretelling (recipeAlone (rowsAt s) (q .count) (placesIn q)) (stepsForetold (joinedRows s q) (joinedAt s q))
+    by true e = miscounted-told s r _ e ∙ sym (miscounted-told s q _ (sym (ap miscounted many) ∙ e))
+    by false e =
+        ap₂ (λ (m : ℕ) (L : List RecipeStep).
+        foretelling (recipeAlone (rowsAt s) m (map placeOf L)) (stepsForetold (joinedRows s r) (joined (map (stepWith s) L)))) many same
+        ∙ ap (λ (n : ℕ). foretelling (recipeAlone (rowsAt s) (q .count) (placesIn q)) (stepsForetold n (joinedAt s q)))
+        (rows-others s r q many same (counted (r .count) e .0))
+
 -- WHAT A PLANNER WRITES DOWN: the steps of whole sources in one formula
 module _ (s : Shelf) where
   pub product-total : (l r : ℕ) → forecastCall s (Product l r) ≡ foretelling (bothSources s l r) (wholeSteps 2 (rowsAt s l))
@@ -200,12 +221,9 @@ module _ (s : Shelf) where
       L : List Verdict
       L = recipeAlone (rowsAt s) (r .count) (placesIn r)
 
-      told : (n : ℕ) → miscounted (r .count) ≡ true → foretelling L n ≡ refused 18 0
-      told n e = ap (λ (v : Verdict). reportOf v (pos n ∷ [])) (when-refused 18 (sourcesAlone (rowsAt s) (placesIn r)) e)
-
       by : (b : Bool) → miscounted (r .count) ≡ b
           → foretelling L (stepsForetold (joinedRows s r) (joinedAt s r)) ≡ foretelling L (wholeSteps (r .count) (joinedRows s r))
-      by true e = told _ e ∙ sym (told _ e)
+      by true e = miscounted-told s r _ e ∙ sym (miscounted-told s r _ e)
       by false e =
           let c = counted (r .count) e in
           ap (foretelling L) (whole-total (length (map (stepWith s) (stepsIn r))) (joinedRows s r)

@@ -1,20 +1,27 @@
 -- STEPS JOINED. The steps of a recipe as they are put one after the other (`steps-none`, `steps-next`, `steps-put`). Where the tests of one to six sources
 -- passed, each is a place (`joined-small`), and the rule can be run (`joined-ready`, and so `product-ready`, `whole-ready`, `recipe-ready`); how many rows they
--- have without a target (`alone-rows`). Two plain steps are the product call (`recipe-product`).
+-- have without a target (`alone-rows`). What stands behind the count changes nothing (`recipe-others`), and two plain steps are the product call
+-- (`recipe-product`).
 use Prim.Native.Nat.{ℕ, zero, suc, _+_, _≤_, _<_}
 use native.Mathlib.Nat.{not-suc-le-zero}
 use native.Mathlib.Omega.{arith}
-use mathlib.Core.Path.{_≡_, refl, sym, ap, _∙_, subst}
+use mathlib.Core.Path.{_≡_, refl, sym, ap, ap₂, _∙_, subst}
+use mathlib.Core.Bool.{Bool, true, false}
 use mathlib.Core.List.{List, [], _∷_, _++_, map}
 use lib.ListN.{length, getD, take}
 use Rattle.number.specs.declared.Number.{Number}
-use Rattle.words.specs.Operation.{Step}
+use Rattle.number.specs.Number.{rounded}
+use Rattle.words.specs.Operation.{Step, Operation, joined, size, bound, result}
+use Rattle.words.specs.Effort.{stepsMade}
 use Rattle.words.specs.Sources.{BandedNumbers, Sources}
 use Rattle.factors.specs.Demand.{Proper}
-use Rattle.verdict.specs.declared.Verdict.the-variants.{Accepted}
-use Rattle.verdict.specs.Verdict.{firstBehind, firstOf}
-use Rattle.verdict.proofs.Verdicts.{when-accepted}
-use Rattle.conditions.specs.Conditions.{miscounted, sourcesAlone, sourcesTo}
+use Rattle.verdict.specs.declared.Refusal.{Refusal}
+use Rattle.verdict.specs.declared.Verdict.{Verdict}
+use Rattle.verdict.specs.declared.Verdict.the-variants.{Accepted, Refused}
+use Rattle.verdict.specs.Verdict.{firstBehind, firstOf, orElse}
+use Rattle.verdict.specs.Report.{refused}
+use Rattle.verdict.proofs.Verdicts.{first-last, when-accepted, when-refused}
+use Rattle.conditions.specs.Conditions.{miscounted, sourcesAlone, sourcesTo, recipeTo}
 use Rattle.conditions.proofs.Passed.{Target, Held, counted, alone-accepted, to-accepted}
 use Rattle.recipes.specs.declared.RecipeStep.{RecipeStep}
 use Rattle.recipes.specs.declared.Recipe.{Recipe}
@@ -26,8 +33,10 @@ use Rattle.walk.specs.declared.Way.the-variants.{Plain}
 use Rattle.walk.specs.Lent.{stepsOf, noSteps, Prepared}
 use Rattle.places.specs.declared.Shelf.{Shelf}
 use Rattle.places.specs.Shelf.{rowsAt, factorsAt, Good}
+use Rattle.places.specs.Outcome.{outcome}
 use Rattle.places.specs.Tests.{oneSource, twoSources}
 use Rattle.places.proofs.Recipes.{places-some}
+use Rattle.operations.specs.Operations.{resulting, done, factorTest}
 use Rattle.operations.specs.Operations.{operationCall, productAt, productCall, stepWith, joinedRows, joinedAt, recipeTests, recipeCall}
 use Rattle.operations.specs.Proposed.{Made}
 use Rattle.operations.proofs.Made.{made-start, made-next}
@@ -121,6 +130,30 @@ module _ (s : Shelf) (good : Good s) where
       let a = when-accepted (miscounted (r .count)) 18 (sourcesTo (rowsAt s) (placesIn r) t) e in
       let c = counted (r .count) (a .0) in
       joined-ready s r long (omega (arith, c .0)) (c .1) t (a .1) good
+
+-- WHAT STANDS BEHIND THE COUNT changes nothing: recipes of the same steps are the same call
+turned : (s : Shelf) (L : List Verdict) (t n : ℕ) (o : Operation Number) (w : Refusal) → firstOf L ≡ Refused w
+    → operationCall s L t n o ≡ outcome s (refused (w .number) (w .offset))
+unfolding operationCall
+turned s L t n o w e =
+    ap (λ (v : Verdict). resulting s t v (size n o) (done (bound n o) (stepsMade rounded n o)) (result rounded n o))
+    (first-last L (factorTest n o) ∙ ap (λ (v : Verdict). orElse v (factorTest n o)) e)
+
+pub rows-others : (s : Shelf) (r q : Recipe) → r .count ≡ q .count → stepsIn r ≡ stepsIn q → 2 ≤ r .count → joinedRows s r ≡ joinedRows s q
+rows-others s r q many same low =
+    ap (rowsAt s) (sym (place-at r 0 (omega arith)) ∙ ap (λ (L : List RecipeStep). getD (map placeOf L) 0 0) same ∙ place-at q 0 (omega (arith, many)))
+
+pub recipe-others : (s : Shelf) (r q : Recipe) (t : ℕ) → r .count ≡ q .count → stepsIn r ≡ stepsIn q → recipeCall s r t ≡ recipeCall s q t
+recipe-others s r q t many same = by (miscounted (r .count)) refl
+  where
+    by : (b : Bool) → miscounted (r .count) ≡ b → recipeCall s r t ≡ recipeCall s q t
+    by true e =
+        turned s (recipeTests s r t) t _ _ (record { number = 18; offset = 0 }) (when-refused 18 _ e)
+        ∙ sym (turned s (recipeTests s q t) t _ _ (record { number = 18; offset = 0 }) (when-refused 18 _ (sym (ap miscounted many) ∙ e)))
+    by false e =
+        ap₂ (λ (m : ℕ) (L : List RecipeStep). operationCall s (recipeTo (rowsAt s) m (map placeOf L) t) t (joinedRows s r) (joined (map (stepWith s) L)))
+        many same
+        ∙ ap (λ (n : ℕ). operationCall s (recipeTests s q t) t n (joinedAt s q)) (rows-others s r q many same (counted (r .count) e .0))
 
 -- TWO PLAIN STEPS, whatever stands in the other slots, are the product call: its bits, its bound, its steps and its refusals
 pub recipe-product : (s : Shelf) (p q t : ℕ) (others : List RecipeStep)
