@@ -76,9 +76,13 @@ module _ (s : Shelf) (bad : isGood s ≡ false) where
   not-nothing : _≡_ {A = ℕ} 255 0 → ⊥
   not-nothing z = omega arith
 
-  pub away-foretold : (call : ℕ → Call) (f : Steps) → ((t : ℕ) → foreign s (call t) .report ≡ refused 255 0) → ForetoldAnswer s call f
-  away-foretold call f away t z =
-      absurd (not-nothing (sym (ap numberOf (away t)) ∙ ap (λ (x : Outcome). numberOf (x .report)) (foreign-checked s (call t) bad) ∙ z))
+  -- both clauses of a forecast's contract
+  pub away-foretold : (ahead : Call) (call : ℕ → Call) → foreign s ahead .report ≡ refused 255 0 → ((t : ℕ) → foreign s (call t) .report ≡ refused 255 0)
+      → (let f = stepsOf (refused 255 0) in (f ≡ stepsOf (checked s ahead .report)) × ForetoldAnswer s call f)
+  away-foretold ahead call e away = (
+    sym (ap stepsOf e) ∙ ap (λ (x : Outcome). stepsOf (x .report)) (foreign-checked s ahead bad),
+    λ t z. absurd (not-nothing (sym (ap numberOf (away t)) ∙ ap (λ (x : Outcome). numberOf (x .report)) (foreign-checked s (call t) bad) ∙ z)),
+  )
 
   pub away-measured : (p : ℕ) (f : Length) → f ≡ lengthOf (checked s (byteLength p) .report) → MeasuredAnswer s p f
   away-measured p f e out z = absurd (not-nothing (ap (λ (x : Outcome). numberOf (x .report)) (foreign-checked s (write p out) bad) ∙ z))

@@ -4,7 +4,7 @@ use Rattle.places.specs.Outcome.{Outcome}
 use Rattle.shelf.specs.Run.{operate, forecast, run}
 use Rattle.tnb_c.specs.declared.Steps.{Steps}
 use Rattle.tnb_c.specs.Answers.{stepsOf}
-use Rattle.tnb_c.proofs.Checked.{answered, turned-away}
+use Rattle.tnb_c.proofs.Checked.{answered}
 use Rattle.tnb_c.proofs.Ahead.{foretold-answered, away-foretold}
 use borrow.Author.Needs.{needs}
 use Rattle.tnb_c.proofs.foretold.Statement.{statement}
@@ -32,12 +32,8 @@ returns c =
 
 returns-2 : tie.Need-returns-2
 returns-2 c =
-    let tested = c .before .is-good .ensures .0 in
     let a = c .before .before .args in
-    let none : Steps = record { number = 255; offset = 0; steps = 0 } in (
-      turned-away (a .shelf) (forecast (a .task)) answer tested {r = none} (c .if1 .left) refl,
-      away-foretold (a .shelf) (sym tested ∙ c .if1 .left) (operate (a .task)) none (λ t. refl),
-    )
+    away-foretold (a .shelf) (sym (c .before .is-good .ensures .0) ∙ c .if1 .left) (forecast (a .task)) (operate (a .task)) refl (λ t. refl)
 
 pub foretold-spec : {M : Type 1} → statement M
 foretold-spec =

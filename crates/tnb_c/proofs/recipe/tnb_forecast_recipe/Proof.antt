@@ -7,7 +7,7 @@ use Rattle.operations.specs.Forecast.{recipeForecast}
 use Rattle.shelf.specs.Run.{recipe, forecastRecipe, run}
 use Rattle.tnb_c.specs.declared.Steps.{Steps}
 use Rattle.tnb_c.specs.Answers.{stepsOf}
-use Rattle.tnb_c.proofs.Checked.{answered, turned-away}
+use Rattle.tnb_c.proofs.Checked.{answered}
 use Rattle.tnb_c.proofs.Ahead.{recipe-foretold, away-foretold}
 use borrow.Author.Needs.{needs}
 use Rattle.tnb_c.proofs.recipe.tnb_forecast_recipe.Statement.{statement}
@@ -42,13 +42,9 @@ returns c =
 
 returns-2 : tie.Need-returns-2
 returns-2 c =
-    let tested = c .before .is-good .ensures .0 in
     let a = c .before .before .before .args in
     let r = recipeBy (now (a .steps)) in
-    let none : Steps = record { number = 255; offset = 0; steps = 0 } in (
-      turned-away (a .shelf) (forecastRecipe r) answer tested {r = none} (c .if1 .left) refl,
-      away-foretold (a .shelf) (sym tested ∙ c .if1 .left) (recipe r) none (λ t. refl),
-    )
+    away-foretold (a .shelf) (sym (c .before .is-good .ensures .0) ∙ c .if1 .left) (forecastRecipe r) (recipe r) refl (λ t. refl)
 
 pub tnb-forecast-recipe-spec : {M : Type 1} → statement M
 tnb-forecast-recipe-spec =
