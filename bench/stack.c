@@ -59,6 +59,11 @@ static void call_forecast_submatrix(void)
     number = tnb_forecast_submatrix(shelf, 0, 0xf0, 0xf0).number;
 }
 
+static void call_forecast_schur(void)
+{
+    number = tnb_forecast_schur(shelf, 0, 1).number;
+}
+
 static tnb_step steps[6];
 
 static void call_recipe(void)
@@ -94,6 +99,11 @@ static void call_converse(void)
 static void call_submatrix(void)
 {
     number = tnb_submatrix(shelf, 0, 0xff, 0xff, 2).number;
+}
+
+static void call_schur(void)
+{
+    number = tnb_schur(shelf, 0, 1, 2).number;
 }
 
 static void call_transpose(void)
@@ -176,10 +186,12 @@ static const struct {
     {"tnb_inverse", call_inverse, sizeof(tnb_shelf) + sizeof(tnb_answer)},
     {"tnb_converse", call_converse, sizeof(tnb_shelf) + sizeof(tnb_answer)},
     {"tnb_submatrix", call_submatrix, sizeof(tnb_shelf) + sizeof(tnb_answer)},
+    {"tnb_schur", call_schur, sizeof(tnb_shelf) + sizeof(tnb_answer)},
     {"tnb_transpose", call_transpose, sizeof(tnb_shelf) + sizeof(tnb_answer)},
     {"tnb_recipe", call_recipe, sizeof(tnb_shelf) + sizeof(tnb_answer)},
     {"tnb_forecast_product", call_forecast_product, sizeof(tnb_shelf) + sizeof(tnb_steps)},
     {"tnb_forecast_submatrix", call_forecast_submatrix, sizeof(tnb_shelf) + sizeof(tnb_steps)},
+    {"tnb_forecast_schur", call_forecast_schur, sizeof(tnb_shelf) + sizeof(tnb_steps)},
     {"tnb_forecast_recipe", call_forecast_recipe, sizeof(tnb_shelf) + sizeof(tnb_steps)},
     {"tnb_build", call_build, sizeof(tnb_shelf) + sizeof(tnb_answer)},
     {"tnb_minor", call_minor, sizeof(tnb_shelf) + sizeof(tnb_value)},

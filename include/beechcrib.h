@@ -26,10 +26,10 @@ extern "C" {
 /* The version of this header and of the archive built beside it. It rises whenever a struct changes its size, a call or a number is added, or a call
  * answers otherwise than before (2: tnb_reversals passes over zeros; 3: tnb_add, tnb_multiply and tnb_divide are new; 4: tnb_build and its refusal 15
  * are new; 5: tnb_sentence is new; 6: factors may be zero in the pattern that tnb_load names, with the refusals 16 and 17; 7: answers have steps, and
- * tnb_byte_length and the forecasts are new; 8: recipes are new, with the refusal 18). A program that uses only what stands here, and not the inside of a
- * shelf or a step, compiles again with every later version; it is compiled again for each, since structs go by value. Later versions may refuse with
- * numbers that are not listed yet: test for TNB_ACCEPTED. */
-#define TNB_VERSION 8
+ * tnb_byte_length and the forecasts are new; 8: recipes are new, with the refusal 18; 9: tnb_schur and its forecast are new). A program that uses only what
+ * stands here, and not the inside of a shelf or a step, compiles again with every later version; it is compiled again for each, since structs go by value.
+ * Later versions may refuse with numbers that are not listed yet: test for TNB_ACCEPTED. */
+#define TNB_VERSION 9
 
 /* The numbers of answers. */
 enum {
@@ -41,7 +41,7 @@ enum {
     TNB_CODE_TOO_LARGE = 5,      /* exponent code above 2001, or mantissa part above 2^31 - 1 */
     TNB_ZERO_FACTOR = 6,         /* zero factor on the diagonal */
     TNB_BYTES_BEHIND_MATRIX = 7, /* bytes behind the matrix */
-    TNB_BAD_SETS = 8,            /* sets of unequal count, empty, or beyond n */
+    TNB_BAD_SETS = 8,            /* sets of unequal count, empty, or beyond n; of rows to be clamped none, or n or more */
     TNB_BAD_LIST = 9,            /* list length wrong, or an item not of the stated form, or, where numbers are worked, an item that is not positive; of a
                                     sentence, a number outside 1 to 22 or more than seven places */
     TNB_OUTPUT_TOO_SHORT = 10,   /* lent output shorter than needed */
@@ -153,6 +153,11 @@ tnb_answer tnb_converse(tnb_shelf shelf, size_t source, size_t target);
  * Refusals 1, 11, 12, 8, 17, 14. */
 tnb_answer tnb_submatrix(tnb_shelf shelf, size_t source, uint8_t rows, uint8_t columns, size_t target);
 
+/* The Schur complement of the first k rows and columns of a place of n rows, 1 <= k < n, to an empty place: what remains for the other control points once
+ * the first k are clamped, that is, the lower right block minus the lower left one times the leading block's inverse times the upper right one. It has n - k
+ * rows; its bound goes by n. It is never singular. Refusals 1, 11, 12, 8 (k is 0, or not below n), 14. */
+tnb_answer tnb_schur(tnb_shelf shelf, size_t source, size_t k, size_t target);
+
 /* The transpose of a place, to an empty place; no rounding, bound 0. Refusals 1, 11, 12. */
 tnb_answer tnb_transpose(tnb_shelf shelf, size_t source, size_t target);
 
@@ -179,14 +184,15 @@ tnb_step tnb_transposed(size_t place); /* its transpose */
 tnb_answer tnb_recipe(tnb_shelf shelf, const tnb_step *steps, size_t count, size_t target);
 
 /* The steps that an operation or recipe will make, without working it: what it answers where it is accepted. They depend on how many sources there are, on
- * their rows and on how many rows are chosen, on nothing else. No target is named. A forecast is refused where the call would be for its sources, sets or
- * count; with a target that is empty, the call itself can then be refused only by 14 or, of a submatrix, 17. Refusals 1, 11, and of a product 13, of a
- * submatrix 8, of a recipe 18 and 13. */
+ * their rows and on how many rows are chosen or clamped, on nothing else. No target is named. A forecast is refused where the call would be for its sources,
+ * sets, clamped rows or count; with a target that is empty, the call itself can then be refused only by 14 or, of a submatrix, 17. Refusals 1, 11, and of a
+ * product 13, of a submatrix or Schur complement 8, of a recipe 18 and 13. */
 tnb_steps tnb_forecast_product(tnb_shelf shelf, size_t left, size_t right);
 tnb_steps tnb_forecast_inverse(tnb_shelf shelf, size_t source);
 tnb_steps tnb_forecast_converse(tnb_shelf shelf, size_t source);
 tnb_steps tnb_forecast_transpose(tnb_shelf shelf, size_t source);
 tnb_steps tnb_forecast_submatrix(tnb_shelf shelf, size_t source, uint8_t rows, uint8_t columns);
+tnb_steps tnb_forecast_schur(tnb_shelf shelf, size_t source, size_t k);
 tnb_steps tnb_forecast_recipe(tnb_shelf shelf, const tnb_step *steps, size_t count);
 
 /* Fills an empty place from time stamps: with n of them, 1 to 8, the matrix whose row i holds the powers 0 to n - 1 of stamp i, as a polynomial through

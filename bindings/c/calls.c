@@ -45,14 +45,13 @@ static int square(const tnb_shelf *s, size_t place, uint64_t m, int64_t a, int64
            factor(s, place, 2, 2, m, d);
 }
 
-/* places 2 to 6: product, inverse, converse, submatrix, transpose */
+/* places 2 to 6: product, inverse, converse, submatrix, transpose; and a Schur complement */
 static tnb_shelf operations(tnb_shelf s)
 {
     const uint64_t m = 2147483648u;
     s = operated(tnb_product(s, 0, 0, 2), 51, tnb_forecast_product(s, 0, 0), 24, "product");
     want(factor(&s, 2, 1, 1, m, -30) && factor(&s, 2, 1, 2, 3221225472u, -31) && factor(&s, 2, 2, 2, m, -32), "product");
-    want(tnb_product(s, 0, 1, 3).number == TNB_SIZES_DIFFER, "product, sizes differ");
-    want(tnb_product(s, 0, 0, 1).number == TNB_TARGET_FULL, "product, target full");
+    want(tnb_product(s, 0, 1, 3).number == TNB_SIZES_DIFFER && tnb_product(s, 0, 1, 0).number == TNB_TARGET_FULL, "product, sizes differ, target full");
     s = operated(tnb_inverse(s, 0, 3), 27, tnb_forecast_inverse(s, 0), 12, "inverse");
     want(square(&s, 3, m, -30, -32, -32, -32), "inverse");
     s = operated(tnb_converse(s, 0, 4), 27, tnb_forecast_converse(s, 0), 12, "converse");
@@ -62,6 +61,10 @@ static tnb_shelf operations(tnb_shelf s)
     s = operated(tnb_transpose(s, 5, 6), 0, tnb_forecast_transpose(s, 5), 0, "transpose");
     want(square(&s, 6, m, -31, -31, -30, -31), "transpose");
     want(tnb_submatrix(s, 1, 6, 1, 7).number == TNB_BAD_SETS && tnb_submatrix(s, 1, 6, 1, 7).steps == 0, "submatrix, unequal sets");
+    tnb_shelf rest = operated(tnb_schur(s, 1, 1, 7), 63, tnb_forecast_schur(s, 1, 1), 66, "schur");
+    want(square(&rest, 7, m, -31, -30, -30, -31), "schur");
+    want(tnb_schur(s, 1, 0, 7).number == TNB_BAD_SETS && tnb_schur(s, 1, SIZE_MAX, 7).number == TNB_BAD_SETS, "schur, none, more than all");
+    want(tnb_schur(s, 1, 3, 2).number == TNB_TARGET_FULL && tnb_schur(s, 7, 0, 2).number == TNB_SOURCE_EMPTY, "schur, the places first");
     return s;
 }
 
@@ -71,7 +74,7 @@ static void foretold(tnb_shelf s)
     want(tnb_forecast_product(s, 0, 1).number == TNB_SIZES_DIFFER && tnb_forecast_product(s, 0, 1).steps == 0, "forecast, sizes differ");
     want(tnb_forecast_product(s, 7, 8).number == TNB_PLACE_ABOVE_7 && tnb_forecast_transpose(s, 8).number == TNB_PLACE_ABOVE_7, "forecast, above 7");
     want(tnb_forecast_inverse(s, 7).number == TNB_SOURCE_EMPTY && tnb_forecast_converse(s, 7).number == TNB_SOURCE_EMPTY, "forecast, empty");
-    want(tnb_forecast_submatrix(s, 1, 6, 1).number == TNB_BAD_SETS, "forecast, unequal sets");
+    want(tnb_forecast_submatrix(s, 1, 6, 1).number == TNB_BAD_SETS && tnb_forecast_schur(s, 1, 3).number == TNB_BAD_SETS, "forecast, unequal sets, all rows");
     want(tnb_byte_length(s, 0).length == 13 && tnb_byte_length(s, 1).length == 28, "byte length");
     want(tnb_byte_length(s, 7).number == TNB_SOURCE_EMPTY && tnb_byte_length(s, 8).number == TNB_PLACE_ABOVE_7, "byte length, refused");
 }
@@ -117,8 +120,7 @@ static void building(tnb_shelf s)
     static const uint64_t zero[] = {0, 1}, alike[] = {3, 3}, falling[] = {7, 3}, large[] = {1, 4294967296u}, cut[] = {1, 4294967299u};
     const uint64_t one = 2147483648u, three = 3221225472u; /* mantissas of 1 and 2, of 3 and 24 */
     tnb_shelf t = accepted(tnb_build(s, 7, stamps, 3), 11, "build");
-    want(tnb_rows(t, 7).length == 3, "build, rows");
-    want(factor(&t, 7, 1, 1, one, -31) && factor(&t, 7, 2, 2, one, -30) && factor(&t, 7, 3, 3, three, -27), "build, on the diagonal");
+    want(tnb_rows(t, 7).length == 3 && factor(&t, 7, 1, 1, one, -31) && factor(&t, 7, 2, 2, one, -30) && factor(&t, 7, 3, 3, three, -27), "build, diagonal");
     want(factor(&t, 7, 1, 2, one, -31) && factor(&t, 7, 1, 3, one, -31) && factor(&t, 7, 2, 3, three, -30), "build, above the diagonal");
     want(factor(&t, 7, 2, 1, one, -31) && factor(&t, 7, 3, 1, one, -31) && factor(&t, 7, 3, 2, one, -30), "build, below the diagonal");
     t = accepted(tnb_build(s, 7, largest, 1), 11, "build, one stamp");
@@ -126,15 +128,15 @@ static void building(tnb_shelf s)
     want(tnb_rows(accepted(tnb_build(s, 7, nine, 8), 11, "build, eight stamps"), 7).length == 8, "build, eight stamps");
     want(tnb_build(s, 7, nine, 9).number == TNB_BAD_STAMPS && tnb_build(s, 7, NULL, 0).number == TNB_BAD_STAMPS, "build, nine stamps and none");
     want(tnb_build(s, 7, zero, 2).number == TNB_BAD_STAMPS && tnb_build(s, 7, alike, 2).number == TNB_BAD_STAMPS, "build, zero and equal stamps");
-    want(tnb_build(s, 7, falling, 2).number == TNB_BAD_STAMPS && tnb_build(s, 7, large, 2).number == TNB_BAD_STAMPS, "build, falling and large stamps");
-    want(tnb_build(s, 7, cut, 2).number == TNB_BAD_STAMPS, "build, a stamp of more than 32 bits");
+    want(tnb_build(s, 7, falling, 2).number == TNB_BAD_STAMPS, "build, falling stamps");
+    want(tnb_build(s, 7, large, 2).number == TNB_BAD_STAMPS && tnb_build(s, 7, cut, 2).number == TNB_BAD_STAMPS, "build, stamps of more than 32 bits");
     want(tnb_build(s, 8, zero, 2).number == TNB_PLACE_ABOVE_7 && tnb_build(s, 0, zero, 2).number == TNB_TARGET_FULL, "build, the place first");
 }
 
 static void reading(tnb_shelf s)
 {
-    want(tnb_rows(s, 0).length == 2 && tnb_rows(s, 1).length == 3 && tnb_rows(s, 7).length == 0 && tnb_rows(s, 8).length == 0, "rows");
-    want(tnb_rows(s, 8).number == TNB_ACCEPTED && tnb_rows(s, 8).offset == 0, "rows, never refused");
+    want(tnb_rows(s, 0).length == 2 && tnb_rows(s, 1).length == 3 && tnb_rows(s, 7).length == 0, "rows");
+    want(tnb_rows(s, 8).number == TNB_ACCEPTED && tnb_rows(s, 8).offset == 0 && tnb_rows(s, 8).length == 0, "rows, never refused");
     want(factor(&s, 5, 1, 2, 2147483648u, -30) && factor(&s, 5, 2, 1, 2147483648u, -31), "factor, row and column");
     want(factor(&s, 0, 0, 1, 0, 0) && factor(&s, 0, 1, 3, 0, 0) && factor(&s, 7, 1, 1, 0, 0) && factor(&s, 8, 1, 1, 0, 0), "factor, none");
     tnb_value v = tnb_minor(s, 1, 5, 5);
@@ -242,8 +244,7 @@ static void sentences(void)
     want(sentence(22, 99, eight, 7, "refused 22 at 99 tolerance too large 7 6 6 10 0 4294967296 18446744073709551615"), "sentence, seven places");
     want(tnb_sentence(19, UINT64_MAX, most, 7, out, 219).number == TNB_OUTPUT_TOO_SHORT && out[0] == 0, "sentence, one byte less than the longest");
     want(tnb_sentence(1, 0, eight, 8, out, sizeof out).number == TNB_BAD_LIST, "sentence, eight places");
-    want(tnb_sentence(0, 0, NULL, 0, out, sizeof out).number == TNB_BAD_LIST, "sentence, number 0");
-    want(tnb_sentence(23, 0, NULL, 0, NULL, 0).number == TNB_BAD_LIST, "sentence, number 23 before the room");
+    want(tnb_sentence(0, 0, NULL, 0, NULL, 0).number == TNB_BAD_LIST && tnb_sentence(23, 0, NULL, 0, NULL, 0).number == TNB_BAD_LIST, "sentence, 0 and 23");
     want(tnb_sentence(257, 0, NULL, 0, out, sizeof out).number == TNB_BAD_LIST && out[0] == 0, "sentence, number 257");
     want(tnb_sentence(19, UINT64_MAX, most, 7, out, sizeof out).length == TNB_SENTENCE_ROOM, "sentence, the longest");
 }
@@ -278,8 +279,7 @@ static void foreign(void)
 int main(void)
 {
     tnb_shelf s = tnb_new();
-    s = accepted(tnb_load(s, 0, two, 13), 0, "load");
-    s = accepted(tnb_load(s, 1, three, sizeof three), 0, "load");
+    s = accepted(tnb_load(accepted(tnb_load(s, 0, two, 13), 0, "load"), 1, three, sizeof three), 0, "load");
     want(tnb_load(s, 2, two, 14).number == TNB_BYTES_BEHIND_MATRIX && tnb_load(s, 2, two, 14).offset == 13, "load, bytes behind");
     want(tnb_rest(two, 14) == 1 && tnb_rest(two, 5) == 5, "rest");
     s = operations(s);

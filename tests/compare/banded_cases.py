@@ -2,22 +2,25 @@
 from banded import breakable
 from console_model import Console, parse
 from encoding import Refusal, encode, read_matrix
-from exact import chosen_rows
+from model import GOOD
 from number import ZERO
 from patterns import reached
-from words import Walker, chosen, interval, latest, operation_word, word
+from words import Walker, chosen, chosen_rows, interval, latest, operation_word, word
 
-WORDS = ("product", "inverse", "converse", "submatrix")
+WORDS = ("product", "inverse", "converse", "submatrix", "schur")
 SIDES = ("below", "above")
 
 
 def leaps(kind, sources, sets):
     """The sides of the diagonal where a set R is not the rows just before its own."""
     n = sources[0].n
-    rows, columns = chosen_rows(kind, n, *sets)
+    rows, columns, joined = chosen_rows(kind, n, *sets)
     walker = Walker(operation_word(kind, sources), n)
-    minors = (lambda r, c: walker.minor(chosen(r, rows), chosen(c, columns)), lambda r, c: walker.minor(chosen(c, rows), chosen(r, columns)))
-    for side, minor in zip(SIDES, minors):
+
+    def below(r, c):
+        return walker.minor(joined | chosen(r, rows), joined | chosen(c, columns))
+
+    for side, minor in zip(SIDES, (below, lambda r, c: below(c, r))):
         if any(latest(minor, ZERO, i, j) != interval(i - j + 1, i - 1) for i in range(2, len(rows) + 1) for j in range(1, i)):
             yield side
 
@@ -31,7 +34,7 @@ def cases_of_operation(call, held, words, result):
         if result.n > 1 and ZERO not in result.factors:
             yield f"{call} of banded places, full"
     if call in WORDS:
-        sets = words[1:3] if call == "submatrix" else (None, None)
+        sets = words[1:-1] if call in GOOD else ()
         yield from (f"{call}, a set R that leaps, {side}" for side in leaps(call, held, sets))
 
 
@@ -93,7 +96,7 @@ def every_banded_case():
         yield f"{call} with a zero new factor"
         yield from (f"{call} of banded places, {n} rows" for n in range(2, 9))
     # A matrix without zero factors has no zero minor, nor have its inverse and its converse.
-    yield from (f"{call} of banded places, full" for call in ("product", "submatrix"))
+    yield from (f"{call} of banded places, full" for call in ("product", "submatrix", "schur"))
     yield from (f"{call}, a set R that leaps, {side}" for call in WORDS for side in SIDES)
     yield from (f"17 with {count} rows" for count in (1, 2, 3))
     yield from ("17 with no zero among the entries", "17 with a zero among the entries", "zero minor", "minor of a banded place", "bundle broken by 16")

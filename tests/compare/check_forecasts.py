@@ -73,17 +73,17 @@ def quotient_sets(minor, i, j):
     return found if i > j else [pair[::-1] for pair in found]
 
 
-def steps_afresh(kind, sources, rows, columns):
-    """The steps with nothing remembered: each minor of each quotient walked letter by letter."""
+def steps_afresh(kind, sources, rows, columns, joined=0):
+    """The steps with nothing remembered: each minor of each quotient walked letter by letter, with what is joined to its sets."""
     letters, n = operation_word(kind, sources), sources[0].n
     search, (arithmetic, sums) = Walker(letters, n), counting()
 
-    def minor(r, c):
-        return search.minor(members(r, rows), members(c, columns))
+    def pair(r, c):
+        return joined | members(r, rows), joined | members(c, columns)
 
     for i, j in product(range(1, len(rows) + 1), repeat=2):
-        for r, c in quotient_sets(minor, i, j):
-            plain_minor(letters, n, members(r, rows), members(c, columns), arithmetic)
+        for r, c in quotient_sets(lambda *sets: search.minor(*pair(*sets)), i, j):
+            plain_minor(letters, n, *pair(r, c), arithmetic)
     return len(sums)
 
 
@@ -160,7 +160,8 @@ def lengths_written(rng, rounds):
 def forecasts_refused(rng, rounds):
     """1, then 11, then 13 or 8; 12, 14 and 17 are never answered, and the order is the operation's."""
     same({call: ORDER[call] for call in FORECASTS}, {"forecast product": (1, 11, 13), "forecast submatrix": (1, 11, 8), "forecast inverse": (1, 11),
-                                                     "forecast converse": (1, 11), "forecast transpose": (1, 11), "forecast recipe": (18, 1, 11, 13)})
+                                                     "forecast converse": (1, 11), "forecast transpose": (1, 11), "forecast recipe": (18, 1, 11, 13),
+                                                     "forecast schur": (1, 11, 8)})
     shelf = Shelf()
     for place, source in ((0, Matrix(2, (ONE,) * 4)), (1, Matrix(3, (ONE,) * 9)), (2, Matrix(2, ((LOW, 1000),) * 4)), (3, Matrix(2, (ONE, ZERO, ZERO, ONE)))):
         shelf.load(place, encode(source))

@@ -9,9 +9,9 @@ from collections import Counter
 from itertools import count
 
 from console_model import Console, parse
-from model import PLACES
+from model import GOOD, OPERATIONS, PLACES
 
-CHANGING = {"load", "build", "drop", "product", "inverse", "converse", "transpose", "submatrix", "recipe"}
+CHANGING = {"load", "build", "drop", "recipe", *OPERATIONS}
 SHOW_ALL_EVERY = 100
 SECONDS_PER_BATCH = 120
 # Of the table's first column.
@@ -26,7 +26,7 @@ def touched(line):
     call, words = request
     if call == "recipe":
         words = [words[0], *(place for place, _ in words[1])]
-    named = words[:1] if call in ("load", "build", "drop") else [words[0], words[-1]] if call == "submatrix" else words
+    named = words[:1] if call in ("load", "build", "drop") else [words[0], words[-1]] if call in GOOD else words
     return sorted({place for place in named if place < PLACES})
 
 

@@ -15,6 +15,8 @@ from sentences import sentence_faults
 from stamps import stamp_faults
 from words import carry, minor, operate, word
 
+MOST_ROWS = 8
+
 
 def places_named(call, words):
     """The sources and the target (or None) that a call names."""
@@ -61,6 +63,8 @@ def conditions(shelf, call, words):
             found.add(9)
     elif call in ("recipe", "forecast recipe"):
         found |= recipe_conditions(call, held, words[-1])
+    elif call in ("schur", "forecast schur"):
+        found |= schur_conditions(call, held, words[1])
     elif len(held) == len(sources) and None not in held and held:
         found |= conditions_of_work(call, held, words)
     return found
@@ -74,6 +78,14 @@ def recipe_conditions(call, held, steps):
         return found | {13}
     whole = call == "recipe" and counted and len(held) == len(steps) and None not in held
     return found | {14} if whole and not in_range(operate(tuple(way for _, way in steps), held)) else found
+
+
+def schur_conditions(call, held, k):
+    """8, of a k that no size allows whether or not a source is held; 14 where there is a result."""
+    if k not in range(1, held[0].n if held and held[0] else MOST_ROWS):
+        return {8}
+    whole = call == "schur" and held and held[0]
+    return {14} if whole and not in_range(operate(call, held, k)) else set()
 
 
 def forecast_conditions(held, words):
@@ -133,11 +145,11 @@ def wanted_pairs():
     for call, order in ORDER.items():
         for pair in combinations(order, 2):
             # A place above 7 holds nothing, and an empty source leaves nothing to be judged but the target, which a forecast has not. Of a recipe's other
-            # steps two may still differ.
-            several = FORECASTS.get(call, call) == "recipe"
-            single = call in ("write", "drop", "minor", "carry", "length", *FORECASTS) and not several and (call, *pair) != ("forecast product", 1, 11)
-            lone = single and pair[0] in (1, 11)
-            unjudged = {8, 9, 10, 14, 17} if several else {8, 9, 10, 13, 14, 17}
+            # steps two may still differ, and a k of none or of eight is out of range of any source.
+            kind = FORECASTS.get(call, call)
+            single = call in ("write", "drop", "minor", "carry", "length", *FORECASTS) and kind != "recipe" and (call, *pair) != ("forecast product", 1, 11)
+            lone = single and pair[0] in (1, 11) and (kind, pair[1]) != ("schur", 8)
+            unjudged = {8, 9, 10, 13, 14, 17} - {"recipe": {13}, "schur": {8}}.get(kind, set())
             hidden = pair[0] == 11 and set(pair[1:]) & unjudged or call in ("load", "build") and pair == (1, 12)
             if not lone and not hidden and not any(set(pair) <= group for group in alone):
                 yield (call,) + pair

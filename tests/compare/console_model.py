@@ -15,6 +15,7 @@ LONGEST_LINE = 4096
 MOST_PLACE, MOST_MASK, MOST_LENT, MOST_STAMP, MOST_LISTED = 2 ** 32 - 1, 255, 512, 2 ** 64 - 1, 16
 # Number, offset and places of a sentence.
 MOST_SAID = 2 ** 32 - 1
+MOST_CLAMPED = 2 ** 32 - 1
 LENT_BYTE, LENT_ITEM = "a5", (1, 2 ** 31, 0)
 # Where the length to lend stands among the arguments of a call that writes bytes.
 LENT_BYTES_AT = {"write": 1, "sentence": 0}
@@ -28,17 +29,18 @@ WHOLE = re.compile(r"[0-9]+\Z")
 SIGNED = re.compile(r"-?[0-9]+\Z")
 HEX = re.compile(r"(?:[0-9a-f]{2})+\Z")
 
-# What follows each word of the console: P a place, M a mask, C a length to lend, B bytes, N one item, W a number of a sentence; at the end any number of
-# items, I, of stamps, S, of a sentence's places, L, or of a recipe's steps, R.
+# What follows each word of the console: P a place, M a mask, C a length to lend, B bytes, N one item, W a number of a sentence, K a number of clamped points;
+# at the end any number of items, I, of stamps, S, of a sentence's places, L, or of a recipe's steps, R.
 FORMS = {
     "load": "PB", "write": "PC", "drop": "P", "product": "PPP", "inverse": "PP", "converse": "PP", "transpose": "PP",
     "submatrix": "PMMP", "minor": "PMM", "carry": "PCI", "reversals": "I", "rest": "B", "show": "P",
     "add": "NN", "multiply": "NN", "divide": "NN", "build": "PS", "sentence": "CWWL", "length": "P", "recipe": "PR",
+    "schur": "PKP",
 }
 # A forecast has the operation's words without its target, the last word, or the first of a recipe.
 FORMS |= {call: FORMS[kind][1:] if kind == "recipe" else FORMS[kind][:-1] for call, kind in FORECASTS.items()}
 # The later description limits places to 2^32 - 1, so of these calls a larger one is no place and the line a bad request.
-LIMITED = ("length", "recipe", *FORECASTS)
+LIMITED = ("length", "recipe", "schur", *FORECASTS)
 
 
 def whole(text, most):
@@ -73,6 +75,7 @@ def step(text):
 READERS = {
     "P": lambda text: whole(text, MOST_PLACE), "M": lambda text: whole(text, MOST_MASK),
     "C": lambda text: whole(text, MOST_LENT), "B": data, "N": item, "W": lambda text: whole(text, MOST_SAID),
+    "K": lambda text: whole(text, MOST_CLAMPED),
 }
 # What reads each member of a list.
 LISTS = {"I": item, "S": lambda text: whole(text, MOST_STAMP), "L": lambda text: whole(text, MOST_SAID), "R": step}
@@ -114,7 +117,8 @@ def doubtful(line):
     call, texts, form = divided(line)
     form = form or ""
     for kind, text in zip(form.ljust(len(texts), form[-1:] or "?"), texts):
-        if kind == "B":
+        # docs/DECISIONS.md has since said how numbers are spelled: clamped points may have zeros in front and no sign.
+        if kind in "BK":
             continue
         if kind == "P" and call not in LIMITED and WHOLE.match(text) and MOST_PLACE < int(text) < BEYOND:
             return True
@@ -190,6 +194,9 @@ class Console:
 
     def submatrix(self, place, rows, columns, target):
         return "bound %d steps %d" % self.shelf.submatrix(place, rows, columns, target)
+
+    def schur(self, place, k, target):
+        return "bound %d steps %d" % self.shelf.schur(place, k, target)
 
     def recipe(self, target, steps):
         return "bound %d steps %d" % self.shelf.recipe(target, steps)

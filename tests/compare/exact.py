@@ -9,7 +9,7 @@ from fractions import Fraction
 from functools import reduce
 
 from number import value
-from words import Arithmetic, Walker, count, factors_by, interval, operation_word, plain_walk, rows_of, sets, updates, word
+from words import Arithmetic, Walker, chosen_rows, count, factors_by, interval, operation_word, plain_walk, rows_of, sets, updates, word
 
 FRACTIONS = Arithmetic(Fraction(0), Fraction(1), lambda a, b: a + b, lambda a, b: a * b, lambda a, b: a / b)
 UNIT = -math.log1p(-2.0 ** -32)
@@ -19,13 +19,8 @@ def in_fractions(letters):
     return [(kind, tuple(map(value, j)), w) if kind == "D" else (kind, j, value(w)) for kind, j, w in letters]
 
 
-def chosen_rows(kind, n, rows, columns):
-    every = rows_of(interval(1, n))
-    return (rows_of(rows), rows_of(columns)) if kind == "submatrix" else (every, every)
-
-
-def exact_run(kind, sources, rows=None, columns=None):
-    """One fraction for each (i, j), row by row. It finds the sets R by its own minors."""
+def exact_run(kind, sources, *given):
+    """One fraction for each (i, j), row by row. It finds the sets R by its own minors. Given are the sets of a submatrix, the k of a Schur complement."""
     n = sources[0].n
     letters = in_fractions(operation_word(kind, sources))
     walks = {}
@@ -35,7 +30,7 @@ def exact_run(kind, sources, rows=None, columns=None):
             walks[c] = plain_walk(letters, n, c, FRACTIONS)
         return walks[c][r]
 
-    return factors_by(minor, FRACTIONS, *chosen_rows(kind, n, rows, columns))
+    return factors_by(minor, FRACTIONS, *chosen_rows(kind, n, *given))
 
 
 def identity(n):
@@ -103,7 +98,14 @@ def inverse(entries):
     return [row[n:] for row in rows]
 
 
-def requested(kind, sources, rows=None, columns=None):
+def schur_complement(entries, k):
+    """The lower right block minus the lower left one times the leading block's inverse times the upper right one."""
+    (lead, right), (left, lower) = ([[row[:k] for row in rows], [row[k:] for row in rows]] for rows in (entries[:k], entries[k:]))
+    taken = matrix_product(matrix_product(left, inverse(lead)), right)
+    return [[x - y for x, y in zip(*rows)] for rows in zip(lower, taken)]
+
+
+def requested(kind, sources, *given):
     """The entries of the requested matrix; of a recipe, whose kind is the tuple of its ways, the product of what each step asks for."""
     if isinstance(kind, tuple):
         return reduce(matrix_product, (requested(way, [source]) for way, source in zip(kind, sources)))
@@ -118,7 +120,10 @@ def requested(kind, sources, rows=None, columns=None):
         return [[(-1) ** (i + j) * x for j, x in enumerate(row)] for i, row in enumerate(inverse(entries))]
     if kind == "converse":
         return [row[::-1] for row in entries[::-1]]
-    return [[entries[i - 1][j - 1] for j in rows_of(columns)] for i in rows_of(rows)]
+    if kind == "schur":
+        return schur_complement(entries, *given)
+    rows, columns = map(rows_of, given)
+    return [[entries[i - 1][j - 1] for j in columns] for i in rows]
 
 
 def dyadic_add(a, b):
@@ -168,7 +173,7 @@ def singular(source, rows, columns):
     return ExactWalker(word(source), source.n).minor(rows, columns)[0] == 0
 
 
-def exact_parts(kind, sources, rows=None, columns=None):
+def exact_parts(kind, sources, *given):
     """The exact run as pairs of whole numbers times powers of two, above and below the line, row by row."""
     n = sources[0].n
     walker = ExactWalker(operation_word(kind, sources), n)
@@ -184,7 +189,7 @@ def exact_parts(kind, sources, rows=None, columns=None):
         zero, None, None,
         lambda a, b: (dyadic_multiply(a[0], b[0]), dyadic_multiply(a[1], b[1])),
         lambda a, b: (dyadic_multiply(a[0], b[1]), dyadic_multiply(a[1], b[0])))
-    return factors_by(minor, quotients, *chosen_rows(kind, n, rows, columns))
+    return factors_by(minor, quotients, *chosen_rows(kind, n, *given))
 
 
 def units(number, parts):
@@ -205,9 +210,9 @@ def within(number, exact, k):
     return left * one >= right * small and right * one >= left * small
 
 
-def largest_units(kind, sources, result, rows=None, columns=None):
+def largest_units(kind, sources, result, *given):
     """The largest of the nonzero factors; a zero on one side alone is endlessly far."""
-    pairs = list(zip(result.factors, exact_parts(kind, sources, rows, columns)))
+    pairs = list(zip(result.factors, exact_parts(kind, sources, *given)))
     if any((number[0] == 0) != (parts[0][0] == 0) for number, parts in pairs):
         return math.inf
     return max(abs(units(number, parts)) for number, parts in pairs if number[0])

@@ -5,11 +5,17 @@ from exact import singular
 from model import FORECASTS, OPERATIONS
 from number import ZERO
 
-FILLING = ("load", "build", *OPERATIONS)
+FILLING = ("load", "build", "recipe", *OPERATIONS)
+# Calls that name the place they fill first.
+PLACE_FIRST = FILLING[:3]
+# The operations that the forecasts' own requests go through; what is shown of a Schur complement stands with the requests for it.
+DIRECT = tuple(kind for kind in OPERATIONS if kind != "schur")
 
 
 def rows_named(kind, source, words):
     """The sizes that the steps depend on."""
+    if kind == "schur":
+        return f"{source.n} rows, {words[1]} clamped"
     return f"{source.n} rows" + (f", {words[1].bit_count()} chosen" if kind == "submatrix" else "")
 
 
@@ -38,7 +44,7 @@ class Watch:
         if call in OPERATIONS and (call, *words[:-1]) in self.told:
             yield self.case_of_operation(call, words, before, answer)
         if call in FILLING and answer[0] != "refused":
-            self.filled[words[0 if call in ("load", "build") else -1]] = call
+            self.filled[words[0 if call in PLACE_FIRST else -1]] = call
         if call == "length" and answer[0] == "length":
             self.told[call, *words] = int(answer[1])
             yield from (f"length after {self.filled[words[0]]}", f"length of {before[words[0]].n} rows", f"length {answer[1]}")
@@ -72,14 +78,26 @@ class Watch:
             yield "written in the length told" if lent == length else "not written in one byte less"
 
 
+def sizes_of(kind):
+    """All sizes that the steps of an operation depend on."""
+    if kind == "submatrix":
+        return [f"{n} rows, {k} chosen" for n in range(1, 9) for k in range(1, n + 1)]
+    return [f"{n} rows, {k} clamped" for n in range(2, 9) for k in range(1, n)] if kind == "schur" else [f"{n} rows" for n in range(1, 9)]
+
+
+def cases_of_kind(kind):
+    """What forecasts of an operation have to show; its lengths too."""
+    yield from (f"{how}, {size}" for how in (f"forecast of {kind}", f"{kind} as foretold") for size in sizes_of(kind))
+    yield from (f"forecast of {kind}, {how}" for how in ("shelf full", "banded"))
+    yield from (f"{kind} foretold, refused {number}" for number in (1, 12) + (() if kind == "transpose" else (14,)))
+    yield f"length after {kind}"
+
+
 def every_forecast_case():
-    for kind in OPERATIONS:
-        sizes = [f"{n} rows" for n in range(1, 9)] if kind != "submatrix" else [f"{n} rows, {k} chosen" for n in range(1, 9) for k in range(1, n + 1)]
-        yield from (f"{how}, {size}" for how in (f"forecast of {kind}", f"{kind} as foretold") for size in sizes)
-        yield from (f"forecast of {kind}, {how}" for how in ("shelf full", "banded"))
-        yield from (f"{kind} foretold, refused {number}" for number in (1, 12) + (() if kind == "transpose" else (14,)))
+    for kind in DIRECT:
+        yield from cases_of_kind(kind)
     yield from ("submatrix foretold, refused 17", "forecast of a singular submatrix", "bad request, forecast", "bad request, length")
-    yield from (f"length after {call}" for call in FILLING)
+    yield from (f"length after {call}" for call in ("load", "build"))
     yield from (f"length of {n} rows" for n in range(1, 9))
     yield from ("length of a banded place", "length 3", "length 449", "written in the length told", "not written in one byte less")
 

@@ -5,9 +5,10 @@ freeze.py [--seed S] [--count N] [--check]: about N requests, the same for the s
 each call, every pair of refusals that a call can meet at once, each operation in all sizes, every number of stamps and every
 fault of them that can stand alone, every way that a sum, a product and a quotient can be rounded, the sentence of every number in
 lent bytes that just suffice and in one less, and banded places in every call and every place that breaks their pattern, or it
-fails. Behind these N come forecasts and lengths, each operation in all sizes foretold and run, and behind those the recipes, each
-number of steps in all sizes. A line that is too long lies across the end of a program's first read, and the last line lacks its
-end. With --check nothing is written: the files are held to what would be.
+fails. Behind these N come forecasts and lengths, each operation in all sizes foretold and run, behind those the recipes, each
+number of steps in all sizes, and last the Schur complements, each number of clamped points in all sizes. A line that is too long
+lies across the end of a program's first read, and the last line lacks its end. With --check nothing is written: the files are
+held to what would be.
 """
 import argparse
 import os
@@ -32,6 +33,8 @@ from pairs import cases, every_case, pair
 from recipe_cases import unjoined
 from recipe_sweeps import every_recipe
 from requests import DIRECT, Stream, stream
+from schur_cases import unclamped
+from schur_sweeps import every_schur
 from sentence_lines import every_sentence_case, sentence_cases, sentences
 from sources import far_apart, good_masks, spread_number, unit_items
 from stamp_lists import build_line, lone_faults, rising
@@ -185,11 +188,12 @@ def lines(seed, shelf):
 
 
 def covering(seed, count):
-    """Requests and the model's answers: about `count` of `lines`, then forecasts and lengths, then recipes, in parts of their own that leave those before
-    them alone."""
+    """Requests and the model's answers: about `count` of `lines`, then forecasts and lengths, then recipes, then Schur complements, in parts of their own that
+    leave those before them alone."""
     def later(shelf):
         yield from every_forecast(Stream(random.Random(f"foretold {seed}"), shelf))
         yield from every_recipe(Stream(random.Random(f"joined {seed}"), shelf))
+        yield from every_schur(Stream(random.Random(f"clamped {seed}"), shelf))
 
     return batch(lambda shelf: lines(seed, shelf), count, later)
 
@@ -230,7 +234,8 @@ def missing(asked, wanted, tally):
         yield from (f"{call} {number}" for number in (0, *order) if not tally.outcomes[call, number])
     sizes = {(line.split(" ")[0], *answer.split(" ")[:2]) for line, answer in zip(asked, wanted)}
     for call in OPERATIONS:
-        if sum(size[:2] == (call, "bound") for size in sizes) < (1 if call == "transpose" else 8):
+        # A transpose has one bound for all, and of one row no points can be clamped.
+        if sum(size[:2] == (call, "bound") for size in sizes) < {"transpose": 1, "schur": 7}.get(call, 8):
             yield f"{call} in all sizes"
     yield from (f"{call}, {case}" for call, case in uncovered(asked))
     yield from (f"build, {case}" for case in unbuilt(asked, wanted))
@@ -238,6 +243,7 @@ def missing(asked, wanted, tally):
     yield from unbanded(asked)
     yield from unforetold(asked)
     yield from unjoined(asked)
+    yield from unclamped(asked)
     pairs = together(asked)
     yield from (f"{call} {first} with {second}" for call, first, second in wanted_pairs() if not pairs[call, first, second])
 

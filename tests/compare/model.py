@@ -14,7 +14,7 @@ from words import bound, carry, count, foretold, interval, minor, operate_counte
 
 PLACES = 8
 ONE_SOURCE = ("inverse", "converse", "transpose")
-OPERATIONS = ("product", "submatrix") + ONE_SOURCE
+OPERATIONS = ("product", "submatrix") + ONE_SOURCE + ("schur",)
 WORKED = ("add", "multiply", "divide")
 # The tests of each call, in order. A load reads its bytes (2 to 7 and 16) from the left, last.
 ORDER = {
@@ -22,6 +22,7 @@ ORDER = {
     "product": (1, 11, 12, 13, 14), "inverse": (1, 11, 12, 14), "converse": (1, 11, 12, 14), "transpose": (1, 11, 12),
     "submatrix": (1, 11, 12, 8, 17, 14), "minor": (1, 11, 8, 14), "carry": (1, 11, 9, 14, 10), "reversals": (9,), "rest": (),
     "add": (9,), "multiply": (9,), "divide": (9,), "sentence": (9, 10), "length": (1, 11), "recipe": (18, 1, 11, 12, 13, 14),
+    "schur": (1, 11, 12, 8, 14),
 }
 FEWEST_STEPS, MOST_STEPS = 2, 6
 # A forecast tests as the operation does, without these.
@@ -33,6 +34,15 @@ ORDER |= {call: tuple(k for k in ORDER[kind] if k not in UNTESTED) for call, kin
 def sets_good(n, rows, columns):
     every = interval(1, n)
     return rows != 0 and count(rows) == count(columns) and (rows | columns) & ~every == 0
+
+
+def clamp_good(n, k):
+    """Whether the first k of n points can be clamped: some are, and some remain."""
+    return 1 <= k < n
+
+
+# What an operation's further words have to keep, by the source's size; else 8.
+GOOD = {"submatrix": sets_good, "schur": clamp_good}
 
 
 def item_good(item):
@@ -108,23 +118,24 @@ class Shelf:
         result, steps = operate_counted("product", sources)
         return self.keep(target, result, (bound("product", sources[0].n), steps))
 
-    def one_source(self, kind, place, target):
+    def one_source(self, kind, place, target, *given):
         self.known(place, target)
         source = self.source(place)
         self.free(target)
-        result, steps = (transpose(source), 0) if kind == "transpose" else operate_counted(kind, [source])
+        if kind in GOOD and not GOOD[kind](source.n, *given):
+            raise Refusal(8)
+        # A Schur complement is never singular: its determinant is that of the source over M(1..k).
+        if kind == "submatrix" and singular(source, *given):
+            raise Refusal(17)
+        result, steps = (transpose(source), 0) if kind == "transpose" else operate_counted(kind, [source], *given)
         return self.keep(target, result, (bound(kind, source.n), steps))
 
     def submatrix(self, place, rows, columns, target):
-        self.known(place, target)
-        source = self.source(place)
-        self.free(target)
-        if not sets_good(source.n, rows, columns):
-            raise Refusal(8)
-        if singular(source, rows, columns):
-            raise Refusal(17)
-        result, steps = operate_counted("submatrix", [source], rows, columns)
-        return self.keep(target, result, (bound("submatrix", source.n), steps))
+        return self.one_source("submatrix", place, target, rows, columns)
+
+    def schur(self, place, k, target):
+        """What remains after the first k points are clamped."""
+        return self.one_source("schur", place, target, k)
 
     def step_sources(self, steps, *target):
         """What the steps of a recipe hold: 18, then 1 of all that is named, then 11."""
@@ -161,9 +172,9 @@ class Shelf:
         sizes = [self.source(place).n for place in places]
         if len(set(sizes)) > 1:
             raise Refusal(13)
-        if kind == "submatrix" and not sets_good(*sizes, *words[1:]):
+        if kind in GOOD and not GOOD[kind](*sizes, *words[1:]):
             raise Refusal(8)
-        return foretold(kind, sizes[0], count(words[1]) if kind == "submatrix" else sizes[0])
+        return foretold(kind, sizes[0], {"submatrix": count, "schur": int}[kind](words[1]) if kind in GOOD else sizes[0])
 
     def length(self, place):
         """How many bytes writing the place takes."""

@@ -2,7 +2,7 @@
 
 stream(seed, shelf): lines for ever. The shelf is the model's, looked at to choose places that hold a matrix or are free; the
 line given out must be answered by the model before the next is asked for. Each scenario in SCENARIOS gives a few lines; those of
-DIRECT know nothing of forecasts, lengths and recipes.
+DIRECT know nothing of forecasts, lengths, recipes and Schur complements.
 """
 import random
 
@@ -13,6 +13,8 @@ import forecast_sweeps
 import list_lines
 import recipe_lines
 import recipe_sweeps
+import schur_lines
+import schur_sweeps
 import sweeps
 from banded import any_matrix, any_sets
 from banded_lines import operations, readings
@@ -222,6 +224,10 @@ SCENARIOS = DIRECT + (
     (foretold(recipe_lines.anywhere), 24), (recipe_lines.misread, 24), (recipe_sweeps.every_count, 0.1), (recipe_sweeps.every_order_joined, 0.2),
     (recipe_sweeps.every_step_wrong, 0.1), (recipe_sweeps.every_place_joined, 0.1), (recipe_sweeps.every_zero_joined, 0.2),
     (recipe_sweeps.every_edge_joined, 0.2),
+    (foretold(schur_lines.clamped), 30), (schur_lines.clamped, 16), (foretold(schur_lines.edge), 12), (schur_lines.edge, 6),
+    (foretold(schur_lines.anywhere), 24), (schur_lines.misread, 20), (schur_sweeps.every_wrong_clamp, 0.1),
+    (schur_sweeps.every_order_clamped, 0.2), (schur_sweeps.every_edge_clamped, 0.1), (schur_sweeps.every_zero_clamped, 0.2),
+    (schur_sweeps.every_use_clamped, 0.2), (schur_sweeps.some_patterns_clamped, 0.2),
 )
 
 

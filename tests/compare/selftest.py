@@ -14,10 +14,13 @@ import check_marked  # noqa: F401
 import check_pattern  # noqa: F401
 import check_random  # noqa: F401
 import check_recipes  # noqa: F401
+import check_schur  # noqa: F401
+import check_schur_lines  # noqa: F401
 import check_sentences  # noqa: F401
 import check_spoilt  # noqa: F401
 import check_stamps  # noqa: F401
 import check_wrong_recipes  # noqa: F401
+import check_wrong_schur  # noqa: F401
 from checks import CHECKS
 
 

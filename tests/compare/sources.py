@@ -94,10 +94,10 @@ def shifted(source, diagonal, side):
     return Matrix(n, tuple(factors)) if all(map(stored, factors)) else None
 
 
-def aimed(rng, kind, n, rows=None, columns=None):
+def aimed(rng, kind, n, *given):
     """Sources of a small operation moved so that one new factor's exponent is about 1000 or -1000, on either side."""
     sources = [filled(lambda rng: spread_number(rng, 3))(rng, n) for _ in range(2 if kind == "product" else 1)]
-    result = operate(kind, sources, rows, columns)
+    result = operate(kind, sources, *given)
     place = rng.randrange(len(result.factors))
     i, j = divmod(place, result.n)
     wanted = rng.choice((-EDGE - 1, -EDGE, EDGE, EDGE + 1)) - result.factors[place][1]
@@ -107,7 +107,7 @@ def aimed(rng, kind, n, rows=None, columns=None):
     else:
         # A side factor of a submatrix moves by the distance between its two rows or columns.
         if kind == "submatrix":
-            members = rows_of(rows if i > j else columns)
+            members = rows_of(given[i < j])
             wanted //= members[max(i, j)] - members[max(i, j) - 1]
         side = wanted if (i > j) != (kind == "converse") else -wanted
         moves = [(0, side), (0, side)]

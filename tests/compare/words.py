@@ -2,7 +2,8 @@
 
 Matrix: n and its n * n factors, row by row. A letter is ("E", j, w), ("Et", j, w), or ("D", entries, divides), the
 entries of the positions 1 to n. word, inverse_word, converse_word, transpose_word; operation_word: what an operation walks, the kind
-of a recipe of document 02, (f), being the tuple of its steps' ways. factors_by: the new factors from minors, in any arithmetic;
+of a recipe of document 02, (f), being the tuple of its steps' ways. chosen_rows: the rows and columns that its sets count among, and
+what is joined to both, of a Schur complement of document 02, (l). factors_by: the new factors from minors, in any arithmetic;
 latest, quotient: the set R of document 02, (e), and the minors that a new factor is made of. Walker: minors of a word by the
 rounded rule, one walk for each column set, and the steps of document 02, (k). plain_walk, plain_minor: the same rule said letter by
 letter for any arithmetic. operate_counted: the new factors with the steps that they took; foretold: the steps by the sizes alone.
@@ -85,7 +86,7 @@ def operation_word(kind, sources):
         return [letter for way, source in zip(kind, sources) for letter in WAYS[way](source)]
     if kind == "product":
         return word(sources[0]) + word(sources[1])
-    return {"inverse": inverse_word, "converse": converse_word, "submatrix": word}[kind](sources[0])
+    return {"inverse": inverse_word, "converse": converse_word, "submatrix": word, "schur": word}[kind](sources[0])
 
 
 @lru_cache(None)
@@ -121,15 +122,25 @@ def chosen(mask, rows):
     return sum(bit(rows[place - 1]) for place in rows_of(mask))
 
 
-def factors_by(minor, arithmetic, rows, columns, worked=None):
-    """The new factors, row by row, with the sets of the formulas counted among the chosen rows and columns. The minors of the quotients are taken from
-    `worked`, where it is given, and all others from `minor`."""
+def chosen_rows(kind, n, *given):
+    """The rows and the columns that the sets of an operation on n rows count among, and the set that is joined to both: of a submatrix the given ones and none,
+    of a Schur complement those behind the given k and 1..k, else all of them and none."""
+    if kind == "submatrix":
+        return *map(rows_of, given), 0
+    k = given[0] if kind == "schur" else 0
+    return *[rows_of(interval(k + 1, n))] * 2, interval(1, k)
+
+
+def factors_by(minor, arithmetic, rows, columns, joined=0, worked=None):
+    """The new factors, row by row, with the sets of the formulas counted among the chosen rows and columns, and `joined` added to each, the empty one too.
+    The minors of the quotients are taken from `worked`, where it is given, and all others from `minor`."""
     def plain(work):
-        return lambda r, c: work(chosen(r, rows), chosen(c, columns))
+        return lambda r, c: work(joined | chosen(r, rows), joined | chosen(c, columns))
 
     def exchanged(work):
         """For the factors above the diagonal: the same minors, rows and columns exchanged."""
-        return lambda c, r: work(chosen(r, rows), chosen(c, columns))
+        turned = plain(work)
+        return lambda c, r: turned(r, c)
 
     works = minor, worked or minor
     below, above = [plain(work) for work in works], [exchanged(work) for work in works]
@@ -229,28 +240,27 @@ def minor(matrix, rows, columns):
     return Walker(word(matrix), matrix.n).minor(rows, columns)
 
 
-def operate_counted(kind, sources, rows=None, columns=None):
-    """The new factors of a product, inverse, converse, recipe or submatrix that is not singular, by the rounded rule, whatever their exponents; and the steps
-    made."""
+def operate_counted(kind, sources, *given):
+    """The new factors of a product, inverse, converse, recipe, Schur complement or submatrix that is not singular, by the rounded rule, whatever their
+    exponents; and the steps made. Given are the sets of a submatrix, the k of a Schur complement."""
     n = sources[0].n
-    every = rows_of(interval(1, n))
-    rows, columns = (rows_of(rows), rows_of(columns)) if kind == "submatrix" else (every, every)
+    rows, columns, joined = chosen_rows(kind, n, *given)
     walker = Walker(operation_word(kind, sources), n)
-    return Matrix(len(rows), factors_by(walker.minor, ROUNDED, rows, columns, walker.worked)), walker.steps
+    return Matrix(len(rows), factors_by(walker.minor, ROUNDED, rows, columns, joined, walker.worked)), walker.steps
 
 
-def operate(kind, sources, rows=None, columns=None):
-    return operate_counted(kind, sources, rows, columns)[0]
+def operate(kind, sources, *given):
+    return operate_counted(kind, sources, *given)[0]
 
 
 @lru_cache(None)
 def foretold(kind, n, size):
-    """The steps of an operation on n rows, `size` of them chosen for a submatrix: counted where all factors are one, so that no minor is zero. A singular
-    choice has the same number, as the formulas ask for minors of the same sizes."""
+    """The steps of an operation on n rows, `size` of them chosen for a submatrix or clamped for a Schur complement: counted where all factors are one, so that
+    no minor is zero. A singular choice has the same number, as the formulas ask for minors of the same sizes."""
     if kind == "transpose":
         return 0
-    ones, first = Matrix(n, (ONE,) * (n * n)), interval(1, size)
-    return operate_counted(kind, [ones] * (len(kind) if isinstance(kind, tuple) else 2), first, first)[1]
+    ones, given = Matrix(n, (ONE,) * (n * n)), (size,) if kind == "schur" else (interval(1, size),) * 2
+    return operate_counted(kind, [ones] * (len(kind) if isinstance(kind, tuple) else 2), *given)[1]
 
 
 def transpose(matrix):

@@ -1,20 +1,22 @@
 -- A COMBINATION OF ROWS AND MINORS. The contraction of a form by a combination l of rows (contract) is an antiderivation (contract-wedge). So where l is row i
--- and rows of S, all before row i, and kills the columns vs, the minor of v and vs at S and i is what l makes of v times that of vs at S (combined-minor).
-use mathlib.Core.Path.{_≡_, refl, sym, ap, ap₂, _∙_}
+-- and rows of S, all before row i, and kills the columns vs, the minor of v and vs at S and i is what l makes of v times that of vs at S (combined-minor). The
+-- first columns of a matrix are killed where each of them is (kills-first).
+use mathlib.Core.Path.{_≡_, refl, sym, ap, ap₂, _∙_, subst}
 use mathlib.Core.Bool.{true, false}
 use mathlib.Core.List.{List, [], _∷_}
-use Prim.Native.Nat.{ℕ, suc, _-_}
+use Prim.Native.Nat.{ℕ, zero, suc, _-_, _≤_}
 use native.Mathlib.Decide.{ℕ-discrete}
 use native.Mathlib.Omega.{arith}
 use lib.ListN.{length}
 use Rattle.fraction.specs.Ring.{CRing}
 use Rattle.fraction.proofs.Ring.{ring, zero-+, +-zero, zero-*, *-zero, one-*, neg-zero}
-use Rattle.words.specs.RowSet.{In, RowSet, has, put}
-use Rattle.words.proofs.RowSets.{in-under, in-top, has-top, has-under, put-top, put-under}
+use Rattle.words.specs.RowSet.{In, RowSet, has, put, rows}
+use Rattle.words.proofs.RowSets.{in-under, in-top, has-top, has-under, put-top, put-under, length-rows}
+use Rattle.words.proofs.Runs.{rows-last, rows-out, rows-none}
 use Rattle.words.proofs.Walks.{under}
 use Rattle.words.proofs.Agree.{Agree, agree-under}
-use Rattle.minors.specs.Matrix.{sum}
-use Rattle.minors.proofs.Determinant.{wedge, empty, wedges}
+use Rattle.minors.specs.Matrix.{Matrix, sum}
+use Rattle.minors.proofs.Determinant.{wedge, empty, wedges, columns}
 use Rattle.minors.proofs.Wedge.{wedge-add, wedge-agree, wedge-zero}
 use Rattle.bands.proofs.Heights.{stands}
 use Rattle.bands.proofs.Lattice.{Before}
@@ -153,3 +155,28 @@ module _ (K : CRing) where
   combined-minor n l v vs S i s p b o h k =
       sym (contract-one l (wedges K (v ∷ vs)) S i (p .0, omega (arith, p .1, s)) b o (λ r q. h r (q .0, omega (arith, q .1, s))))
       ∙ contract-next n l v (wedges K vs) S s (contract-killed n l vs k)
+
+  -- THE FIRST COLUMNS of a matrix, the highest first
+  pub columns-first : (M : Matrix K) (n j : ℕ) → suc j ≤ n → columns K M (rows n 1 (suc j)) ≡ (λ i. M i (suc j)) ∷ columns K M (rows n 1 j)
+  unfolding columns
+  columns-first M zero j h = absurd (omega arith)
+  columns-first M (suc n) j h = elim (ℕ-discrete (suc j) (suc n)) [
+    | yes e ↦
+        let f : j ≡ n = omega arith in
+        ap (λ m. columns K M (rows (suc n) 1 (suc m))) f ∙ ap (columns K M) (rows-last n 1 (omega arith))
+        ∙ ap (λ m. (λ i. M i (suc m)) ∷ columns K M (rows n 1 n)) (length-rows n 1 n)
+        ∙ ap (λ vs. (λ i. M i (suc n)) ∷ vs) (sym (ap (columns K M) (rows-out n 1 n (λ p q. omega arith))))
+        ∙ ap (λ m. (λ i. M i (suc m)) ∷ columns K M (rows (suc n) 1 m)) (sym f)
+    | no e ↦
+        ap (columns K M) (rows-out n 1 (suc j) (λ p q. e (omega arith))) ∙ columns-first M n j (omega arith)
+        ∙ ap (λ vs. (λ i. M i (suc j)) ∷ vs) (sym (ap (columns K M) (rows-out n 1 j (λ p q. omega arith))))
+  ]
+
+  -- killed where each is: the combination is of n rows, the first c columns are taken of m
+  pub kills-first : (n m : ℕ) (M : Matrix K) (l : ℕ → R) (c : ℕ) → c ≤ m → ((q : ℕ) → 1 ≤ q → q ≤ c → combined n l (λ r. M r q) ≡ 𝟘)
+      → Kills n l (columns K M (rows m 1 c))
+  unfolding columns
+  kills-first n m M l zero h k = subst (Kills n l) (sym (rows-none (columns K M) (λ S. refl) m 1 0 (omega arith))) tt
+  kills-first n m M l (suc c) h k =
+      subst (Kills n l) (sym (columns-first M m c h))
+      (k (suc c) (omega arith) (omega arith), kills-first n m M l c (omega arith) (λ q p e. k q p (omega arith)))

@@ -1,8 +1,7 @@
 -- ELIMINATION BELOW THE DIAGONAL by factors g: from each row g times the row before is taken away, so that row i has its first c columns killed (eliminated).
 -- With the sets R of document 02 (e) this combination of rows does kill them (killed), and at the next column it gives v (valued).
-use mathlib.Core.Path.{_≡_, refl, sym, ap, ap₂, _∙_, subst}
+use mathlib.Core.Path.{_≡_, refl, sym, ap, ap₂, _∙_}
 use mathlib.Core.Bool.{Bool, true, false, false≢true}
-use mathlib.Core.List.{[], _∷_}
 use Prim.Native.Nat.{ℕ, zero, suc, _-_, _≤_, _<_, _+_ as _+ℕ_}
 use native.Mathlib.Decide.{ℕ-discrete, decLe}
 use native.Mathlib.Omega.{arith}
@@ -11,15 +10,13 @@ use borrow.Author.Tests.{eq-eqb, ne-eqb}
 use Rattle.fraction.specs.Ring.{CRing}
 use Rattle.fraction.proofs.Ring.{ring, +-neg}
 use Rattle.words.specs.RowSet.{In, RowSet, has, put, rows}
-use Rattle.words.proofs.RowSets.{length-rows}
-use Rattle.words.proofs.Runs.{rows-last, rows-out}
 use Rattle.minors.specs.Matrix.{Matrix, identity}
 use Rattle.minors.proofs.Sums.{sum-equal, sum-add, scale-sum}
 use Rattle.minors.proofs.Products.{identity-sum}
 use Rattle.minors.proofs.Determinant.{wedges, columns, determinant}
 use Rattle.bands.proofs.Heights.{stands, above, one, has-above}
 use Rattle.bands.proofs.Lattice.{Before, before-le}
-use Rattle.bands.proofs.Contraction.{combined, Kills, combined-minor}
+use Rattle.bands.proofs.Contraction.{combined, columns-first, kills-first, combined-minor}
 
 -- a row has no part in a combination, or it is there
 pub data Or (A B : Type 0) : Type 0 where
@@ -80,27 +77,6 @@ module _ (K : CRing) where
       out : (w s : R) → neg w * s ≡ neg (w * s)
       out w s = simp ring
 
-  -- the first columns, the highest first
-  columns-first : (M : Matrix K) (n j : ℕ) → suc j ≤ n → columns K M (rows n 1 (suc j)) ≡ (λ i. M i (suc j)) ∷ columns K M (rows n 1 j)
-  unfolding columns
-  columns-first M zero j h = absurd (omega arith)
-  columns-first M (suc n) j h = elim (ℕ-discrete (suc j) (suc n)) [
-    | yes e ↦
-        let f : j ≡ n = omega arith in
-        ap (λ m. columns K M (rows (suc n) 1 (suc m))) f ∙ ap (columns K M) (rows-last n 1 (omega arith))
-        ∙ ap (λ m. (λ i. M i (suc m)) ∷ columns K M (rows n 1 n)) (length-rows n 1 n)
-        ∙ ap (λ vs. (λ i. M i (suc n)) ∷ vs) (sym (ap (columns K M) (rows-out n 1 n (λ p q. omega arith))))
-        ∙ ap (λ m. (λ i. M i (suc m)) ∷ columns K M (rows (suc n) 1 m)) (sym f)
-    | no e ↦
-        ap (columns K M) (rows-out n 1 (suc j) (λ p q. e (omega arith))) ∙ columns-first M n j (omega arith)
-        ∙ ap (λ vs. (λ i. M i (suc j)) ∷ vs) (sym (ap (columns K M) (rows-out n 1 j (λ p q. omega arith))))
-  ]
-
-  columns-none : (M : Matrix K) (n : ℕ) → columns K M (rows n 1 0) ≡ []
-  unfolding columns rows
-  columns-none M zero = refl
-  columns-none M (suc n) = ap (columns K M) (rows-out n 1 0 (λ p q. omega arith)) ∙ columns-none M n
-
   -- M of n rows, with the factors g, the numbers v and the sets C of rows i and columns j, j not above i
   module _ (n : ℕ) (M : Matrix K) (g v : ℕ → ℕ → R) (C : ℕ → ℕ → RowSet)
       (size : (i j : ℕ) → 1 ≤ j → j ≤ i → i ≤ n → length (C i j) ≡ n)
@@ -151,21 +127,16 @@ module _ (K : CRing) where
     abbrev Killed : ℕ → Type 0
     Killed c = (i : ℕ) → c < i → i ≤ n → (q : ℕ) → 1 ≤ q → q ≤ c → left n g (λ r. M r q) i c ≡ 𝟘
 
-    kills-first : (c : ℕ) → c ≤ n → (l : ℕ → R) → ((q : ℕ) → 1 ≤ q → q ≤ c → combined K n l (λ r. M r q) ≡ 𝟘) → Kills K n l (columns K M (rows n 1 c))
-    kills-first zero h l k = subst (Kills K n l) (sym (columns-none M n)) tt
-    kills-first (suc c) h l k =
-        subst (Kills K n l) (sym (columns-first M n c h)) (k (suc c) (omega arith) (omega arith), kills-first c (omega arith) l (λ q p e. k q p (omega arith)))
-
     valued-from : (c : ℕ) → Killed c → (i : ℕ) → c < i → i ≤ n → left n g (λ r. M r (suc c)) i c ≡ v i (suc c)
     unfolding determinant
     valued-from c kd i l h =
         let e : suc c - 1 ≡ c = omega arith in
         cancel i (suc c) (omega arith) l h _ _
         (ap (λ m. left n g (λ r. M r (suc c)) i c * wedges K (columns K M (rows n 1 m)) (C i (suc c))) e
-        ∙ sym (ap (λ vs. wedges K vs (put i true (C i (suc c)))) (columns-first M n c (omega arith))
+        ∙ sym (ap (λ vs. wedges K vs (put i true (C i (suc c)))) (columns-first K M n c (omega arith))
         ∙ combined-minor K n (eliminated g i c) (λ r. M r (suc c)) (columns K M (rows n 1 c)) (C i (suc c)) i (size i (suc c) (omega arith) l h)
         (omega arith, h) (before i (suc c) (omega arith) l h) (eliminated-own g i c (omega arith)) (outside c i l h)
-        (kills-first c (omega arith) (eliminated g i c) (kd i l h)))
+        (kills-first K n n M (eliminated g i c) c (omega arith) (kd i l h)))
         ∙ value i (suc c) (omega arith) l h)
 
     -- THE COLUMNS ARE KILLED

@@ -2,6 +2,7 @@ pub mod Heights
 pub mod Reach
 pub mod Nonzero
 pub mod Lattice
+pub mod Clamped
 pub mod Contraction
 pub mod Elimination
 pub mod Reduction
@@ -12,4 +13,6 @@ pub mod Chosen
 pub mod Patterned
 pub mod Words
 pub mod Theorem
+pub mod Schur
+pub mod Remains
 pub mod Runs

@@ -42,7 +42,7 @@ zeroed-of K O k A B e Z = record {
   from = λ j I l i h. subst (O .Pos) (determinant-equal K k A B e I (rows k 1 j) i (length-rows k 1 j)) (Z .from j I l i h);
 }
 
-transposed-signs : (K : CRing) (O : Ordered K) (n : ℕ) (W : Word (K .R)) → All (KeepsSign K O n) W → All (KeepsSign K O n) (transposedWord W)
+pub transposed-signs : (K : CRing) (O : Ordered K) (n : ℕ) (W : Word (K .R)) → All (KeepsSign K O n) W → All (KeepsSign K O n) (transposedWord W)
 transposed-signs K O n = transposed-all (KeepsSign K O n) (KeepsSign K O n) one
   where
     one : (l : Letter (K .R)) → KeepsSign K O n l → KeepsSign K O n (transposedLetter l)

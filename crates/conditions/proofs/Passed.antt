@@ -1,20 +1,22 @@
 -- WHAT THE TESTS OF ACCEPTED CALLS HAVE SHOWN: every source is a place that holds a matrix of as many rows as the first (`alone-accepted`), and the target is a
 -- place that is empty (`to-accepted`). Where that is so, they pass (`held-passes`): nothing else is asked. A target that is there and empty turns nothing down
--- (`apart`).
+-- (`apart`). Of clamped rows there is one or more, and one or more is left (`clamped`); behind the places, a choice is tested (`choice-verdict`,
+-- `choice-passed`, `choice-apart`).
 use Prim.Native.Nat.{ℕ, _≤_, _<_}
 use native.Mathlib.Nat.{not-suc-le-zero}
 use native.Mathlib.Omega.{arith}
 use mathlib.Core.Path.{_≡_, refl, sym, ap, ap₂, _∙_}
 use mathlib.Core.Bool.{Bool, true, false, not, _||_, false≢true}
 use mathlib.Core.List.{List, [], _∷_, _++_}
-use lib.Dec.{ltb}
+use lib.Dec.{ltb, leb, eqb}
 use lib.ListN.{length, getD}
-use borrow.Author.Tests.{le-ltb, ltb-false, eq-eqb, ne-eqb, eqb-true, eqb-false, not-false}
+use borrow.Author.Tests.{le-ltb, ltb-false, leb-false, eq-eqb, ne-eqb, eqb-true, eqb-false, not-false}
 use Rattle.verdict.specs.declared.Verdict.{Verdict}
 use Rattle.verdict.specs.declared.Verdict.the-variants.{Accepted}
 use Rattle.verdict.specs.Verdict.{firstBehind, firstOf, orElse, when}
-use Rattle.verdict.proofs.Verdicts.{first-append, append-passed, when-accepted}
-use Rattle.conditions.specs.Conditions.{miscounted, above, eachTested, empty, full, differ, alikeTests, targetAlone, sourcesAlone, sourcesTo}
+use Rattle.verdict.proofs.Verdicts.{first-append, first-last, append-passed, first-passed, when-accepted, when-passed}
+use Rattle.conditions.specs.Conditions.{miscounted, misclamped, above, eachTested, empty, full, differ, alikeTests}
+use Rattle.conditions.specs.Conditions.{targetAlone, sourcesAlone, sourcesTo, choiceTo, choiceAlone}
 
 -- none of some places has a condition
 module _ (f : ℕ → Bool) where
@@ -31,12 +33,26 @@ module _ (f : ℕ → Bool) where
   each-passes k [] h = refl
   each-passes k (p ∷ L) h = ap (λ (b : Bool). firstOf (when b k ∷ eachTested f k L)) (h .0) ∙ each-passes k L (h .1)
 
+neither : (a b : Bool) → a || b ≡ false → (a ≡ false) × (b ≡ false)
+neither false b e = (refl, e)
+neither true b e = absurd (false≢true (sym e))
+
 pub counted : (m : ℕ) → miscounted m ≡ false → (2 ≤ m) × (m ≤ 6)
 counted m e = let c = neither (ltb m 2) (ltb 6 m) e in (ltb-false m 2 (c .0), ltb-false 6 m (c .1))
-  where
-    neither : (a b : Bool) → a || b ≡ false → (a ≡ false) × (b ≡ false)
-    neither false b e = (refl, e)
-    neither true b e = absurd (false≢true (sym e))
+
+pub clamped : (n k : ℕ) → misclamped n k ≡ false → (1 ≤ k) × (k < n)
+clamped n k e =
+    let c = neither (eqb k 0) (leb n k) e in
+    let z : k ≡ 0 → ⊥ = eqb-false k 0 (c .0) in
+    (omega arith, leb-false n k (c .1))
+
+-- behind the tests L of places
+pub choice-verdict : (L : List Verdict) {wrong found : Bool} {u v : Verdict} → u ≡ firstOf L → found ≡ wrong → v ≡ orElse u (when found 8)
+    → v ≡ firstOf (L ++ (when wrong 8 ∷ []))
+choice-verdict L {wrong} e f g = g ∙ ap₂ (λ (w : Verdict) (b : Bool). orElse w (when b 8)) e f ∙ sym (first-last L (when wrong 8))
+
+pub choice-passed : (L : List Verdict) (wrong : Bool) → firstOf (L ++ (when wrong 8 ∷ [])) ≡ Accepted → (firstOf L ≡ Accepted) × (wrong ≡ false)
+choice-passed L wrong e = let a = first-passed L (when wrong 8) e in (a .0, when-passed wrong 8 (a .1))
 
 module _ (rows : ℕ → ℕ) where
   -- a source that was accepted holds a matrix
@@ -73,6 +89,12 @@ module _ (rows : ℕ → ℕ) where
       ap₂ (λ (a b : Bool). firstOf (eachTested above 1 L ++ (when a 1 ∷ (eachTested (empty rows) 11 L ++ (when b 12 ∷ alikeTests rows L)))))
       (there t h) (free t e)
       ∙ without (eachTested above 1 L) (eachTested (empty rows) 11 L) (alikeTests rows L)
+
+  -- A CHOICE, behind the places
+  pub choice-apart : (p : ℕ) (wrong : Bool) (t : ℕ) → t < 8 → rows t ≡ 0 → firstOf (choiceTo rows p wrong t) ≡ firstOf (choiceAlone rows p wrong)
+  choice-apart p wrong t h e =
+      let w = when wrong 8 in
+      first-last (sourcesTo rows (p ∷ []) t) w ∙ ap (λ (v : Verdict). orElse v w) (apart (p ∷ []) t h e) ∙ sym (first-last (sourcesAlone rows (p ∷ [])) w)
 
   -- what passed shows of the target
   pub target-accepted : (t : ℕ) → firstOf (targetAlone rows t) ≡ Accepted → Target t

@@ -1,15 +1,19 @@
 -- THE CONDITIONS ON PLACES that turn a call down, with their numbers, and the order of their tests (document 01, "Turned down for the state"; document 02,
--- (f)). Of a shelf they ask only for the rows at each place, 0 where it is empty.
+-- (f), (l)). Of a shelf they ask only for the rows at each place, 0 where it is empty.
 use Prim.Native.Nat.{ℕ}
 use mathlib.Core.Bool.{Bool, false, not, _||_}
 use mathlib.Core.List.{List, [], _∷_, _++_}
-use lib.Dec.{ltb, eqb}
+use lib.Dec.{ltb, leb, eqb}
 use Rattle.verdict.specs.declared.Verdict.{Verdict}
 use Rattle.verdict.specs.Verdict.{when}
 
 -- 18: the count of steps is not 2 to 6
 abbrev pub miscounted : ℕ → Bool
 miscounted m = ltb m 2 || ltb 6 m
+
+-- 8: of n rows none is clamped, or none is left
+abbrev pub misclamped : ℕ → ℕ → Bool
+misclamped n k = eqb k 0 || leb n k
 
 -- 1: place above 7
 abbrev pub above : ℕ → Bool
@@ -54,6 +58,13 @@ module _ (rows : ℕ → ℕ) where
   -- SOURCES AND A TARGET: 1 of the sources, then of the target, and 12 behind 11
   abbrev pub sourcesTo : List ℕ → ℕ → List Verdict
   sourcesTo L t = eachTested above 1 L ++ (when (above t) 1 ∷ (eachTested empty 11 L ++ (when (full t) 12 ∷ alikeTests L)))
+
+  -- A CHOICE among the rows of one source, wrong or not, and a target; and without one: 8 behind the places
+  abbrev pub choiceTo : ℕ → Bool → ℕ → List Verdict
+  choiceTo p wrong t = sourcesTo (p ∷ []) t ++ (when wrong 8 ∷ [])
+
+  abbrev pub choiceAlone : ℕ → Bool → List Verdict
+  choiceAlone p wrong = sourcesAlone (p ∷ []) ++ (when wrong 8 ∷ [])
 
   -- A RECIPE of m steps, and without its target: the count is tested first of all
   abbrev pub recipeTo : ℕ → List ℕ → ℕ → List Verdict

@@ -1,15 +1,16 @@
--- THE ORDER in examples: places 0 and 1 hold matrices of two rows, place 2 one of three, the others are empty. A row has the count of a recipe's steps, their
--- places, a target, the number that turns the recipe down, 0 for none, and the number without a target.
+-- THE ORDER in examples: places 0 and 1 hold matrices of two rows, place 2 one of three, place 4 one of a single row, the others are empty. A row has what is
+-- asked, a target, the number that turns the call down, 0 for none, and the number without a target: of recipes (orderTable), the count of the steps and their
+-- places; of clamped rows (clampTable), a source and how many rows.
 use Prim.Native.Nat.{ℕ}
 use mathlib.Core.List.{List, [], _∷_}
 use lib.ListN.{getD}
 use Rattle.verdict.specs.declared.Verdict.{Verdict}
 use Rattle.verdict.specs.declared.Verdict.the-variants.{Accepted, Refused}
 use Rattle.verdict.specs.Verdict.{firstOf}
-use Rattle.conditions.specs.Conditions.{recipeTo, recipeAlone}
+use Rattle.conditions.specs.Conditions.{misclamped, choiceTo, choiceAlone, recipeTo, recipeAlone}
 
 abbrev pub sizes : ℕ → ℕ
-sizes p = getD (2 ∷ 2 ∷ 3 ∷ []) p 0
+sizes p = getD (2 ∷ 2 ∷ 3 ∷ 0 ∷ 1 ∷ []) p 0
 
 abbrev pub numberOf : Verdict → ℕ
 numberOf Accepted = 0
@@ -42,3 +43,29 @@ orderTable =
 -- what the definitions say of a row
 abbrev pub judged : Row → Row
 judged (row m L t a b) = row m L t (numberOf (firstOf (recipeTo sizes m L t))) (numberOf (firstOf (recipeAlone sizes m L)))
+
+pub data Clamp : Type 0 where
+  clamp : (source k target number alone : ℕ) → Clamp
+
+abbrev pub clampTable : List Clamp
+clampTable =
+    clamp 2 1 3 0 0
+    ∷ clamp 2 2 7 0 0
+    -- 8: none clamped, none left, of a single row always; any number is taken
+    ∷ clamp 2 0 3 8 8
+    ∷ clamp 2 3 3 8 8
+    ∷ clamp 0 2 3 8 8
+    ∷ clamp 4 1 3 8 8
+    ∷ clamp 2 18446744073709551615 3 8 8
+    -- 1 of the source, and of the target, before 11, 12 and 8
+    ∷ clamp 8 0 0 1 1
+    ∷ clamp 3 0 8 1 11
+    -- 11 before 12 and 8, 12 before 8
+    ∷ clamp 3 0 0 11 11
+    ∷ clamp 2 0 1 12 8
+    ∷ []
+
+abbrev pub clampJudged : Clamp → Clamp
+clampJudged (clamp p k t a b) =
+    let wrong = misclamped (sizes p) k in
+    clamp p k t (numberOf (firstOf (choiceTo sizes p wrong t))) (numberOf (firstOf (choiceAlone sizes p wrong)))

@@ -18,7 +18,7 @@ use Rattle.words.specs.RowSet.{RowSet, equal}
 use Rattle.words.specs.Word.{Factors, total}
 use Rattle.words.specs.Walk.{State, oneAt, walk, minor}
 use Rattle.words.specs.Formula.{newFactor, Divisible}
-use Rattle.words.specs.Operation.{Step, step, plain, stepWord, joinedWord, Operation, joined, submatrix, steps, boundOf, size, Fit, askedMinor, result}
+use Rattle.words.specs.Operation.{Step, step, plain, stepWord, joinedWord, Operation, joined, submatrix, schur, steps, boundOf, size, Fit, askedMinor, result}
 use Rattle.words.specs.Operation.{eachSteps}
 use Rattle.words.specs.Sources.{Sources, Walkable}
 use Rattle.words.proofs.Walks.{walk-append}
@@ -62,6 +62,7 @@ pub data Beside (n : ℕ) (κ : List ℕ) : Operation Number → Operation Fract
   by-steps : {L : List (Step Number)} {M : List (Step Fraction)} → NearSteps n κ L M → Beside n κ (joined L) (joined M)
   by-chosen : {b : Factors Number} {c : Factors Fraction} {P Q : RowSet} → NearSteps n κ (step plain b ∷ []) (step plain c ∷ [])
       → Beside n κ (submatrix b P Q) (submatrix c P Q)
+  by-first : {b : Factors Number} {c : Factors Fraction} {k : ℕ} → NearSteps n κ (step plain b ∷ []) (step plain c ∷ []) → Beside n κ (schur b k) (schur c k)
 
 module _ (n : ℕ) (some : 1 ≤ n) where
   abbrev NearStates : Grade → State rounded → State exact → Type 0
@@ -123,10 +124,13 @@ module _ (n : ℕ) (some : 1 ≤ n) where
     asked-near (joined L) (joined M) (by-steps h) f I J i = joined-near κ L M h (omega arith) I J i
     asked-near (submatrix b P Q) (submatrix c P′ Q′) (by-chosen h) f I J i =
         joined-near κ (step plain b ∷ []) (step plain c ∷ []) h (omega arith) _ _ (length-rowsOf n (submatrix c P′ Q′) f I i)
+    asked-near (schur b k) (schur c k′) (by-first h) f I J i =
+        joined-near κ (step plain b ∷ []) (step plain c ∷ []) h (omega arith) _ _ (length-rowsOf n (schur c k′) f I i)
 
     same-size : (o : Operation Number) (x : Operation Fraction) → Beside n κ o x → size n o ≡ size n x
     same-size (joined L) (joined M) (by-steps h) = refl
     same-size (submatrix b P Q) (submatrix c P′ Q′) (by-chosen h) = refl
+    same-size (schur b k) (schur c k′) (by-first h) = refl
 
     -- A NEW FACTOR
     module _ (o : Operation Number) (x : Operation Fraction) (b : Beside n κ o x) (fit : Fit n x)
@@ -211,3 +215,4 @@ module _ (n : ℕ) where
   pub near-exactly : (o : Operation Number) → Sources (Walkable n) (steps o) → Beside n (noCounts (steps o)) o (exactly o)
   near-exactly (joined L) h = by-steps (near-steps L h)
   near-exactly (submatrix b P Q) h = by-chosen (near-steps (step plain b ∷ []) h)
+  near-exactly (schur b k) h = by-first (near-steps (step plain b ∷ []) h)

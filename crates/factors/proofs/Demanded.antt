@@ -1,7 +1,7 @@
--- DEMAND 3 of every operation of at most six steps on accepted sources of up to eight rows (demand): product, re-signed inverse, converse and submatrix, where
--- that is not singular, among them; no other can be singular (joined-regular). Its exact part holds for any fractions in the pattern, any size and any number
--- of steps (factored). In plain words: of m steps, 7 m / 60 of a millionth (demand-close).
-use mathlib.Core.Path.{_≡_, sym, ap, ap₂, _∙_, subst}
+-- DEMAND 3 of every operation of at most six steps on accepted sources of up to eight rows (demand): product, re-signed inverse, converse, Schur complement,
+-- and submatrix where that is not singular, among them; no other can be singular (joined-regular, schur-regular). Its exact part holds for any fractions in the
+-- pattern, any size and any number of steps (factored). In plain words: of m steps, 7 m / 60 of a millionth (demand-close).
+use mathlib.Core.Path.{_≡_, refl, sym, ap, ap₂, _∙_, subst}
 use mathlib.Core.List.{List}
 use Prim.Native.Nat.{ℕ, _+_, _-_, _*_, _≤_, _<_}
 use native.Mathlib.Nat.{mul-le-mul, mul-le-mul-left}
@@ -19,14 +19,15 @@ use Rattle.number.proofs.Reach.{ranged-more}
 use Rattle.number.proofs.Value.{value-top-zero}
 use Rattle.words.specs.RowSet.{RowSet, rows}
 use Rattle.words.specs.Word.{Factors}
-use Rattle.words.specs.Operation.{Step, Operation, joined, joinedWord, steps, size, boundOf, bound, askedMinor, result, eachSteps}
-use Rattle.words.specs.Sources.{Banded, Sources, BandedNumbers, Walkable}
+use Rattle.words.specs.Walk.{minor}
+use Rattle.words.specs.Operation.{Step, Operation, joined, schur, joinedWord, steps, rowsOf, columnsOf, size, boundOf, bound, askedMinor, result, eachSteps}
+use Rattle.words.specs.Sources.{Weighted, Banded, Sources, BandedNumbers, Walkable}
 use Rattle.words.proofs.RowSets.{length-rows}
 use Rattle.words.proofs.RowByRow.{rowByRow-length}
-use Rattle.words.proofs.Operations.{some-steps, size-each, steps-each, fit-each}
+use Rattle.words.proofs.Operations.{some-steps, length-rowsOf, size-each, steps-each, fit-each, asked-each}
 use Rattle.words.proofs.Steps.{joined-rows, joined-weights, sources-map, sources-weaken}
 use Rattle.words.proofs.Banded.{Like, banded-like, StoredOrZero, stored, zero, banded-decided, banded-walkable}
-use Rattle.fraction.specs.Ring.{NonNegative}
+use Rattle.fraction.specs.Ring.{arithmetic, NonNegative}
 use Rattle.minors.specs.Matrix.{In}
 use Rattle.bands.proofs.Theorem.{whole-regular}
 use Rattle.factors.specs.Demand.{Proper, AboveZero, IsZero, BandedFractions, determinantOf, Regular, Factored, exactly, Demand}
@@ -46,14 +47,28 @@ factored n o h g = record {
   only = λ c p r. exact-only n o h g c p (multiplied-same n o c (result exact n o) r (exact-requested n o h g));
 }
 
--- only a submatrix can be singular
+-- only a submatrix can be singular: where the same rows as columns are asked for, the minor is positive
+alike-regular : (n : ℕ) (o : Operation Fraction) → Proper (BandedFractions n) n o
+    → columnsOf o (rows (size n o) 1 (size n o)) ≡ rowsOf o (rows (size n o) 1 (size n o)) → Regular n o
+alike-regular n o h e =
+    let k : ℕ = size n o in
+    let S : RowSet = rowsOf o (rows k 1 k) in
+    let L : List (Step (rationals .R)) = eachSteps rational (steps o) in
+    positive-rational (determinantOf n o) .1
+    (subst (rationals-ordered .Pos)
+    (sym (asked-rational n o h (rows k 1 k) (rows k 1 k) (length-rows k 1 k)
+    ∙ asked-each (arithmetic rationals rationals-ordered) rational n o (rows k 1 k) (rows k 1 k)
+    ∙ ap (minor (arithmetic rationals rationals-ordered) (joinedWord n L) S) e))
+    (whole-regular rationals rationals-ordered n (joinedWord n L) (joined-rows n L)
+    (joined-weights (NonNegative rationals rationals-ordered) (rationals-ordered .Pos) n L
+    (subst (Sources (Weighted (NonNegative rationals rationals-ordered) (rationals-ordered .Pos) n)) (steps-each rational n o) (rational-weighted n o h)))
+    S (length-rowsOf n o (h .fit) (rows k 1 k) (length-rows k 1 k))))
+
 pub joined-regular : (n : ℕ) (L : List (Step Fraction)) → Proper (BandedFractions n) n (joined L) → Regular n (joined L)
-joined-regular n L h =
-    positive-rational (determinantOf n (joined L)) .1
-    (subst (rationals-ordered .Pos) (sym (asked-rational n (joined L) h (rows n 1 n) (rows n 1 n) (length-rows n 1 n)))
-    (whole-regular rationals rationals-ordered n (joinedWord n (eachSteps rational L)) (joined-rows n (eachSteps rational L))
-    (joined-weights (NonNegative rationals rationals-ordered) (rationals-ordered .Pos) n (eachSteps rational L) (rational-weighted n (joined L) h))
-    (rows n 1 n) (length-rows n 1 n)))
+joined-regular n L h = alike-regular n (joined L) h refl
+
+pub schur-regular : (n : ℕ) (b : Factors Fraction) (k : ℕ) → Proper (BandedFractions n) n (schur b k) → Regular n (schur b k)
+schur-regular n b k h = alike-regular n (schur b k) h refl
 
 -- accepted numbers are accepted as the fractions that they stand for
 value-like : (a : Number) → StoredOrZero a → Like Stored (λ a. a ≡ zeroNumber) AboveZero IsZero a (value a)

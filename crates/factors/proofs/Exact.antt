@@ -30,10 +30,11 @@ use Rattle.words.proofs.Banded.{Like, rule-like, banded-like}
 use Rattle.words.proofs.Alike.{letters-joined, alike-each}
 use Rattle.words.proofs.Formulas.{divisible-related, newFactor-related}
 use Rattle.minors.specs.Matrix.{In, Equal}
+use Rattle.minors.proofs.Multiply.{multiplied-equal}
 use Rattle.bands.specs.Factored.{MatrixFactored}
 use Rattle.bands.proofs.Factoring.{tables-unique}
 use Rattle.factors.specs.Demand.{Proper, AboveZero, IsZero, FractionsKeepRule, BandedFractions, multipliedOut, determinantOf, Regular}
-use Rattle.factors.proofs.Result.{multiplied-equal, operationMatrix, WeightedSources, solved}
+use Rattle.factors.proofs.Result.{operationMatrix, WeightedSources, solved}
 
 -- the rational numbers' arithmetic
 abbrev pub ℚ : Arithmetic

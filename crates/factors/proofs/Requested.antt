@@ -1,20 +1,23 @@
 -- THE REQUESTED MATRIX of an operation is one matrix (requested-same, multiplied-same): that of the operation's words (requested-is), to which the exact
--- factors multiply out (exact-requested), and whose determinant is the minor with all its rows and columns (determinant-requested, singular-requested).
--- Document 01's four sentences say the same (sentences).
+-- factors multiply out (exact-requested). Its minors are those that are asked for, of a Schur complement divided by M(1..k) (minors-requested,
+-- determinant-requested): so it is singular where the minor with all rows and columns is zero (singular-requested). The papers' sentences say the same
+-- (sentences).
 use mathlib.Core.Path.{_≡_, refl, sym, ap, _∙_, subst}
 use mathlib.Core.Logic.{_↔_}
 use mathlib.Core.Bool.{true}
 use mathlib.Core.List.{List, [], _∷_}
-use Prim.Native.Nat.{ℕ, _+_ as _+ℕ_}
+use Prim.Native.Nat.{ℕ, _-_, _≤_, _<_, _+_ as _+ℕ_}
+use lib.ListN.{length}
 use borrow.Author.Tests.{eqb-true, eq-eqb}
 use Rattle.fraction.specs.Fraction.{Fraction, exact}
 use Rattle.fraction.specs.Ring.{CRing, Ordered, NonNegative}
 use Rattle.fraction.specs.Rational.{rationals, rationals-ordered, rational}
-use Rattle.fraction.proofs.Ring.{*-assoc, one-*}
-use Rattle.words.specs.RowSet.{RowSet, rows}
+use Rattle.fraction.proofs.Ring.{*-assoc, *-comm, one-*, *-zero, zero-*}
+use Rattle.fraction.proofs.Ordered.{pos-nonzero, pos-cancel, quotient-unique}
+use Rattle.words.specs.RowSet.{RowSet, rows, withFirst}
 use Rattle.words.specs.Word.{Factors, word, inverseWord}
-use Rattle.words.specs.Operation.{Step, step, plain, inverted, conversed, transposed, stepWord, joinedWord, Operation, joined, submatrix, size, result}
-use Rattle.words.specs.Operation.{eachSource}
+use Rattle.words.specs.Operation.{Step, step, plain, inverted, conversed, transposed, stepWord, joinedWord, Operation, joined, submatrix, schur}
+use Rattle.words.specs.Operation.{size, Fit, askedMinor, result, eachSource}
 use Rattle.words.specs.Sources.{Weighted, Source, Sources}
 use Rattle.words.proofs.RowSets.{length-rows}
 use Rattle.words.proofs.Walks.{All}
@@ -29,8 +32,16 @@ use Rattle.minors.proofs.Multiply.{wordMatrix-converse, wordMatrix-transposed, 
 use Rattle.minors.proofs.Inverse.{inverse-unique, inverse-left, inverse-right, sign-square}
 use Rattle.factors.specs.Requested.{ResignedInverse, StepMatrix, StepsMatrix, Requested, Sentences}
 use Rattle.factors.specs.Demand.{Proper, BandedFractions, multipliedOut, GivesRequested, determinantOf, Regular}
-use Rattle.factors.proofs.Result.{operationMatrix, asked-determinant, WeightedSources}
+use Rattle.bands.proofs.Clamped.{remains}
+use Rattle.bands.specs.Schur.{SchurComplement}
+use Rattle.bands.proofs.Schur.{schur-same}
+use Rattle.bands.proofs.Remains.{clamped-determinant, remains-schur, schur-minors}
+use Rattle.factors.proofs.Result.{operationMatrix, WeightedSources, emptyMinor, parted-weighted, at-parted, empty-positive, asked-determinant}
 use Rattle.factors.proofs.Exact.{zero-rational, rational-zero-back, rational-weighted, rational-fit, asked-rational, exact-multiplied}
+
+-- a positive number times another is zero only where that is
+positive-zero : (K : CRing) (O : Ordered K) (x y : K .R) → O .Pos x → K .mul x y ≡ K .𝟘 → y ≡ K .𝟘
+positive-zero K O x y p e = pos-cancel K O x y (K .𝟘) p (*-comm K y x ∙ e ∙ sym (zero-* K x))
 
 -- THE RE-SIGNED INVERSE: the matrix of the inverse's word is it
 module _ (K : CRing) (O : Ordered K) where
@@ -85,9 +96,34 @@ module _ (K : CRing) (O : Ordered K) (n : ℕ) where
     λ i j x y. e i j x y ∙ joined-multiplied K O n s t L i j x y,
   )
 
-  pub requested-is : (o : Operation R) → WeightedSources K O n o → (X : Matrix K) → Equal K (size n o) X (operationMatrix K O n o) → Requested K O n o X
-  requested-is (joined L) h X e = steps-requested L h X e
-  requested-is (submatrix b P Q) h X e = e
+  -- of a Schur complement: what remains of the source's word
+  schur-is : (b : Factors R) (k : ℕ) → Weighted (NonNegative K O) (O .Pos) n b → 1 ≤ k → k < n → (X : Matrix K)
+      → Equal K (n - k) X (wordMatrix K O (n - k) (remains k (n - k) b)) → SchurComplement K k (n - k) (multiplied K O n b) X
+  schur-is b k h o l X e =
+      let s = remains-schur K O k (n - k) b (parted-weighted K O n k b l h) o in
+      at-parted n k l (λ q. SchurComplement K k (n - k) (multiplied K O q b) X)
+      (record { inverse = s .inverse; left = s .left; right = s .right; entries = λ i j x y. e i j x y ∙ s .entries i j x y })
+
+  schur-divided : (b : Factors R) (k : ℕ) (X : Matrix K) → Weighted (NonNegative K O) (O .Pos) n b → 1 ≤ k → k < n
+      → SchurComplement K k (n - k) (multiplied K O n b) X → (I J : RowSet) → length I ≡ n - k → length J ≡ n - k
+      → determinant K X I J
+      ≡ K .mul (determinant K (multiplied K O n b) (withFirst k I) (withFirst k J)) (O .inv (determinant K (multiplied K O n b) (rows n 1 k) (rows n 1 k)))
+  schur-divided b k X h o l s I J i j =
+      let c = determinant K (multiplied K O n b) (rows n 1 k) (rows n 1 k) in
+      let g = parted-weighted K O n k b l h in
+      let p : O .Pos c
+      = at-parted n k l (λ q. O .Pos (determinant K (multiplied K O q b) (rows q 1 k) (rows q 1 k))) (clamped-determinant K O k (n - k) b g) in
+      let e : determinant K (multiplied K O n b) (withFirst k I) (withFirst k J) ≡ K .mul c (determinant K X I J)
+      = at-parted n k l (λ q. SchurComplement K k (n - k) (multiplied K O q b) X → determinant K (multiplied K O q b) (withFirst k I) (withFirst k J)
+      ≡ K .mul (determinant K (multiplied K O q b) (rows q 1 k) (rows q 1 k)) (determinant K X I J))
+      (λ s. schur-minors K O k (n - k) b g o X s I J i j) s in
+      quotient-unique K O _ c (determinant K X I J) (pos-nonzero K O c p) (*-comm K _ c ∙ sym e)
+
+  pub requested-is : (o : Operation R) → WeightedSources K O n o → Fit n o → (X : Matrix K) → Equal K (size n o) X (operationMatrix K O n o)
+      → Requested K O n o X
+  requested-is (joined L) h f X e = steps-requested L h X e
+  requested-is (submatrix b P Q) h f X e = e
+  requested-is (schur b k) h f X e = schur-is b k (h .0) (f .0) (f .1) X e
 
   -- AND NO OTHER
   resigned-same : (A X Y : Matrix K) → ResignedInverse K n A X → ResignedInverse K n A Y → Equal K n X Y
@@ -113,8 +149,9 @@ module _ (K : CRing) (O : Ordered K) (n : ℕ) where
   pub requested-same : (o : Operation R) (X Y : Matrix K) → Requested K O n o X → Requested K O n o Y → Equal K (size n o) X Y
   requested-same (joined L) X Y h g = steps-same L X Y h g
   requested-same (submatrix b P Q) X Y h g = equal-same _ _ X Y h g
+  requested-same (schur b k) X Y h g = schur-same K k (n - k) (multiplied K O n b) X Y h g
 
-  -- DOCUMENT 01'S SENTENCES
+  -- THE PAPERS' SENTENCES
   pub sentences : Sentences K O n
   sentences = record {
     product-requested = λ b c X. (
@@ -126,6 +163,8 @@ module _ (K : CRing) (O : Ordered K) (n : ℕ) where
     submatrix-requested = λ b P Q X. (λ h. h, λ h. h);
     recipe-requested = λ s t L X. (λ h. h, λ h. h);
     transposed-requested = λ b X. (λ h. h, λ h. h);
+    schur-requested = λ b k X. (λ h. h, λ h. h);
+    schur-divided = schur-divided;
   }
 
 module _ (n : ℕ) (o : Operation Fraction) where
@@ -137,39 +176,47 @@ module _ (n : ℕ) (o : Operation Fraction) where
     words-requested : (X : Matrix rationals) → Equal rationals (size n o) X (operationMatrix rationals rationals-ordered n (eachSource rational o))
         → Requested rationals rationals-ordered n (eachSource rational o) X
     words-requested X e =
-        requested-is rationals rationals-ordered n (eachSource rational o) (rational-weighted n o proper) X
+        requested-is rationals rationals-ordered n (eachSource rational o) (rational-weighted n o proper) (rational-fit n o proper) X
         (subst (λ k. Equal rationals k X (operationMatrix rationals rationals-ordered n (eachSource rational o))) (sym same) e)
 
     pub exact-requested : Regular n o → GivesRequested n o (result exact n o)
     exact-requested g = words-requested _ (exact-multiplied n o proper g)
 
-    -- THE DETERMINANT of the requested matrix
-    pub determinant-requested : (X : Matrix rationals) → Requested rationals rationals-ordered n (eachSource rational o) X
-        → rational (determinantOf n o) ≡ determinant rationals X (rows (size n o) 1 (size n o)) (rows (size n o) 1 (size n o))
-    determinant-requested X h =
-        asked-rational n o proper S S (length-rows k 1 k)
-        ∙ asked-determinant rationals rationals-ordered n (eachSource rational o) (rational-fit n o proper) S S
-        (length-rows k 1 k ∙ sym same) (length-rows k 1 k ∙ sym same)
-        ∙ determinant-equal rationals k A X
+    -- THE MINORS that are asked for are those of the requested matrix, times M(1..k) of a Schur complement and times 1 else
+    abbrev emptyOf : rationals .R
+    emptyOf = emptyMinor rationals rationals-ordered n (eachSource rational o)
+
+    pub minors-requested : (X : Matrix rationals) → Requested rationals rationals-ordered n (eachSource rational o) X
+        → (I J : RowSet) → length I ≡ size n o → length J ≡ size n o
+        → rational (askedMinor exact n o I J) ≡ rationals .mul (emptyMinor rationals rationals-ordered n (eachSource rational o)) (determinant rationals X I J)
+    minors-requested X h I J i j =
+        asked-rational n o proper I J i
+        ∙ asked-determinant rationals rationals-ordered n (eachSource rational o) (rational-weighted n o proper) (rational-fit n o proper) I J
+        (i ∙ sym same) (j ∙ sym same)
+        ∙ ap (rationals .mul emptyOf) (determinant-equal rationals (size n o) A X
         (subst (λ m. Equal rationals m A X) same
         (requested-same rationals rationals-ordered n (eachSource rational o) A X (words-requested A (λ i j x y. refl)) h))
-        S S (length-rows k 1 k) (length-rows k 1 k)
+        I J i j)
       where
-        k : ℕ
-        k = size n o
-
-        S : RowSet
-        S = rows (size n o) 1 (size n o)
-
         A : Matrix rationals
         A = operationMatrix rationals rationals-ordered n (eachSource rational o)
+
+    -- THE DETERMINANT
+    pub determinant-requested : (X : Matrix rationals) → Requested rationals rationals-ordered n (eachSource rational o) X
+        → rational (determinantOf n o) ≡ rationals .mul (emptyMinor rationals rationals-ordered n (eachSource rational o))
+        (determinant rationals X (rows (size n o) 1 (size n o)) (rows (size n o) 1 (size n o)))
+    determinant-requested X h =
+        minors-requested X h (rows (size n o) 1 (size n o)) (rows (size n o) 1 (size n o)) (length-rows (size n o) 1 (size n o))
+        (length-rows (size n o) 1 (size n o))
 
     -- it is singular, its determinant zero, where that minor is zero
     pub singular-requested : (X : Matrix rationals) → Requested rationals rationals-ordered n (eachSource rational o) X
         → (exact .isZero (determinantOf n o) ≡ true) ↔ (determinant rationals X (rows (size n o) 1 (size n o)) (rows (size n o) 1 (size n o)) ≡ rationals .𝟘)
     singular-requested X h = (
-      λ e. sym (determinant-requested X h) ∙ zero-rational (determinantOf n o) (eqb-true _ 0 e),
-      λ e. eq-eqb _ 0 (rational-zero-back (determinantOf n o) (determinant-requested X h ∙ e)),
+      λ e. positive-zero rationals rationals-ordered emptyOf _
+          (empty-positive rationals rationals-ordered n (eachSource rational o) (rational-weighted n o proper) (rational-fit n o proper))
+          (sym (determinant-requested X h) ∙ zero-rational (determinantOf n o) (eqb-true _ 0 e)),
+      λ e. eq-eqb _ 0 (rational-zero-back (determinantOf n o) (determinant-requested X h ∙ ap (rationals .mul emptyOf) e ∙ *-zero rationals emptyOf)),
     )
 
   -- so fractions that multiply out to it multiply out to one matrix

@@ -45,7 +45,8 @@ multipliedOut k c = multiplied rationals rationals-ordered k (eachFactor rationa
 abbrev pub GivesRequested : ℕ → Operation Fraction → Factors Fraction → Type 0
 GivesRequested n o c = Requested rationals rationals-ordered n (eachSource rational o) (multipliedOut (size n o) c)
 
--- the requested matrix's exact determinant: the minor with all its rows and columns (`determinant-requested`)
+-- the exact minor with all rows and columns of the result: the requested matrix's determinant, and that times M(1..k) of a Schur complement
+-- (`determinant-requested`)
 abbrev pub determinantOf : ℕ → Operation Fraction → Fraction
 determinantOf n o = askedMinor exact n o (rows (size n o) 1 (size n o)) (rows (size n o) 1 (size n o))
 

@@ -174,7 +174,7 @@ module _ (K : CRing) (O : Ordered K) where
   scaled-scale : (f : R → R) (c : R) (e : ℕ → R) (S : RowSet) (x : R) → scaled F (λ y z. y * f z) e S (c * x) ≡ c * scaled F (λ y z. y * f z) e S x
   scaled-scale f c e S x = scaled-product K O f e S (c * x) ∙ *-assoc K _ _ _ ∙ ap (λ y. c * y) (sym (scaled-product K O f e S x))
 
-  act-scale : (c : R) (l : Letter R) (ω : State F) (S : RowSet) → act F l (λ T. c * ω T) S ≡ c * act F l ω S
+  pub act-scale : (c : R) (l : Letter R) (ω : State F) (S : RowSet) → act F l (λ T. c * ω T) S ≡ c * act F l ω S
   unfolding act
   act-scale c (E j w) ω S = moved-scale c j (j - 1) w ω S
   act-scale c (Et j w) ω S = moved-scale c (j - 1) j w ω S

@@ -1,17 +1,21 @@
 -- The letters of a word multiplied as matrices give the matrix that the word carries the unit vectors to (wordMatrix-carried), and joined steps multiply
 -- (joined-multiplied). The converse's word gives the matrix read backwards (wordMatrix-converse), exchanged factors its transpose (multiplied-exchanged).
--- The minors of a word are the determinants of its matrix (word-determinant).
-use mathlib.Core.Path.{_≡_, refl, sym, ap, _∙_}
+-- The minors of a word are the determinants of its matrix (word-determinant). Equal factors multiply out to equal matrices (multiplied-equal).
+use mathlib.Core.Path.{_≡_, refl, sym, ap, ap₂, _∙_}
+use mathlib.Core.Bool.{cond}
 use mathlib.Core.List.{List, [], _∷_}
 use Prim.Native.Nat.{ℕ, _+_ as _+ℕ_, _-_}
+use lib.Dec.{eqb}
 use lib.ListN.{length}
 use Rattle.fraction.specs.Ring.{CRing, Ordered, arithmetic}
 use Rattle.words.specs.RowSet.{RowSet}
-use Rattle.words.specs.Word.{Factors, Word, word, converseWord, exchanged, transposedLetter, transposedWord}
+use Rattle.words.specs.Word.{Factors, Letter, E, Et, D, Dinv, Word, word, converseWord, exchanged, transposedLetter, transposedWord}
 use Rattle.words.specs.Walk.{minor, carry}
 use Rattle.words.specs.Operation.{Step, stepWord, joinedWord}
 use Rattle.words.proofs.Walks.{Rows, All}
-use Rattle.minors.specs.Matrix.{Equal, times, letterMatrix, wordMatrix, multiplied}
+use Rattle.words.proofs.Related.{Matched, Letters}
+use Rattle.words.proofs.Alike.{letters-word}
+use Rattle.minors.specs.Matrix.{In, Equal, times, letterMatrix, wordMatrix, multiplied}
 use Rattle.minors.proofs.Determinant.{determinant, matrixOf, minor-determinant, determinant-equal}
 use Rattle.minors.proofs.Transpose.{transposed-word}
 use Rattle.minors.proofs.Sums.{sum-equal}
@@ -60,3 +64,23 @@ module _ (K : CRing) (O : Ordered K) where
 
   pub multiplied-exchanged : (n : ℕ) (b : Factors R) → Equal K n (multiplied K O n (exchanged b)) (λ i j. multiplied K O n b j i)
   multiplied-exchanged n b i j x y = ap (λ W. wordMatrix K O n W i j) (sym (transposed-word n b)) ∙ wordMatrix-transposed n (word n b) i j x y
+
+  -- words with equal letters have equal matrices
+  letter-equal : (n : ℕ) (x y : Letter R) → Letters _≡_ _≡_ n x y → Equal K n (letterMatrix K O x) (letterMatrix K O y)
+  letter-equal n (E j w) (E i v) h r c x y = ap₂ (λ k u. letterMatrix K O (E k u) r c) (h .0) (h .1)
+  letter-equal n (Et j w) (Et i v) h r c x y = ap₂ (λ k u. letterMatrix K O (Et k u) r c) (h .0) (h .1)
+  letter-equal n (D e) (D f) h r c x y = ap (λ u. cond (eqb r c) u (K .𝟘)) (h r (x .0) (x .1))
+  letter-equal n (Dinv e) (Dinv f) h r c x y = ap (λ u. cond (eqb r c) (O .inv u) (K .𝟘)) (h r (x .0) (x .1))
+
+  wordMatrix-equal : (n : ℕ) (W X : Word R) → Matched (Letters _≡_ _≡_ n) W X → Equal K n (wordMatrix K O n W) (wordMatrix K O n X)
+  unfolding wordMatrix
+  wordMatrix-equal n [] [] h = λ i j x y. refl
+  wordMatrix-equal n (l ∷ W) (m ∷ X) h =
+      times-equal K n (letterMatrix K O l) (letterMatrix K O m) (wordMatrix K O n W) (wordMatrix K O n X) (letter-equal n l m (h .0))
+      (wordMatrix-equal n W X (h .1))
+
+  -- equal factors multiply out to equal matrices
+  pub multiplied-equal : (n : ℕ) (b c : Factors R) → ((i j : ℕ) → In n i → In n j → b i j ≡ c i j) → Equal K n (multiplied K O n b) (multiplied K O n c)
+  multiplied-equal n b c h =
+      wordMatrix-equal n (word n b) (word n c)
+      (letters-word _≡_ _≡_ n b c (record { off = λ i j p q r s e. h i j (p, q) (r, s); on = λ i p q. h i i (p, q) (p, q) }))

@@ -1,9 +1,12 @@
--- Laws of sums f 1 + .. + f n: terms that are equal (sum-equal), one term that is not zero (sum-single), sums of sums (sum-swap),
--- the terms backwards (sum-reversed).
+-- Laws of sums f 1 + .. + f n: terms that are equal (sum-equal), one term that is not zero (sum-single), sums of sums (sum-swap), the terms backwards
+-- (sum-reversed), terms past the k-th that are zero (sum-short), and the sum taken away (sum-neg).
 use mathlib.Core.Path.{_≡_, refl, sym, ap, ap₂, _∙_}
-use Prim.Native.Nat.{ℕ, zero, suc, _+_ as _+ℕ_, _-_}
+use mathlib.Core.Bool.{cond}
+use Prim.Native.Nat.{ℕ, zero, suc, _+_ as _+ℕ_, _-_, _≤_}
 use native.Mathlib.Decide.{ℕ-discrete}
 use native.Mathlib.Omega.{arith}
+use lib.Dec.{leb}
+use borrow.Author.Tests.{le-leb, lt-leb}
 use Rattle.fraction.specs.Ring.{CRing}
 use Rattle.fraction.proofs.Ring.{ring, +-assoc, +-comm, +-zero, zero-+, *-zero, *-comm, *-+}
 use Rattle.words.specs.RowSet.{In}
@@ -11,7 +14,7 @@ use Rattle.words.proofs.RowSets.{in-under, in-top}
 use Rattle.minors.specs.Matrix.{sum}
 
 module _ (K : CRing) where
-  open CRing K using (R, 𝟘, add as _+_, mul as _*_)
+  open CRing K using (R, 𝟘, add as _+_, mul as _*_, neg)
 
   infixl 65 _+_
   infixl 70 _*_
@@ -70,3 +73,17 @@ module _ (K : CRing) where
     where
       under : (k : ℕ) → n +ℕ 1 - k ≡ suc n +ℕ 1 - suc k
       under k = omega arith
+
+  -- terms past the k-th that are zero
+  pub sum-short : (n k : ℕ) (f : ℕ → R) → k ≤ n → sum K n (λ r. cond (leb r k) (f r) 𝟘) ≡ sum K k f
+  unfolding sum
+  sum-short zero k f h = let e : k ≡ 0 = omega arith in sym (ap (λ m. sum K m f) e)
+  sum-short (suc n) k f h = elim (ℕ-discrete k (suc n)) [
+    | yes e ↦ sum-equal (suc n) _ _ (λ r p. ap (λ t. cond t (f r) 𝟘) (le-leb r k (omega (arith, p .1)))) ∙ ap (λ m. sum K m f) (sym e)
+    | no e ↦ ap₂ _+_ (sum-short n k f (omega arith)) (ap (λ t. cond t (f (suc n)) 𝟘) (lt-leb (suc n) k (omega arith))) ∙ +-zero K _
+  ]
+
+  pub sum-neg : (n : ℕ) (f : ℕ → R) → sum K n (λ r. neg (f r)) ≡ neg (sum K n f)
+  unfolding sum
+  sum-neg zero f = simp ring
+  sum-neg (suc n) f = ap (λ y. y + neg (f (suc n))) (sum-neg n f) ∙ simp ring

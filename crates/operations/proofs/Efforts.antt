@@ -9,16 +9,17 @@ use Rattle.rowset.proofs.Positions.{below-choose}
 use Rattle.words.proofs.Sums.{sum-more}
 use Rattle.words.specs.Effort.{sumOver, choose}
 
-module _ (n k : ℕ) where
-  -- the terms as the closed form has them
+module _ (n c k : ℕ) where
+  -- the terms as the closed form has them, c rows being clamped
   abbrev pub term : ℕ → ℕ
-  term p = (4 * (k - p) + 1) * choose (n - 1) (p - 1)
+  term p = (4 * (k - p) + 1) * choose (n - 1) (c + (p - 1))
 
-  pub term-more : (p x s : ℕ) → n ≤ 8 → p ≤ 8 → x ≡ sumOver p term → s ≡ countBelow p (2 ^ (n - 1)) → x + (4 * (k - (p + 1)) + 1) * s ≡ sumOver (p + 1) term
+  pub term-more : (p x s : ℕ) → n ≤ 8 → c + p ≤ 8 → x ≡ sumOver p term → s ≡ countBelow (c + p) (2 ^ (n - 1))
+      → x + (4 * (k - (p + 1)) + 1) * s ≡ sumOver (p + 1) term
   term-more p x s ln lp e f =
-      let g : p ≡ p + 1 - 1 = omega arith in
-      let c : s ≡ choose (n - 1) (p + 1 - 1) = f ∙ below-choose (n - 1) p (omega arith) lp ∙ ap (choose (n - 1)) g in
-      sum-more term p x _ e (ap (λ (c : ℕ). (4 * (k - (p + 1)) + 1) * c) c)
+      let g : c + p ≡ c + (p + 1 - 1) = omega arith in
+      let h : s ≡ choose (n - 1) (c + (p + 1 - 1)) = f ∙ below-choose (n - 1) (c + p) (omega arith) lp ∙ ap (choose (n - 1)) g in
+      sum-more term p x _ e (ap (λ (s : ℕ). (4 * (k - (p + 1)) + 1) * s) h)
 
   pub term-few : (p s : ℕ) → k ≤ 8 → s ≤ 70 → (4 * (k - (p + 1)) + 1) * s ≤ 2310
   term-few p s l ls = let a : 4 * (k - (p + 1)) + 1 ≤ 33 = omega arith in let b : (4 * (k - (p + 1)) + 1) * s ≤ 33 * 70 = mul-le-mul a ls in omega arith

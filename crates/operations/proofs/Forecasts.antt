@@ -22,8 +22,8 @@ use Rattle.verdict.specs.declared.Verdict.the-variants.{Accepted, Refused}
 use Rattle.verdict.specs.Verdict.{firstBehind, firstOf, orElse, when}
 use Rattle.verdict.specs.Report.{Report, accepted, refused, reportOf}
 use Rattle.verdict.proofs.Verdicts.{or-else-accepted, or-else-both, first-behind, first-last, first-passed, when-accepted, when-refused, when-left}
-use Rattle.conditions.specs.Conditions.{miscounted, sourcesAlone, sourcesTo, recipeAlone}
-use Rattle.conditions.proofs.Passed.{Target, counted, apart, to-target}
+use Rattle.conditions.specs.Conditions.{miscounted, misclamped, sourcesAlone, sourcesTo, recipeAlone}
+use Rattle.conditions.proofs.Passed.{Target, counted, apart, choice-apart, to-target}
 use Rattle.recipes.specs.declared.Recipe.{Recipe}
 use Rattle.recipes.specs.declared.RecipeStep.{RecipeStep}
 use Rattle.recipes.specs.Recipe.{placeOf, stepsIn, placesIn}
@@ -34,14 +34,15 @@ use Rattle.places.specs.Shelf.{rowsAt, Good}
 use Rattle.places.specs.Tests.{unfit, sourceTests, bothSources, oneSource, twoSources}
 use Rattle.places.proofs.Verdicts.{one-accepted}
 use Rattle.operations.specs.declared.Task.{Task}
-use Rattle.operations.specs.declared.Task.the-variants.{Product, Inverse, Converse, Transpose, Submatrix}
+use Rattle.operations.specs.declared.Task.the-variants.{Product, Inverse, Converse, Transpose, Submatrix, Schur}
 use Rattle.operations.specs.declared.Foretold.the-variants as foretold
 use Rattle.operations.specs.Operations.{done, factorTest, operationVerdict, operationCall, transposeCall, productAt, inverseAt, converseAt, submatrixAt}
 use Rattle.operations.specs.Operations.{stepWith, joinedRows, joinedAt, recipeTests, recipeCall}
-use Rattle.operations.specs.Operations.{singular, chosenTests, submatrixTests, setTests}
-use Rattle.operations.specs.Forecast.{foretelling, forecastCall, recipeForecast, taskCall, foretoldReport, Found, RecipeFound, Foretells, Foretelling}
+use Rattle.operations.specs.Operations.{schurAt, singular, chosenTests, submatrixTests, setTests, clampedTests}
+use Rattle.operations.specs.Forecast.{foretelling, clampedAlone, forecastCall, recipeForecast, taskCall, foretoldReport}
+use Rattle.operations.specs.Forecast.{Found, RecipeFound, Foretells, Foretelling}
 use Rattle.operations.specs.Forecast as forecast
-use Rattle.operations.proofs.Results.{Ready, ready-foretold, submatrix-ready}
+use Rattle.operations.proofs.Results.{Ready, ready-foretold, submatrix-ready, schur-ready}
 use Rattle.operations.proofs.Recipes.{product-ready, whole-ready, recipe-ready, rows-others}
 
 module _ (L : List Verdict) where
@@ -54,12 +55,6 @@ module _ (L : List Verdict) where
   -- behind a test that passed
   pub told-behind : {c : Bool} (k n : ℕ) → c ≡ false → foretelling L n ≡ foretelling (when c k ∷ L) n
   told-behind k n e = ap (λ (v : Verdict). reportOf v (pos n ∷ [])) (sym (when-left k L e))
-
--- THE TESTS OF A SUBMATRIX, its target there and empty
-chosen-apart : (s : Shelf) (t : ℕ) → t < 8 → rowsAt s t ≡ 0 → (p I J : ℕ) → firstOf (chosenTests s p I J t) ≡ firstOf (setTests s p I J)
-chosen-apart s t small none p I J =
-    let w = when (unfit (rowsAt s p) I J) 8 in
-    first-last (oneSource s p t) w ∙ ap (λ (v : Verdict). orElse v w) (apart (rowsAt s) (p ∷ []) t small none) ∙ sym (first-last (sourceTests s p) w)
 
 -- behind the verdict v of a forecast, 17 where c holds and then 14 where b does
 told-by : (F : ℕ → Type 0) (v : Verdict) (c b : Bool) (k made steps : ℕ) → (c ≡ true → F 17) → (b ≡ true → F 14)
@@ -110,7 +105,11 @@ to-empty s g (Submatrix p I J) t small none =
     let w = when (singular (rowsAt s p) (submatrixAt s p I J)) 17 in
     operation-tells s (Found (Submatrix p I J)) (submatrixTests s p I J t) (setTests s p I J) (singular (rowsAt s p) (submatrixAt s p I J)) t (rowsAt s p)
     (submatrixAt s p I J) (λ e. inr refl) (inl refl)
-    (first-last (chosenTests s p I J t) w ∙ ap (λ (v : Verdict). orElse v w) (chosen-apart s t small none p I J)) (submatrix-ready s g p I J t)
+    (first-last (chosenTests s p I J t) w ∙ ap (λ (v : Verdict). orElse v w) (choice-apart (rowsAt s) p (unfit (rowsAt s p) I J) t small none))
+    (submatrix-ready s g p I J t)
+to-empty s g (Schur p k) t small none =
+    joined-tells s (clampedTests s p k t) (clampedAlone s p k) t (rowsAt s p) (schurAt s p k)
+    (choice-apart (rowsAt s) p (misclamped (rowsAt s p) k) t small none) (schur-ready s g p k t)
 
 -- AN ACCEPTED OPERATION: its target is there and empty, and its report tells the steps
 abbrev isAccepted : Report → Bool
@@ -134,6 +133,8 @@ task-target s (Transpose p) t x h a = one-accepted s p t (passed _ 0 0 x h a) .1
 task-target s (Submatrix p I J) t x h a =
     let e = first-passed (submatrixTests s p I J t) _ (passed _ _ _ x h a) .0 in
     one-accepted s p t (first-passed (oneSource s p t) _ (first-passed (chosenTests s p I J t) _ e .0) .0) .1
+task-target s (Schur p k) t x h a =
+    one-accepted s p t (first-passed (oneSource s p t) _ (first-passed (clampedTests s p k t) _ (passed _ _ _ x h a) .0) .0) .1
 
 made-by : {F : ℕ → Type 0} {f r : Report} → Foretells F f r → (b e : ℕ) → r ≡ accepted (done b e) → f ≡ accepted (pos e ∷ [])
 made-by (forecast.turned-down k offset p q) b e h = absurd (false≢true (ap isAccepted (sym q ∙ h)))

@@ -1,4 +1,4 @@
--- A minor of a place: the tests of its place and sets (`set-verdict`, `sets-passed`), and the answer by what was found (`minor-turned`, `minor-outside`,
+-- A minor of a place: what the tests of its place and sets have shown (`sets-passed`), and the answer by what was found (`minor-turned`, `minor-outside`,
 -- `minor-done`).
 use Prim.Native.Nat.{ℕ, _+_, _^_, _≤_, _<_}
 use native.Mathlib.Omega.{arith}
@@ -40,13 +40,7 @@ module _ (s : Shelf) (p I J : ℕ) where
   abbrev range : Verdict
   range = when (not (inRange (minorAt s p I J))) 14
 
-  -- the tests of the place, and then that of the sets
-  pub set-verdict : (n i j : ℕ) (u v : Verdict) → n ≡ rowsAt s p → i ≡ I → j ≡ J → u ≡ firstOf (sourceTests s p) → v ≡ orElse u (when (unfit n i j) 8)
-      → v ≡ firstOf (setTests s p I J)
-  set-verdict n i j u v e f g h k =
-      let x : orElse u (when (unfit n i j) 8) ≡ orElse (firstOf (sourceTests s p)) fit = rw (e, f, g, h) in
-      k ∙ x ∙ sym (first-last (sourceTests s p) fit)
-
+  -- what the tests of the place and the sets have shown
   pub sets-passed : firstOf (setTests s p I J) ≡ Accepted → Source (rowsAt s) p × Fit (rowsAt s p) I J
   sets-passed e =
       let a = first-passed (sourceTests s p) fit e in

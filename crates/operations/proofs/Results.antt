@@ -1,7 +1,8 @@
--- The rule's operations on places. Where the tests of the places passed, the rule can be run (`Ready`, `submatrix-ready`; of steps joined, Recipes) and
--- demand 3 holds (`ready-demand`, in plain words `ready-close`), and the steps made are those foretold (`ready-foretold`); what is accepted can be kept, the
--- shelf stays good, and what was promised holds (`operation-fits`, `operation-good`, `operation-met`). The result by what was found: `operation-turned`,
--- `operation-ranged`. A submatrix is singular where its rounded minor is zero (`singular-tested`), which is how its tests are worked (`chosen-tested`).
+-- The rule's operations on places. Where the tests of the places passed, the rule can be run (`Ready`, `submatrix-ready`, `schur-ready`; of steps joined,
+-- Recipes) and demand 3 holds (`ready-demand`, in plain words `ready-close`), and the steps made are those foretold (`ready-foretold`); what is accepted can be
+-- kept, the shelf stays good, and what was promised holds (`operation-fits`, `operation-good`, `operation-met`). The result by what was found:
+-- `operation-turned`, `operation-ranged`. A submatrix is singular where its rounded minor is zero (`singular-tested`), which is how its tests are worked
+-- (`chosen-tested`).
 use Prim.Native.Nat.{ℕ, _<_, _≤_}
 use native.Mathlib.Omega.{arith}
 use mathlib.Core.Path.{_≡_, refl, sym, ap, ap₂, _∙_}
@@ -16,7 +17,7 @@ use Rattle.number.proofs.Reach.{in-range-stored}
 use Rattle.words.specs.RowSet.{In, RowSet, count, among, rows, ofMask}
 use Rattle.words.specs.Word.{Factors, word}
 use Rattle.words.specs.Walk.{minor}
-use Rattle.words.specs.Operation.{Step, joinedWord, Operation, joined, steps, size, bound, rowByRow, result, eachSteps}
+use Rattle.words.specs.Operation.{Step, joinedWord, Operation, joined, steps, size, bound, rowByRow, result, eachFactor, eachSteps}
 use Rattle.words.specs.Sources.{Each, Banded, BandedNumbers}
 use Rattle.words.proofs.RowSets.{length-rows}
 use Rattle.words.specs.Effort.{stepsMade, stepsForetold}
@@ -27,7 +28,7 @@ use Rattle.rowset.proofs.Masks.{ofMask-length}
 use Rattle.rowset.proofs.Counts.{mask-count, count-to, countTo-le}
 use Rattle.fraction.specs.Fraction.{Fraction}
 use Rattle.factors.specs.Demand.{Proper, AboveZero, determinantOf, Regular, exactly, Demand}
-use Rattle.factors.proofs.Demanded.{joined-regular, proper-value, asked-zeros, demand, demand-close}
+use Rattle.factors.proofs.Demanded.{joined-regular, schur-regular, proper-value, asked-zeros, demand, demand-close}
 use Rattle.table.specs.Table.{tableOf, outside}
 use Rattle.rule.specs.declared.Refactored.{Refactored}
 use Rattle.places.specs.declared.Shelf.{Shelf}
@@ -40,13 +41,14 @@ use Rattle.places.specs.Tests.{unfit, oneSource}
 use Rattle.table.proofs.Ranges.{rows-ranged, outside-table}
 use Rattle.places.proofs.Holding.{fits-table}
 use Rattle.verdict.proofs.Verdicts.{first-last, first-passed, when-passed, when-left}
-use Rattle.conditions.proofs.Passed.{Source}
+use Rattle.conditions.specs.Conditions.{misclamped}
+use Rattle.conditions.proofs.Passed.{Source, clamped, choice-passed}
 use Rattle.places.proofs.Verdicts.{Fit, one-accepted, sets-accepted}
 use Rattle.operations.specs.declared.Proposed.{Proposed}
 use Rattle.operations.specs.declared.Operated.{Operated}
 use Rattle.operations.specs.declared.Performed.the-variants as answer
-use Rattle.operations.specs.Operations.{done, factorTest, operationVerdict, operationCall, submatrixAt, minorAt}
-use Rattle.operations.specs.Operations.{singular, chosenTests, submatrixTests}
+use Rattle.operations.specs.Operations.{done, factorTest, operationVerdict, operationCall, submatrixAt, schurAt, minorAt}
+use Rattle.operations.specs.Operations.{singular, chosenTests, submatrixTests, clampedTests}
 use Rattle.operations.specs.Reports.{operatedOutcome}
 use Rattle.operations.specs.Proposed.{turnedDown, proposal, proposed, kept, rangedOf, Keepable}
 use Rattle.operations.specs.Promise.{CloseFactors, Met, Promised}
@@ -140,6 +142,19 @@ module _ (s : Shelf) (good : Good s) where
       let a = first-passed (oneSource s p t) (when (unfit (rowsAt s p) I J) 8) (b .0) in
       fit-ready p t (a .0) I J (sets-accepted (rowsAt s p) I J (a .1)) (when-passed _ 17 (b .1))
 
+  -- rows that are clamped: one or more, and not all
+  pub schur-clamped : (p k t : ℕ) → firstOf (clampedTests s p k t) ≡ Accepted → (firstOf (oneSource s p t) ≡ Accepted) × ((1 ≤ k) × (k < rowsAt s p))
+  schur-clamped p k t e =
+      let a = choice-passed (oneSource s p t) (misclamped (rowsAt s p) k) e in
+      (a .0, clamped (rowsAt s p) k (a .1))
+
+  pub schur-ready : (p k t : ℕ) → firstOf (clampedTests s p k t) ≡ Accepted → Ready t (rowsAt s p) (schurAt s p k)
+  schur-ready p k t e =
+      let a = schur-clamped p k t e in
+      let h : Proper (BandedNumbers (rowsAt s p)) (rowsAt s p) (schurAt s p k) = record { sources = (source-banded p t (a .0), tt); fit = a .1 } in
+      source p t (a .0) (schurAt s p k) (omega arith) h
+      (schur-regular (rowsAt s p) (eachFactor value (factorsAt s p)) k (proper-value (rowsAt s p) (schurAt s p k) h)) (omega arith)
+
 -- a result in range can be stored
 run-stored : (k : ℕ) (b : Factors Number) → Banded (λ a. 0 < a .m) (λ a. a ≡ zeroNumber) k b → Each (Ranged reach) k b
     → ((i j : ℕ) → In k i → In k j → inRange (b i j) ≡ true) → BandedNumbers k b
@@ -229,15 +244,10 @@ module _ (L : List Verdict) (t n : ℕ) (o : Operation Number) (ready : firstOf 
     operation-done =
         result-done (λ s k e. Met s t n o k e) s t (size n o) (bound n o) (stepsMade rounded n o) (result rounded n o) (operationVerdict L n o) operation-met
 
--- THE TESTS OF A SUBMATRIX: those of its places and sets (`chosen-verdict`, `chosen-fit`), and then that it is not singular (`chosen-turned`, `chosen-tested`)
+-- THE TESTS OF A SUBMATRIX: those of its places and sets (`chosen-fit`), and then that it is not singular (`chosen-turned`, `chosen-tested`)
 module _ (s : Shelf) (p I J t : ℕ) where
   abbrev fit : Verdict
   fit = when (unfit (rowsAt s p) I J) 8
-
-  pub chosen-verdict : (n : ℕ) (u v : Verdict) → n ≡ rowsAt s p → u ≡ firstOf (oneSource s p t) → v ≡ orElse u (when (unfit n I J) 8)
-      → v ≡ firstOf (chosenTests s p I J t)
-  chosen-verdict n u v e f g =
-      g ∙ ap₂ (λ (w : Verdict) (m : ℕ). orElse w (when (unfit m I J) 8)) f e ∙ sym (first-last (oneSource s p t) fit)
 
   pub chosen-fit : firstOf (chosenTests s p I J t) ≡ Accepted → Source (rowsAt s) p × Fit (rowsAt s p) I J
   chosen-fit e =

@@ -13,19 +13,23 @@ use Rattle.places.specs.declared.Shelf.{Shelf}
 use Rattle.places.specs.Shelf.{rowsAt}
 use Rattle.places.specs.Outcome.{Outcome}
 use Rattle.places.specs.Tests.{sourceTests, bothSources}
-use Rattle.conditions.specs.Conditions.{recipeAlone}
+use Rattle.conditions.specs.Conditions.{misclamped, choiceAlone, recipeAlone}
 use Rattle.recipes.specs.declared.Recipe.{Recipe}
 use Rattle.recipes.specs.Recipe.{placesIn}
-use Rattle.operations.specs.Operations.{done, productAt, inverseAt, converseAt, submatrixAt, setTests}
-use Rattle.operations.specs.Operations.{joinedRows, joinedAt, productCall, inverseCall, converseCall, transposeCall, submatrixCall}
+use Rattle.operations.specs.Operations.{done, productAt, inverseAt, converseAt, submatrixAt, schurAt, setTests}
+use Rattle.operations.specs.Operations.{joinedRows, joinedAt, productCall, inverseCall, converseCall, transposeCall, submatrixCall, schurCall}
 use Rattle.operations.specs.declared.Task.{Task}
-use Rattle.operations.specs.declared.Task.the-variants.{Product, Inverse, Converse, Transpose, Submatrix}
+use Rattle.operations.specs.declared.Task.the-variants.{Product, Inverse, Converse, Transpose, Submatrix, Schur}
 use Rattle.operations.specs.declared.Foretold.{Foretold}
 use Rattle.operations.specs.declared.Foretold.the-variants as foretold
 
 -- the steps, behind the tests L
 abbrev pub foretelling : List Verdict → ℕ → Report
 foretelling L steps = reportOf (firstOf L) (pos steps ∷ [])
+
+-- the tests of a Schur complement without a target
+abbrev pub clampedAlone : Shelf → ℕ → ℕ → List Verdict
+clampedAlone s p k = choiceAlone (rowsAt s) p (misclamped (rowsAt s p) k)
 
 -- A FORECAST; a transpose has no word, and makes no step
 unfoldable pub forecastCall : Shelf → Task → Report
@@ -34,6 +38,7 @@ forecastCall s (Inverse p) = foretelling (sourceTests s p) (stepsForetold (rowsA
 forecastCall s (Converse p) = foretelling (sourceTests s p) (stepsForetold (rowsAt s p) (converseAt s p))
 forecastCall s (Transpose p) = foretelling (sourceTests s p) 0
 forecastCall s (Submatrix p I J) = foretelling (setTests s p I J) (stepsForetold (rowsAt s p) (submatrixAt s p I J))
+forecastCall s (Schur p k) = foretelling (clampedAlone s p k) (stepsForetold (rowsAt s p) (schurAt s p k))
 
 -- of a recipe, whose array no task can hold
 unfoldable pub recipeForecast : Shelf → Recipe → Report
@@ -46,6 +51,7 @@ taskCall s (Inverse p) t = inverseCall s p t
 taskCall s (Converse p) t = converseCall s p t
 taskCall s (Transpose p) t = transposeCall s p t
 taskCall s (Submatrix p I J) t = submatrixCall s p I J t
+taskCall s (Schur p k) t = schurCall s p k t
 
 -- what only the working of an operation finds: 14, of a submatrix 17 too, of a transpose nothing
 abbrev pub Found : Task → ℕ → Type 0
@@ -54,6 +60,7 @@ Found (Inverse p) k = k ≡ 14
 Found (Converse p) k = k ≡ 14
 Found (Transpose p) k = ⊥
 Found (Submatrix p I J) k = (k ≡ 14) ⊎ (k ≡ 17)
+Found (Schur p c) k = k ≡ 14
 
 -- of a recipe 14
 abbrev pub RecipeFound : ℕ → Type 0

@@ -1,6 +1,6 @@
--- What an accepted product, re-signed inverse, converse, recipe or submatrix promises (`Promised`): demand 3 of the operation on the sources as the call found
--- them, with the bound that is returned and the factors that are stored, the same in plain words, and that the steps returned are those made and those
--- foretold. What an accepted build promises of its stamps (`BuildPromised`).
+-- What an accepted product, re-signed inverse, converse, recipe, submatrix or Schur complement promises (`Promised`): demand 3 of the operation on the sources
+-- as the call found them, with the bound that is returned and the factors that are stored, the same in plain words, and that the steps returned are those made
+-- and those foretold. What an accepted build promises of its stamps (`BuildPromised`).
 use mathlib.Core.Path.{_≡_}
 use mathlib.Core.List.{List}
 use Prim.Native.Nat.{ℕ, _*_}

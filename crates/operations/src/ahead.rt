@@ -6,8 +6,8 @@ ghost use Rattle.recipes.specs.Recipe.{placesIn};
 ghost use Rattle.places.specs.Shelf.{rowsAt, Good};
 ghost use Rattle.places.specs.Tests.{sourceTests};
 ghost use Rattle.words.specs.Effort.{stepsForetold};
-ghost use Rattle.operations.specs.Operations.{submatrixAt, joinedRows, joinedAt, setTests};
-ghost use Rattle.operations.specs.Forecast.{foretelling, foretoldReport};
+ghost use Rattle.operations.specs.Operations.{submatrixAt, schurAt, joinedRows, joinedAt, setTests};
+ghost use Rattle.operations.specs.Forecast.{foretelling, clampedAlone, foretoldReport};
 use crate::Foretold;
 use crate::effort;
 use places::Shelf;
@@ -28,7 +28,7 @@ pub fn joined(shelf: Shelf, recipe: Recipe) -> Foretold
     }
     let steps = recipe.steps;
     let n = places::rows_at(shelf, steps[0].place);
-    Foretold::Steps(effort::of_sizes(recipe.count, n, n))
+    Foretold::Steps(effort::of_sizes(recipe.count, n, 0, n))
 }
 
 // A transpose has no word.
@@ -55,5 +55,20 @@ pub fn submatrix(shelf: Shelf, source: usize, rows: usize, columns: usize) -> Fo
     if let Verdict::Refused(why) = v {
         return Foretold::Refused(why);
     }
-    Foretold::Steps(effort::of_sizes(1, n, rowset::count(rows)))
+    Foretold::Steps(effort::of_sizes(1, n, 0, rowset::count(rows)))
+}
+
+// What remains after the first k rows and columns.
+pub fn schur(shelf: Shelf, source: usize, k: usize) -> Foretold
+    requires { ⌜ Good shelf ⌝ }
+    ensures { λ r. ⌜ foretoldReport r ≡ foretelling (clampedAlone shelf source k) (stepsForetold (rowsAt shelf source) (schurAt shelf source k)) ⌝ }
+{
+    let n = places::rows_at(shelf, source);
+    let mut v = judge::source(shelf, source);
+    v = test(v, judge::misclamped(n, k), 8);
+    if let Verdict::Refused(why) = v {
+        return Foretold::Refused(why);
+    }
+    let rest = n - k;
+    Foretold::Steps(effort::of_sizes(1, n, k, rest))
 }

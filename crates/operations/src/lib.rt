@@ -1,9 +1,10 @@
-// The operations on places: transpose, product, re-signed inverse, converse, submatrix, recipes of steps joined; minors; and a place filled from time stamps. A
-// result is worked first and kept by a step of its own.
+// The operations on places: transpose, product, re-signed inverse, converse, submatrix, Schur complement, recipes of steps joined; minors; and a place filled
+// from time stamps. A result is worked first and kept by a step of its own.
 ghost use mathlib.Core.Path.{_≡_};
 ghost use Rattle.places.specs.Shelf.{rowsAt, Good};
-ghost use Rattle.operations.specs.Operations.{productAt, inverseAt, converseAt, submatrixAt, joinedRows, joinedAt};
-ghost use Rattle.operations.specs.Operations.{transposeCall, buildCall, productCall, inverseCall, converseCall, submatrixCall, recipeCall, minorCall};
+ghost use Rattle.operations.specs.Operations.{productAt, inverseAt, converseAt, submatrixAt, schurAt, joinedRows, joinedAt};
+ghost use Rattle.operations.specs.Operations.{transposeCall, buildCall, productCall, inverseCall, converseCall, submatrixCall, schurCall, recipeCall};
+ghost use Rattle.operations.specs.Operations.{minorCall};
 ghost use Rattle.operations.specs.Reports.{filledOutcome, operatedOutcome, valuedReport};
 ghost use Rattle.operations.specs.Forecast.{forecastCall, recipeForecast, taskCall, foretoldReport, Found, RecipeFound, Foretelling};
 ghost use Rattle.operations.specs.Promise.{Promised, BuildPromised};
@@ -53,6 +54,10 @@ pub enum Task {
         source: usize,
         rows: u8,
         columns: u8,
+    },
+    Schur {
+        source: usize,
+        k: usize,
     },
 }
 
@@ -148,6 +153,16 @@ pub fn submatrix(shelf: Shelf, source: usize, rows: u8, columns: u8, target: usi
     )
 }
 
+// The Schur complement of the first k rows and columns of a place, to an empty place: what remains once the first k control points are clamped.
+pub fn schur(shelf: Shelf, source: usize, k: usize, target: usize) -> Operated
+    requires { ⌜ Good shelf ⌝ }
+    ensures { λ r. ⌜ operatedOutcome r ≡ schurCall shelf source k target ⌝ }
+    ensures { λ r. ⌜ Good (r .shelf) ⌝ }
+    ensures { λ r. ⌜ Promised (r .shelf) target (rowsAt shelf source) (schurAt shelf source k) (r .answer) ⌝ }
+{
+    work::keep(shelf, target, work::schur(shelf, source, k, target))
+}
+
 // An operation, to an empty place.
 pub fn perform(shelf: Shelf, task: Task, target: usize) -> Operated
     requires { ⌜ Good shelf ⌝ }
@@ -164,6 +179,7 @@ pub fn perform(shelf: Shelf, task: Task, target: usize) -> Operated
             rows,
             columns,
         } => submatrix(shelf, source, rows, columns, target),
+        Task::Schur { source, k } => schur(shelf, source, k, target),
     }
 }
 
@@ -183,6 +199,7 @@ pub fn forecast(shelf: Shelf, task: Task) -> Foretold
             rows,
             columns,
         } => ahead::submatrix(shelf, source, rowset::wide(rows), rowset::wide(columns)),
+        Task::Schur { source, k } => ahead::schur(shelf, source, k),
     }
 }
 

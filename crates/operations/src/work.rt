@@ -7,7 +7,7 @@ ghost use Rattle.verdict.specs.Verdict.{firstOf};
 ghost use Rattle.conditions.specs.Conditions.{sourcesTo};
 ghost use Rattle.recipes.specs.Recipe.{placeOf, placesIn, stepsIn, slotAt};
 ghost use Rattle.places.specs.Shelf.{rowsAt, Good};
-ghost use Rattle.operations.specs.Operations.{submatrixAt, submatrixTests, stepWith, joinedRows, joinedAt};
+ghost use Rattle.operations.specs.Operations.{submatrixAt, submatrixTests, schurAt, clampedTests, stepWith, joinedRows, joinedAt};
 ghost use Rattle.operations.specs.Proposed.{turnedDown, transposeProposal, buildProposal, proposed, kept, filledBy, rangedOf, Keepable, Made};
 use crate::Bounded;
 use crate::Filled;
@@ -182,7 +182,7 @@ pub fn joined(shelf: Shelf, recipe: Recipe, target: usize) -> Proposed
     let word = put_steps(shelf, recipe, n, &mut letters, &mut sources);
     let all = rowset::run(1, n);
     let blank = table::blank();
-    ranged(rule::work(word, &letters, &sources, blank, all, all))
+    ranged(rule::work(word, &letters, &sources, blank, all, all, 0))
 }
 
 // The tests of a submatrix before its factors are worked. Whether it is singular is asked of sets that fit.
@@ -228,5 +228,26 @@ pub fn submatrix(
     let mut sources = [0u64; 768];
     let none = source::no_steps(n);
     let word = source::put_step(none, &mut letters, &mut sources, Way::Plain, b);
-    ranged(rule::work(word, &letters, &sources, b, rows, columns))
+    ranged(rule::work(word, &letters, &sources, b, rows, columns, 0))
+}
+
+// What remains after the first k rows and columns, which are joined to every row and column set.
+pub fn schur(shelf: Shelf, source: usize, k: usize, target: usize) -> Proposed
+    requires { ⌜ Good shelf ⌝ }
+    ensures { λ r. ⌜ r ≡ proposed (clampedTests shelf source k target) (rowsAt shelf source) (schurAt shelf source k) ⌝ }
+    ensures { λ r. ⌜ Keepable target r ⌝ }
+{
+    let n = places::rows_at(shelf, source);
+    let mut v = judge::one_source(shelf, source, target);
+    v = test(v, judge::misclamped(n, k), 8);
+    if let Verdict::Refused(why) = v {
+        return turned_down(why);
+    }
+    let b = places::table_at(shelf, source);
+    let mut letters = [0u16; 342];
+    let mut sources = [0u64; 768];
+    let none = source::no_steps(n);
+    let plain = source::put_step(none, &mut letters, &mut sources, Way::Plain, b);
+    let all = rowset::run(1, n);
+    ranged(rule::work(plain, &letters, &sources, b, all, all, k))
 }

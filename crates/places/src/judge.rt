@@ -2,7 +2,7 @@
 ghost use mathlib.Core.Path.{_≡_};
 ghost use Prim.Native.Nat.{_≤_, _<_};
 ghost use Rattle.verdict.specs.Verdict.{firstOf};
-ghost use Rattle.conditions.specs.Conditions.{miscounted, sourcesAlone, sourcesTo};
+ghost use Rattle.conditions.specs.Conditions.{miscounted, misclamped, sourcesAlone, sourcesTo};
 ghost use Rattle.recipes.specs.Recipe.{placesIn};
 ghost use Rattle.places.specs.Shelf.{rowsAt};
 ghost use Rattle.places.specs.Tests.{unfit, sourceTests, targetTests, oneSource};
@@ -114,6 +114,13 @@ pub fn miscounted(count: usize) -> bool
     ensures { λ r. ⌜ r ≡ miscounted count ⌝ }
 {
     (count < 2) | (6 < count)
+}
+
+// Whether of n rows none is clamped, or none is left.
+pub fn misclamped(n: usize, clamped: usize) -> bool
+    ensures { λ r. ⌜ r ≡ misclamped n clamped ⌝ }
+{
+    (clamped == 0) | (n <= clamped)
 }
 
 // Whether row and column sets of n rows are of unequal count, empty, or beyond n.

@@ -12,7 +12,7 @@ use Rattle.fraction.proofs.Rational.{rational-same, rational-product, rational-
 use Rattle.words.proofs.Banded.{each-banded}
 use Rattle.minors.specs.Matrix.{In, Equal}
 use Rattle.factors.specs.Demand.{AboveZero, IsZero, BandedFractions, multipliedOut}
-use Rattle.factors.proofs.Result.{multiplied-equal}
+use Rattle.minors.proofs.Multiply.{multiplied-equal}
 use Rattle.factors.proofs.Exact.{ℚ, StandsAbove, stands-product, stands-quotient, fractions-same}
 use Rattle.powers.specs.Stamps.{stampAt, powersOf, Rising, exactFactors, StampsFactored}
 use Rattle.powers.proofs.Complete.{power}

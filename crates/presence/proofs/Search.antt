@@ -10,7 +10,7 @@ use borrow.Author.Tests.{eq-eqb, ne-eqb, lt-ltb, ltb-true}
 use lib.Dec.{T, eqb, ltb}
 use lib.Pow.{pow-pos, pow-mono}
 use lib.ListN.{length}
-use Rattle.rowset.specs.Mask.{maskOf, maskCount, maskAmong}
+use Rattle.rowset.specs.Mask.{maskOf, maskCount, maskAmong, maskWithFirst}
 use Rattle.rowset.proofs.Finite.{implies, implies-at, beq-eq, all₃, all₃-at}
 use Rattle.rowset.proofs.Masks.{ofMask-length, ofMask-above, mask-back}
 use Rattle.rowset.proofs.Counts.{mask-count, countTo-le}
@@ -102,47 +102,50 @@ unfolding maskCount
 count-few p = countTo-le 8 p
 
 -- THE SEARCH: the mask s is looked at
-abbrev pub passes : List Bool → ℕ → ℕ → ℕ → Bool
-passes v p c s = eqb (maskCount s) c && heldAt v (maskAmong p s)
+abbrev pub passes : List Bool → ℕ → ℕ → ℕ → ℕ → Bool
+passes v p k c s = eqb (maskCount s) c && heldAt v (maskAmong p (maskWithFirst k s))
 
-pub fails-count : (v : List Bool) (p c s : ℕ) → (maskCount s ≡ c → ⊥) → passes v p c s ≡ false
-fails-count v p c s f = ap (λ (b : Bool). b && heldAt v (maskAmong p s)) (ne-eqb (maskCount s) c f)
+pub fails-count : (v : List Bool) (p k c s : ℕ) → (maskCount s ≡ c → ⊥) → passes v p k c s ≡ false
+fails-count v p k c s f = ap (λ (b : Bool). b && heldAt v (maskAmong p (maskWithFirst k s))) (ne-eqb (maskCount s) c f)
 
-pub passes-held : (v : List Bool) (p c s : ℕ) {b : Bool} → maskCount s ≡ c → heldAt v (maskAmong p s) ≡ b → passes v p c s ≡ b
-passes-held v p c s e f = ap₂ _&&_ (eq-eqb (maskCount s) c e) f
+pub passes-held : (v : List Bool) (p k c s : ℕ) {b : Bool} → maskCount s ≡ c → heldAt v (maskAmong p (maskWithFirst k s)) ≡ b → passes v p k c s ≡ b
+passes-held v p k c s e f = ap₂ _&&_ (eq-eqb (maskCount s) c e) f
 
 -- one mask further down
-pub search-next : (v : List Bool) (p c s b : ℕ) → 0 < s → ((x : ℕ) → s ≤ x → x < b → passes v p c x ≡ false) → passes v p c (s - 1) ≡ false
-    → (x : ℕ) → s - 1 ≤ x → x < b → passes v p c x ≡ false
-search-next v p c s b l h f x g k = elim (ℕ-discrete x (s - 1)) [ yes e ↦ ap (passes v p c) e ∙ f | no e ↦ h x (omega arith) k ]
+pub search-next : (v : List Bool) (p k c s b : ℕ) → 0 < s → ((x : ℕ) → s ≤ x → x < b → passes v p k c x ≡ false) → passes v p k c (s - 1) ≡ false
+    → (x : ℕ) → s - 1 ≤ x → x < b → passes v p k c x ≡ false
+search-next v p k c s b l h f x g y = elim (ℕ-discrete x (s - 1)) [ yes e ↦ ap (passes v p k c) e ∙ f | no e ↦ h x (omega arith) y ]
 
-module _ (v : List Bool) (p i c : ℕ) (few : maskCount p ≤ 8) (low : 1 ≤ i) (high : i ≤ maskCount p + 1) where
+module _ (v : List Bool) (p k i c : ℕ) (few : maskCount p ≤ 8) (low : 1 ≤ i) (high : k + i ≤ maskCount p + 1) where
+  -- how many rows of p are left
+  abbrev m : ℕ
+  m = maskCount p - k
+
   test : RowSet → Bool
-  test S = allBefore i S && (eqb (count S) c && heldAt v (maskAmong p (maskOf S)))
+  test S = allBefore i S && (eqb (count S) c && heldAt v (maskAmong p (maskWithFirst k (maskOf S))))
 
-  test-mask : (s : ℕ) → s < 2 ^ maskCount p → test (ofMask (maskCount p) s) ≡ ltb s (2 ^ (i - 1)) && passes v p c s
+  test-mask : (s : ℕ) → s < 2 ^ m → test (ofMask m s) ≡ ltb s (2 ^ (i - 1)) && passes v p k c s
   unfolding test
   test-mask s l =
-      ap₂ _&&_ (before-mask (maskCount p) i s few (omega arith) l)
-      (ap₂ (λ x y. eqb x c && heldAt v (maskAmong p y)) (mask-count (maskCount p) s few l) (mask-back (maskCount p) s l))
+      ap₂ _&&_ (before-mask m i s (omega arith) (omega arith) l)
+      (ap₂ (λ x y. eqb x c && heldAt v (maskAmong p (maskWithFirst k y))) (mask-count m s (omega arith) l) (mask-back m s l))
 
-  within : (s : ℕ) → s < 2 ^ (i - 1) → s < 2 ^ maskCount p
-  within s l = let h : 2 ^ (i - 1) ≤ 2 ^ maskCount p = pow-mono (omega arith) in omega arith
+  within : (s : ℕ) → s < 2 ^ (i - 1) → s < 2 ^ m
+  within s l = let h : 2 ^ (i - 1) ≤ 2 ^ m = pow-mono (omega arith) in omega arith
 
-  fails : (r : ℕ) → ((x : ℕ) → r ≤ x → x < 2 ^ (i - 1) → passes v p c x ≡ false) → (s : ℕ) → r ≤ s → s < 2 ^ maskCount p → test (ofMask (maskCount p) s) ≡ false
+  fails : (r : ℕ) → ((x : ℕ) → r ≤ x → x < 2 ^ (i - 1) → passes v p k c x ≡ false) → (s : ℕ) → r ≤ s → s < 2 ^ m → test (ofMask m s) ≡ false
   fails r h s g l = test-mask s l ∙ by (ltb s (2 ^ (i - 1))) refl
     where
-      by : (b : Bool) → ltb s (2 ^ (i - 1)) ≡ b → b && passes v p c s ≡ false
+      by : (b : Bool) → ltb s (2 ^ (i - 1)) ≡ b → b && passes v p k c s ≡ false
       by true e = h s g (ltb-true s (2 ^ (i - 1)) e)
       by false e = refl
 
-  pub search-found : (r : ℕ) → r < 2 ^ (i - 1) → passes v p c r ≡ true → ((x : ℕ) → r + 1 ≤ x → x < 2 ^ (i - 1) → passes v p c x ≡ false)
-      → ofMask (maskCount p) r ≡ latestHeld v p i c
+  pub search-found : (r : ℕ) → r < 2 ^ (i - 1) → passes v p k c r ≡ true → ((x : ℕ) → r + 1 ≤ x → x < 2 ^ (i - 1) → passes v p k c x ≡ false)
+      → ofMask (maskCount p - k) r ≡ latestHeld v p k i c
   unfolding test
   search-found r l q h =
-      sym (latest-found (maskCount p) test r (within r l) (test-mask r (within r l) ∙ ap₂ _&&_ (lt-ltb r (2 ^ (i - 1)) l) q)
-      (λ s x y. fails (r + 1) h s (omega arith) y))
+      sym (latest-found m test r (within r l) (test-mask r (within r l) ∙ ap₂ _&&_ (lt-ltb r (2 ^ (i - 1)) l) q) (λ s x y. fails (r + 1) h s (omega arith) y))
 
-  pub search-none : ((x : ℕ) → 0 ≤ x → x < 2 ^ (i - 1) → passes v p c x ≡ false) → ofMask (maskCount p) 0 ≡ latestHeld v p i c
+  pub search-none : ((x : ℕ) → 0 ≤ x → x < 2 ^ (i - 1) → passes v p k c x ≡ false) → ofMask (maskCount p - k) 0 ≡ latestHeld v p k i c
   unfolding test
-  search-none h = sym (latest-none (maskCount p) test (λ s l. fails 0 h s (omega arith) l))
+  search-none h = sym (latest-none m test (λ s l. fails 0 h s (omega arith) l))

@@ -3,11 +3,11 @@
 use mathlib.Core.Path.{_≡_}
 use mathlib.Core.Bool.{Bool, true, false, _&&_}
 use mathlib.Core.List.{List}
-use Prim.Native.Nat.{ℕ, _≤_, _<_}
+use Prim.Native.Nat.{ℕ, _-_, _≤_, _<_}
 use lib.Dec.{eqb}
 use lib.ListN.{getD, length}
 use Rattle.number.specs.declared.Number.{Number}
-use Rattle.rowset.specs.Mask.{maskOf, maskCount, maskRun, maskAmong}
+use Rattle.rowset.specs.Mask.{maskOf, maskCount, maskRun, maskAmong, maskWithFirst}
 use Rattle.words.specs.RowSet.{RowSet, count, allBefore, among, rows}
 use Rattle.words.specs.Latest.{latest}
 use Rattle.words.specs.Word.{Letter, D, Word}
@@ -47,6 +47,6 @@ leading P c = among P (rows (count P) 1 c)
 pub record Tells (n : ℕ) (M : RowSet → RowSet → Number) (P : RowSet) (v : List Bool) : Type 0 where
   pub told : (S : RowSet) → length S ≡ n → count S ≤ count P → heldAt v (maskOf S) ≡ nonzero (M S (leading P (count S)))
 
--- of the sets that count among the chosen rows p, the latest of c rows, all before row i, that v has
-abbrev pub latestHeld : List Bool → ℕ → ℕ → ℕ → RowSet
-latestHeld v p i c = latest (maskCount p) (λ S. allBefore i S && (eqb (count S) c && heldAt v (maskAmong p (maskOf S))))
+-- of the sets that count among the chosen rows p but the first k of these, the latest of c rows, all before row i, that v has with these k joined
+abbrev pub latestHeld : List Bool → ℕ → ℕ → ℕ → ℕ → RowSet
+latestHeld v p k i c = latest (maskCount p - k) (λ S. allBefore i S && (eqb (count S) c && heldAt v (maskAmong p (maskWithFirst k (maskOf S)))))

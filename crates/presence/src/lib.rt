@@ -200,17 +200,17 @@ pub fn present_turned(
     swept_turned(word, letters, factors, p)
 }
 
-// Of the sets that count among the rows p, the latest one of c rows, all before row i, that v has.
-pub fn latest(v: &[bool; 256], p: usize, i: usize, c: usize) -> usize
-    requires { ⌜ (p < 256) × (1 ≤ i) × (i ≤ maskCount p + 1) ⌝ }
-    ensures { λ r. ⌜ ofMask (maskCount p) r ≡ latestHeld (now (v .entry)) p i c ⌝ }
+// Of the sets that count among the rows p but the first k of these, the latest one of c rows, all before row i, that v has with these k joined.
+pub fn latest(v: &[bool; 256], p: usize, k: usize, i: usize, c: usize) -> usize
+    requires { ⌜ (p < 256) × (k ≤ maskCount p) × (1 ≤ i) × (k + i ≤ maskCount p + 1) ⌝ }
+    ensures { λ r. ⌜ ofMask (maskCount p - k) r ≡ latestHeld (now (v .entry)) p k i c ⌝ }
     ensures { λ r. ⌜ r < 2 ^ (i - 1) ⌝ }
 {
     let mut s: usize = 1 << (i - 1);
     while 0 < s {
         s -= 1;
         if rowset::count(s) == c {
-            let at = rowset::among(p, s);
+            let at = rowset::among(p, rowset::with_first(s, k));
             if v[at] {
                 return s;
             }

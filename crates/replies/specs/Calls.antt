@@ -9,7 +9,7 @@ use Rattle.requests.specs.declared.commands.Kind.the-variants as kind
 use Rattle.conditions.specs.Conditions.{above}
 use Rattle.places.specs.declared.Shelf.{Shelf}
 use Rattle.operations.specs.declared.Task.{Task}
-use Rattle.operations.specs.declared.Task.the-variants.{Product, Inverse, Converse, Transpose, Submatrix}
+use Rattle.operations.specs.declared.Task.the-variants.{Product, Inverse, Converse, Transpose, Submatrix, Schur}
 use Rattle.notices.specs.Sentence.{refusalText}
 use Rattle.answers.specs.Matrix.{placeText}
 
@@ -36,6 +36,7 @@ taskBy kind.Inverse a b c = Inverse a
 taskBy kind.Converse a b c = Converse a
 taskBy kind.Transpose a b c = Transpose a
 taskBy kind.Submatrix a b c = Submatrix a (mask b) (mask c)
+taskBy kind.Schur a b c = Schur a b
 
 abbrev pub taskOf : Kind → List ℕ → Task
 taskOf kind v = taskBy kind (getD v 0 0) (getD v 1 0) (getD v 2 0)

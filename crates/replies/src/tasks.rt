@@ -38,6 +38,7 @@ fn task_of(kind: Kind, a: usize, b: usize, c: usize) -> Task
             rows: mask(b),
             columns: mask(c),
         },
+        Kind::Schur => Task::Schur { source: a, k: b },
     }
 }
 

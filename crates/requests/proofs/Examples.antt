@@ -9,7 +9,7 @@ use Rattle.lines.specs.Words.{before, parted, same}
 use Rattle.lines.specs.Decimal.{allNumerals, valueFrom}
 use Rattle.lines.specs.Hexadecimal.{allDigits, spelledBytes}
 use Rattle.requests.specs.declared.commands.Command.the-variants.{Load, Length, Operation, Recipe, Build, Carry, Add, Sentence}
-use Rattle.requests.specs.declared.commands.Kind.the-variants.{Product, Submatrix}
+use Rattle.requests.specs.declared.commands.Kind.the-variants.{Product, Submatrix, Schur}
 use Rattle.requests.specs.declared.commands.Mode.the-variants.{Direct, Foretold}
 use Rattle.requests.specs.Commands.{entryForm, modeOf, formBy}
 use Rattle.requests.specs.Lists.{spelledList}
@@ -33,6 +33,14 @@ product-target = refl
 submatrix-foretold : requestOf (ascii "forecast submatrix 0 3 5") ≡ askedAlone (Operation Foretold Submatrix) (0 ∷ 3 ∷ 5 ∷ 0 ∷ [])
 unfolding requestOf modeOf formBy entryForm same parted letterNumbers allNumerals valueFrom
 submatrix-foretold = refl
+
+schur : requestOf (ascii "schur 3 1 4") ≡ askedAlone (Operation Direct Schur) (3 ∷ 1 ∷ 0 ∷ 4 ∷ [])
+unfolding requestOf modeOf formBy entryForm same parted letterNumbers allNumerals valueFrom
+schur = refl
+
+schur-foretold : requestOf (ascii "forecast schur 3 4294967295") ≡ askedAlone (Operation Foretold Schur) (3 ∷ 4294967295 ∷ 0 ∷ 0 ∷ [])
+unfolding requestOf modeOf formBy entryForm same parted letterNumbers allNumerals valueFrom
+schur-foretold = refl
 
 -- a recipe: the codes of its steps, and its target behind three numbers that are not asked for
 recipe : requestOf (ascii "recipe 7 0,plain 1,transpose 2,inverse 3,converse")

@@ -9,7 +9,7 @@ use Rattle.lines.specs.Ascii.{ascii}
 use Rattle.requests.specs.declared.commands.Command.{Command}
 use Rattle.requests.specs.declared.commands.Command.the-variants.{Load, Write, Length, Drop, Operation, Recipe, Build, Minor, Carry, Reversals}
 use Rattle.requests.specs.declared.commands.Command.the-variants.{Add, Multiply, Divide, Rest, Sentence, Show, Bad}
-use Rattle.requests.specs.declared.commands.Kind.the-variants.{Product, Inverse, Converse, Transpose, Submatrix}
+use Rattle.requests.specs.declared.commands.Kind.the-variants.{Product, Inverse, Converse, Transpose, Submatrix, Schur}
 use Rattle.requests.specs.declared.commands.Mode.{Mode}
 use Rattle.requests.specs.declared.commands.Mode.the-variants.{Direct, Foretold}
 use Rattle.requests.specs.declared.commands.Form.{Form}
@@ -35,6 +35,7 @@ operationForms mode =
     ∷ entry "converse" (Operation mode Converse) "P--P" None
     ∷ entry "transpose" (Operation mode Transpose) "P--P" None
     ∷ entry "submatrix" (Operation mode Submatrix) "PMMP" None
+    ∷ entry "schur" (Operation mode Schur) "PP-P" None
     ∷ entry "recipe" (Recipe mode) "---P" (Wholes Step)
     ∷ []
 

@@ -10,6 +10,7 @@ pub enum Kind {
     Converse,
     Transpose,
     Submatrix,
+    Schur,
 }
 
 // How an operation is asked for: directly, or with a word in front of its own.
@@ -106,6 +107,7 @@ fn operation_forms(w: &[u8], mode: Mode, before: Form) -> Form
     let f = operation(w, f, b"converse", mode, Kind::Converse, b"P--P");
     let f = operation(w, f, b"transpose", mode, Kind::Transpose, b"P--P");
     let f = operation(w, f, b"submatrix", mode, Kind::Submatrix, b"PMMP");
+    let f = operation(w, f, b"schur", mode, Kind::Schur, b"PP-P");
     let steps = Tail::Wholes(Member::Step);
     named(w, f, b"recipe", Command::Recipe(mode), b"---P", steps)
 }

@@ -2,6 +2,7 @@ pub mod Finite
 pub mod Bit
 pub mod Masks
 pub mod Counts
+pub mod First
 pub mod Moved
 pub mod Tabulated
 pub mod Positions

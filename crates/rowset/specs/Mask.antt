@@ -1,5 +1,5 @@
 -- Row sets as masks of eight bits, bit 0 for row 1 (document 01, "The rounded rule"): membership, replacement, count, position, consecutive rows, sets among
--- chosen rows.
+-- chosen rows, the first rows joined to a set.
 -- Each has the name of its counterpart on lists of Bools (RowSet) with `mask` before it; `maskOf` makes a mask of a list.
 use mathlib.Core.Bool.{Bool, true, false, not, _&&_}
 use mathlib.Core.List.{[], _∷_}
@@ -63,6 +63,10 @@ amongTo (suc n) p s = digit (maskHas (suc n) p && maskHas (suc (countTo n p)) s)
 -- s as a set of all eight rows
 unfoldable pub maskAmong : ℕ → ℕ → ℕ
 maskAmong p s = amongTo 8 p s
+
+-- the rows 1 .. k joined to s, whose own rows then count from k + 1
+unfoldable pub maskWithFirst : ℕ → ℕ → ℕ
+maskWithFirst k s = s * 2 ^ k + maskRun 1 k
 
 -- the mask of a list of Bools
 unfoldable pub maskOf : RowSet → ℕ

@@ -6,7 +6,7 @@ mod table; // table.rt: positions
 
 ghost use mathlib.Core.Path.{_≡_};
 ghost use Prim.Native.Nat.{_<_, _≤_};
-ghost use Rattle.rowset.specs.Mask.{maskHas, maskBeyond, maskReplaced, maskCount, maskRun, maskAmong};
+ghost use Rattle.rowset.specs.Mask.{maskHas, maskBeyond, maskReplaced, maskCount, maskRun, maskAmong, maskWithFirst};
 
 // A byte as a number: a caller's mask, an entry of the table.
 pub fn wide(x: u8) -> usize
@@ -74,4 +74,12 @@ pub fn among(p: usize, s: usize) -> usize
         }
     }
     r
+}
+
+// The rows 1 .. k joined to s, whose own rows then count from k + 1.
+pub fn with_first(s: usize, k: usize) -> usize
+    requires { ⌜ (s < 256) × (k ≤ 8) ⌝ }
+    ensures { λ r. ⌜ r ≡ maskWithFirst k s ⌝ }
+{
+    run(1, k) | (s << k)
 }

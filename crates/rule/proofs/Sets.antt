@@ -58,23 +58,23 @@ module _ (c : Chosen) {f : List ℕ} (P : Workable c f) (v : List Bool) (i j s :
             ∙ latest-rows (sizeOf c) (size-few c P) M d i j low order high;
       }
 
-  pub latest-mask : Sides c f false v → ofMask (maskCount (c .rows)) s ≡ latestHeld v (c .rows) i (j - 1) → s < 2 ^ (i - 1)
+  pub latest-mask : Sides c f false v → ofMask (maskCount (c .rows) - c .clamped) s ≡ latestHeld v (c .rows) (c .clamped) i (j - 1) → s < 2 ^ (i - 1)
       → LatestMask (sizeOf c) (turnedBy false (chosenMinor c f)) i j s
   unfolding chosenMinor
   latest-mask t e l =
       mask-of (turnedBy false (chosenMinor c f)) (P .divisible false)
-      (e ∙ found (c .word .n) (c .rows) (c .columns) (P .few) (P .rows) (P .columns) (P .equal)
+      (e ∙ found (c .word .n) (c .rows) (c .columns) (c .clamped) (P .few) (P .rows) (P .columns) (P .equal) (P .held)
       (minor rounded (joinedWord (c .word .n) (stepsOf (c .word) f))) v t i j (omega arith)) l
 
-  pub latest-mask-turned : Sides c f true v → ofMask (maskCount (c .columns)) s ≡ latestHeld v (c .columns) i (j - 1) → s < 2 ^ (i - 1)
-      → LatestMask (sizeOf c) (turnedBy true (chosenMinor c f)) i j s
+  pub latest-mask-turned : Sides c f true v → ofMask (maskCount (c .columns) - c .clamped) s ≡ latestHeld v (c .columns) (c .clamped) i (j - 1)
+      → s < 2 ^ (i - 1) → LatestMask (sizeOf c) (turnedBy true (chosenMinor c f)) i j s
   unfolding chosenMinor
   latest-mask-turned t e l =
       mask-of (turnedBy true (chosenMinor c f)) (P .divisible true)
-      (ap (λ (k : ℕ). ofMask k s) (P .equal) ∙ e
-      ∙ found (c .word .n) (c .columns) (c .rows) (P .few) (P .columns) (P .rows) (sym (P .equal))
+      (ap (λ (k : ℕ). ofMask (k - c .clamped) s) (P .equal) ∙ e
+      ∙ found (c .word .n) (c .columns) (c .rows) (c .clamped) (P .few) (P .columns) (P .rows) (sym (P .equal)) (omega (arith, P .held, P .equal))
       (λ I J. minor rounded (joinedWord (c .word .n) (stepsOf (c .word) f)) J I) v t i j (omega (arith, P .equal))
-      ∙ ap (λ (k : ℕ). latestBefore rounded k (turnedBy true (chosenMinor c f)) i j) (sym (P .equal))) l
+      ∙ ap (λ (k : ℕ). latestBefore rounded (k - c .clamped) (turnedBy true (chosenMinor c f)) i j) (sym (P .equal))) l
 
 -- WITH ROW i
 -- row i put in by replacing it by itself

@@ -1,14 +1,13 @@
--- A joined word with chosen rows and columns as the code holds it: the minors that the formulas ask for (chosenMinor), their steps (chosenSteps), and the new
--- factors (chosenFactors).
--- When the rule can be run (Workable): no divisor of the formulas is zero. What a run of it is lent (Lent).
+-- A joined word with chosen rows and columns, the first of them clamped, as the code holds it: the minors that the formulas ask for (chosenMinor), their steps
+-- (chosenSteps), and the new factors (chosenFactors). When the rule can be run (Workable): no divisor of the formulas is zero. What a run of it is lent (Lent).
 use mathlib.Core.Path.{_≡_}
 use mathlib.Core.Bool.{Bool, true, false}
 use mathlib.Core.List.{List}
-use Prim.Native.Nat.{ℕ, _^_, _≤_, _<_}
+use Prim.Native.Nat.{ℕ, _+_, _-_, _^_, _≤_, _<_}
 use Rattle.number.specs.Number.{rounded}
 use Rattle.number.specs.declared.Number.{Number}
 use Rattle.rowset.specs.Mask.{maskCount}
-use Rattle.words.specs.RowSet.{RowSet, among, ofMask}
+use Rattle.words.specs.RowSet.{RowSet, among, ofMask, withFirst}
 use Rattle.words.specs.Word.{Factors}
 use Rattle.words.specs.Walk.{minor}
 use Rattle.words.specs.Formula.{newFactor, Divisible}
@@ -20,12 +19,12 @@ use Rattle.walk.specs.declared.Joined.{Joined}
 use Rattle.walk.specs.Lent.{stepsOf, AllSpelled}
 use Rattle.rule.specs.declared.Chosen.{Chosen}
 
-abbrev pub chosenOf : Joined → ℕ → ℕ → Chosen
-chosenOf w p q = record { word = w; rows = p; columns = q }
+abbrev pub chosenOf : Joined → ℕ → ℕ → ℕ → Chosen
+chosenOf w p q k = record { word = w; rows = p; columns = q; clamped = k }
 
--- how many rows are chosen
+-- how many rows are chosen and not clamped
 abbrev pub sizeOf : Chosen → ℕ
-sizeOf c = maskCount (c .rows)
+sizeOf c = maskCount (c .rows) - c .clamped
 
 abbrev pub chosenRows : Chosen → RowSet
 chosenRows c = ofMask (c .word .n) (c .rows)
@@ -33,13 +32,14 @@ chosenRows c = ofMask (c .word .n) (c .rows)
 abbrev pub chosenColumns : Chosen → RowSet
 chosenColumns c = ofMask (c .word .n) (c .columns)
 
--- the minor at sets that count among the chosen rows and columns, the word's factors being f
+-- the minor at sets that count among the chosen rows and columns behind the clamped ones, these joined to both sets, the word's factors being f
 unfoldable pub chosenMinor : Chosen → List ℕ → RowSet → RowSet → Number
-chosenMinor c f I J = minor rounded (joinedWord (c .word .n) (stepsOf (c .word) f)) (among (chosenRows c) I) (among (chosenColumns c) J)
+chosenMinor c f I J = minor rounded (joinedWord (c .word .n) (stepsOf (c .word) f)) (among (chosenRows c) (withFirst (c .clamped) I))
+    (among (chosenColumns c) (withFirst (c .clamped) J))
 
--- the steps of a minor of p rows: the walk is over the whole joined word
+-- the steps of a minor of p rows behind the clamped ones: the walk is over the whole joined word
 unfoldable pub chosenSteps : Chosen → List ℕ → ℕ → ℕ
-chosenSteps c f p = walkSteps (c .word .n) p (joinedWord (c .word .n) (stepsOf (c .word) f))
+chosenSteps c f p = walkSteps (c .word .n) (c .clamped + p) (joinedWord (c .word .n) (stepsOf (c .word) f))
 
 -- the new factors
 abbrev pub chosenFactors : Chosen → List ℕ → Factors Number
@@ -57,6 +57,7 @@ pub record Workable (c : Chosen) (f : List ℕ) : Type 0 where
   pub rows : c .rows < 2 ^ c .word .n
   pub columns : c .columns < 2 ^ c .word .n
   pub equal : maskCount (c .rows) ≡ maskCount (c .columns)
+  pub held : c .clamped ≤ maskCount (c .rows)
   pub walkable : Sources (Walkable (c .word .n)) (stepsOf (c .word) f)
   pub divisible : (turned : Bool) → Divisible rounded (sizeOf c) (turnedBy turned (chosenMinor c f))
 

@@ -21,11 +21,12 @@ use walk::Joined;
 
 mod bounds; // bounds.rt: the bounds by size
 
-// A joined word with the chosen rows and columns of its matrix.
+// A joined word with the chosen rows and columns of its matrix. The first ones, so many of both as are clamped, are joined to every set of the others.
 pub struct Chosen {
     pub word: Joined,
     pub rows: usize,
     pub columns: usize,
+    pub clamped: usize,
 }
 
 // The new factors, in rows of eight, how many rows they have, their bound, and the steps that were made.
@@ -43,7 +44,8 @@ struct Table {
 }
 
 impl Chosen {
-    // The minor with row set i and column set j, sets that count among the chosen ones; turned, the row set is j and the column set i.
+    // The minor with row set i and column set j, sets that count among the chosen ones behind the clamped, these joined to both; turned, the row set is j and
+    // the column set i.
     fn minor(
         self,
         tables: &[u8; 1408],
@@ -60,21 +62,23 @@ impl Chosen {
         ensures { λ r. ⌜ (r .steps ≡ chosenSteps self (now (sources .entry)) (maskCount i)) × (r .steps ≤ 24000) ⌝ }
     {
         let word = self.word;
+        let s = rowset::with_first(i, self.clamped);
+        let t = rowset::with_first(j, self.clamped);
         if turned {
             word.minor(
                 tables,
                 letters,
                 sources,
-                rowset::among(self.rows, j),
-                rowset::among(self.columns, i),
+                rowset::among(self.rows, t),
+                rowset::among(self.columns, s),
             )
         } else {
             word.minor(
                 tables,
                 letters,
                 sources,
-                rowset::among(self.rows, i),
-                rowset::among(self.columns, j),
+                rowset::among(self.rows, s),
+                rowset::among(self.columns, t),
             )
         }
     }
@@ -135,9 +139,9 @@ impl Chosen {
         ensures { λ r. ⌜ LatestMask (sizeOf self) (turnedBy turned (chosenMinor self (now (sources .entry)))) i j r ⌝ }
     {
         if turned {
-            presence::latest(v, self.columns, i, j - 1)
+            presence::latest(v, self.columns, self.clamped, i, j - 1)
         } else {
-            presence::latest(v, self.rows, i, j - 1)
+            presence::latest(v, self.rows, self.clamped, i, j - 1)
         }
     }
 
@@ -292,7 +296,7 @@ impl Chosen {
         let word = self.word;
         let n = word.n;
         let tables = rowset::lent::tables(n);
-        let k = rowset::count(self.rows);
+        let k = rowset::count(self.rows) - self.clamped;
         let lower = presence::present(word, letters, sources, self.columns);
         let upper = presence::present_turned(word, letters, sources, self.rows);
         let mut b = table;
@@ -307,7 +311,7 @@ impl Chosen {
     }
 }
 
-// The new factors of the chosen rows and columns of a joined word, put over the 64 numbers of a table.
+// The new factors of the chosen rows and columns of a joined word, the first of them clamped, put over the 64 numbers of a table.
 pub fn work(
     word: Joined,
     letters: &[u16; 342],
@@ -315,20 +319,23 @@ pub fn work(
     table: [Number; 64],
     rows: usize,
     columns: usize,
+    clamped: usize,
 ) -> Refactored
-    requires { ⌜ Workable (chosenOf word rows columns) (now sources) × AllSpelled word (now letters) ⌝ }
-    ensures { λ r. ⌜ r ≡ workOf (chosenOf word rows columns) (now (sources .entry)) ⌝ }
+    requires { ⌜ Workable (chosenOf word rows columns clamped) (now sources) × AllSpelled word (now letters) ⌝ }
+    ensures { λ r. ⌜ r ≡ workOf (chosenOf word rows columns clamped) (now (sources .entry)) ⌝ }
 {
     let c = Chosen {
         word,
         rows,
         columns,
+        clamped,
     };
+    let k = rowset::count(rows) - clamped;
     let x = c.factors(letters, sources, table);
     let factors = x.factors;
     Refactored {
         factors,
-        rows: rowset::count(rows),
+        rows: k,
         bound: bounds::of_steps(word.count, word.n),
         steps: x.steps,
     }

@@ -1,4 +1,5 @@
--- P1 TO P12 HOLD (marked-examples), and the examples with zeros (banded-examples) and of recipes (recipe-examples): both sides of each row compute to the same.
+-- P1 TO P12 HOLD (marked-examples), and the examples with zeros (banded-examples), of recipes (recipe-examples) and of clamped rows (schur-examples): both
+-- sides of each row compute to the same.
 use mathlib.Core.Path.{refl}
 use mathlib.Core.Bool.{xor}
 use lib.Ieee.{size}
@@ -25,7 +26,7 @@ use Rattle.writer.specs.Encoding.{factorBytes, factorsBytes, encoding}
 use Rattle.reader.specs.Matrix.{itemAt, mantissaAt, judgedCode, factorAt, factorsFrom, matrixOf}
 use Rattle.shelf.specs.Calls.{loadCall, bytesAt, writeCall, lengthCall, carryCall}
 use Rattle.shelf.specs.Run.{run}
-use Rattle.shelf.specs.Examples.{markedTable, bandedTable, recipeTable}
+use Rattle.shelf.specs.Examples.{markedTable, bandedTable, recipeTable, schurTable}
 
 pub marked-examples : AllHold markedTable
 unfolding markedTable has put count equal rows ofMask among ascending descending word inverseWord converseWord joinedWord oneAt moved scaled act walk minor
@@ -86,3 +87,11 @@ unfolding recipeTable has put count equal rows ascending descending word inverse
     factorsOf tableOf outside rowsAt tableAt withTable emptyShelf firstBehind operationCall run
     setsWith updated total sumOver factorSteps stepsMade choose quotientSteps recipeForecast
 recipe-examples = (refl, (refl, (refl, (refl, (refl, (refl, (refl, tt)))))))
+
+pub schur-examples : AllHold schurTable
+unfolding schurTable has put count equal rows ascending descending word joinedWord oneAt moved scaled act walk minor
+    some latest allBefore latestBefore onDiagonal belowDiagonal bandedBelow factorsBy result rowByRow
+    roundBy renormalised sumBy productBy quotientBy inRange size lib.Ieee.span lib.Ieee.climb xor
+    factorsOf tableOf outside rowsAt tableAt withTable emptyShelf firstBehind operationCall run
+    setsWith updated total sumOver factorSteps stepsMade choose quotientSteps forecastCall
+schur-examples = (refl, (refl, (refl, (refl, (refl, tt)))))

@@ -23,8 +23,8 @@ use Rattle.places.specs.declared.Shelf.{Shelf}
 use Rattle.places.specs.Shelf.{rowsAt}
 use Rattle.places.specs.Tests.{sourceTests, bothSources, oneSource}
 use Rattle.operations.specs.declared.Task.{Task}
-use Rattle.operations.specs.declared.Task.the-variants.{Product, Inverse, Converse, Transpose, Submatrix}
-use Rattle.operations.specs.Forecast.{taskCall, forecastCall, recipeForecast}
+use Rattle.operations.specs.declared.Task.the-variants.{Product, Inverse, Converse, Transpose, Submatrix, Schur}
+use Rattle.operations.specs.Forecast.{clampedAlone, taskCall, forecastCall, recipeForecast}
 use Rattle.operations.specs.Operations.{buildTests, setTests, minorTests, operationVerdict, transposeCall, buildCall, operationCall, minorCall}
 use Rattle.shelf.specs.Calls.{loadTests, writeTests, placeCarryTests, bytesAt, carriedAt}
 use Rattle.shelf.specs.Calls.{loadCall, dropCall, writeCall, lengthCall, carryCall, factorCall}
@@ -51,6 +51,7 @@ task-few s (Inverse p) t = operation-few s _ _ _ _
 task-few s (Converse p) t = operation-few s _ _ _ _
 task-few s (Transpose p) t = few (firstOf (oneSource s p t)) _ (omega arith)
 task-few s (Submatrix p I J) t = operation-few s _ _ _ _
+task-few s (Schur p k) t = operation-few s _ _ _ _
 
 forecast-few : (s : Shelf) (o : Task) → length (valuesOf (forecastCall s o)) ≤ 4
 unfolding forecastCall
@@ -59,6 +60,7 @@ forecast-few s (Inverse p) = few (firstOf (sourceTests s p)) _ (omega arith)
 forecast-few s (Converse p) = few (firstOf (sourceTests s p)) _ (omega arith)
 forecast-few s (Transpose p) = few (firstOf (sourceTests s p)) _ (omega arith)
 forecast-few s (Submatrix p I J) = few (firstOf (setTests s p I J)) _ (omega arith)
+forecast-few s (Schur p k) = few (firstOf (clampedAlone s p k)) _ (omega arith)
 
 -- a result with its rest has four values, no other call as many
 pub report-few : (s : Shelf) (c : Call) → length (valuesOf (run s c .report)) ≤ 4

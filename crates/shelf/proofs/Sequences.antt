@@ -8,12 +8,13 @@ use Rattle.places.specs.Tests.{oneSource, twoSources}
 use Rattle.places.specs.Outcome.{Outcome}
 use Rattle.places.proofs.Holding.{good-empty}
 use Rattle.operations.specs.declared.Task.{Task}
-use Rattle.operations.specs.declared.Task.the-variants.{Product, Inverse, Converse, Transpose, Submatrix}
+use Rattle.operations.specs.declared.Task.the-variants.{Product, Inverse, Converse, Transpose, Submatrix, Schur}
 use Rattle.operations.specs.Forecast.{taskCall}
-use Rattle.operations.specs.Operations.{productAt, inverseAt, converseAt, submatrixAt, submatrixTests, joinedRows, joinedAt, recipeTests}
+use Rattle.operations.specs.Operations.{productAt, inverseAt, converseAt, submatrixAt, submatrixTests, schurAt, clampedTests}
+use Rattle.operations.specs.Operations.{joinedRows, joinedAt, recipeTests}
 use Rattle.operations.proofs.Proposals.{transpose-good}
 use Rattle.operations.proofs.Building.{build-good}
-use Rattle.operations.proofs.Results.{submatrix-ready, operation-good}
+use Rattle.operations.proofs.Results.{submatrix-ready, schur-ready, operation-good}
 use Rattle.operations.proofs.Recipes.{product-ready, whole-ready, recipe-ready}
 use Rattle.shelf.specs.Calls.{writeCall, carryCall}
 use Rattle.shelf.specs.Run.{Call, load, write, byteLength, drop, operate, forecast, recipe, forecastRecipe, build, minor}
@@ -28,6 +29,7 @@ task-good s g (Inverse p) t = operation-good (oneSource s p t) t (rowsAt s p) (i
 task-good s g (Converse p) t = operation-good (oneSource s p t) t (rowsAt s p) (converseAt s p) (whole-ready s g Conversed p t) s g
 task-good s g (Transpose p) t = transpose-good s p t g
 task-good s g (Submatrix p I J) t = operation-good (submatrixTests s p I J t) t (rowsAt s p) (submatrixAt s p I J) (submatrix-ready s g p I J t) s g
+task-good s g (Schur p k) t = operation-good (clampedTests s p k t) t (rowsAt s p) (schurAt s p k) (schur-ready s g p k t) s g
 
 pub run-good : (s : Shelf) → Good s → (c : Call) → Given c → Good (run s c .shelf)
 unfolding run writeCall carryCall

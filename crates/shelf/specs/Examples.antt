@@ -1,6 +1,6 @@
 -- Document 01's marked examples, P1 to P12, as rows of one table (`markedTable`): P1 to P4 of the arithmetic beneath the calls, the others as calls on a shelf,
--- with what is returned and what is then held. Worked examples of places with zeros (`bandedTable`), and of recipes
--- (`recipeTable`).
+-- with what is returned and what is then held. Worked examples of places with zeros (`bandedTable`), of recipes (`recipeTable`),
+-- and of clamped rows (`schurTable`).
 use Prim.Native.Nat.{ℕ, _+_, _-_, _^_}
 use mathlib.Core.Bool.{true, cond, _&&_}
 use mathlib.Core.List.{List, [], _∷_, _++_}
@@ -26,7 +26,7 @@ use Rattle.places.specs.Shelf.{factorsAt, holding, emptyShelf}
 use Rattle.places.specs.Outcome.{Outcome}
 use Rattle.operations.specs.declared.Task.the-variants as Task
 use Rattle.operations.specs.Operations.{factorTest, submatrixAt, singular}
-use Rattle.shelf.specs.Run.{load, write, product, inverse, converse, submatrix, minor, byteLength, forecast, recipe, forecastRecipe, carry, run}
+use Rattle.shelf.specs.Run.{load, write, product, inverse, converse, submatrix, schur, minor, byteLength, forecast, recipe, forecastRecipe, carry, run}
 
 -- place 0 holds n rows with all factors one
 abbrev onesOf : ℕ → Shelf
@@ -127,4 +127,14 @@ recipeTable =
     ∷ row (run unlike (forecastRecipe threeSteps) .report) (accepted (pos 36 ∷ []))
     ∷ row (run unlike (recipe (steps (taken Plain 0 ∷ [])) 9) .report) (refused 18 0)  -- 18 before 1
     ∷ row (run unlike (forecastRecipe (steps (taken Plain 9 ∷ []))) .report) (refused 18 0)
+    ∷ []
+
+-- three rows of ones multiply out to 1 2 1, 2 5 3, 1 3 3; behind row and column 1 there remains 5 3, 3 3 minus 4 2, 2 1, which is 1 1, 1 2
+unfoldable pub schurTable : List Row
+schurTable =
+    row (run (onesOf 3) (schur 0 1 7) .report) (accepted (pos 63 ∷ pos 66 ∷ []))  -- the bound goes by the source's rows; M(1) is walked like any other minor
+    ∷ row (held 2 (run (onesOf 3) (schur 0 1 7))) (oneNumber ∷ two ∷ two ∷ oneNumber ∷ [])
+    ∷ row (run (onesOf 3) (forecast (Task.Schur 0 1)) .report) (accepted (pos 66 ∷ []))
+    ∷ row (run (onesOf 3) (schur 0 3 7) .report) (refused 8 0)
+    ∷ row (run (onesOf 3) (forecast (Task.Schur 0 0)) .report) (refused 8 0)
     ∷ []

@@ -17,7 +17,7 @@ use Rattle.recipes.specs.declared.Recipe.{Recipe}
 use Rattle.places.specs.declared.Shelf.{Shelf}
 use Rattle.places.specs.Outcome.{Outcome, outcome}
 use Rattle.operations.specs.declared.Task.{Task}
-use Rattle.operations.specs.declared.Task.the-variants.{Product, Inverse, Converse, Transpose, Submatrix}
+use Rattle.operations.specs.declared.Task.the-variants.{Product, Inverse, Converse, Transpose, Submatrix, Schur}
 use Rattle.operations.specs.Operations.{buildCall, recipeCall, minorCall}
 use Rattle.operations.specs.Forecast.{taskCall, forecastCall, recipeForecast}
 use Rattle.shelf.specs.Calls.{loadCall, dropCall, writeCall, lengthCall, carryCall, rowsCall, factorCall}
@@ -58,6 +58,9 @@ transpose p t = operate (Transpose p) t
 
 abbrev pub submatrix : (p I J t : ℕ) → Call
 submatrix p I J t = operate (Submatrix p I J) t
+
+abbrev pub schur : (p k t : ℕ) → Call
+schur p k t = operate (Schur p k) t
 
 -- WHAT A CALL DOES; `rest` returns bytes: the part of those it is given behind the first matrix. The shelf has no part in a sentence
 unfoldable pub run : Shelf → Call → Outcome

@@ -27,6 +27,7 @@ pub use operations::minor;
 pub use operations::perform;
 pub use operations::perform_recipe;
 pub use operations::product;
+pub use operations::schur;
 pub use operations::submatrix;
 pub use operations::transpose;
 pub use places::Shelf;

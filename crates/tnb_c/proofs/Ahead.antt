@@ -24,12 +24,12 @@ use Rattle.places.proofs.Checking.{good-tested}
 use Rattle.places.specs.Tests.{unfit, oneSource, twoSources}
 use Rattle.places.specs.Outcome.{Outcome}
 use Rattle.operations.specs.declared.Task.{Task}
-use Rattle.operations.specs.declared.Task.the-variants.{Product, Inverse, Converse, Transpose, Submatrix}
+use Rattle.operations.specs.declared.Task.the-variants.{Product, Inverse, Converse, Transpose, Submatrix, Schur}
 use Rattle.operations.specs.Operations.{done, factorTest, operationVerdict, operationCall, transposeCall, singular, submatrixAt, chosenTests, submatrixTests}
-use Rattle.operations.specs.Operations.{recipeTests}
+use Rattle.operations.specs.Operations.{clampedTests, recipeTests}
 use Rattle.operations.specs.Forecast.{taskCall}
 use Rattle.operations.proofs.Forecasts.{foretold-made, recipe-made}
-use Rattle.conditions.specs.Conditions.{miscounted}
+use Rattle.conditions.specs.Conditions.{miscounted, misclamped}
 use Rattle.recipes.specs.declared.Recipe.{Recipe}
 use Rattle.recipes.specs.Recipe.{placesIn}
 use Rattle.shelf.specs.Calls.{writeCall, lengthCall, Measures}
@@ -41,7 +41,7 @@ use Rattle.tnb_c.specs.declared.Length.{Length}
 use Rattle.tnb_c.specs.Answers.{foreign, checked, numberOf, valueAt, answerOf, stepsOf, lengthOf, ForetoldAnswer, MeasuredAnswer}
 use Rattle.tnb_c.proofs.Checked.{run-checked, foreign-checked}
 use Rattle.tnb_c.proofs.Numbers.{Numbered, AllNumbered, numbered, behind-numbered, one-more}
-use Rattle.tnb_c.proofs.Answered.{sources-numbered}
+use Rattle.tnb_c.proofs.Answered.{sources-numbered, choice-numbered}
 
 -- AN OPERATION ANSWERED 0 was accepted: what it reports is its bound and its steps
 pub record Made (r : Report) : Type 0 where
@@ -69,7 +69,8 @@ task-made s (Transpose p) t = made (firstOf (oneSource s p t)) 0 0 (behind-numbe
 task-made s (Submatrix p I J) t =
     operation-made s (submatrixTests s p I J t) t _ _
     (one-more (chosenTests s p I J t) (singular (rowsAt s p) (submatrixAt s p I J)) 16
-    (one-more (oneSource s p t) (unfit (rowsAt s p) I J) 7 (sources-numbered s (p ∷ []) t)))
+    (choice-numbered s p (unfit (rowsAt s p) I J) t))
+task-made s (Schur p k) t = operation-made s (clampedTests s p k t) t _ _ (choice-numbered s p (misclamped (rowsAt s p) k) t)
 
 -- a shelf that is not good: no call is answered 0
 module _ (s : Shelf) (bad : isGood s ≡ false) where

@@ -1,6 +1,6 @@
--- WHAT THE ANSWERS PROMISE: demand 3 (`product-answered`, `inverse-answered`, `converse-answered`, `submatrix-answered`, `recipe-answered`) and the promise
--- of a build (`build-answered`); `away-answered`, `away-promising` of a shelf that is turned away. An answer with number 0 is the shelf's own, of an accepted
--- call, since 255 is not 0 and every test of these calls has a number above 0 (`Numbered`).
+-- WHAT THE ANSWERS PROMISE: demand 3 (`product-answered`, `inverse-answered`, `converse-answered`, `submatrix-answered`, `schur-answered`, `recipe-answered`)
+-- and the promise of a build (`build-answered`); `away-answered`, `away-promising` of a shelf that is turned away. An answer with number 0 is the shelf's own,
+-- of an accepted call, since 255 is not 0 and every test of these calls has a number above 0 (`Numbered`).
 use Prim.Native.Nat.{ℕ, suc}
 use native.Mathlib.Omega.{arith}
 use mathlib.Core.Path.{_≡_, refl, sym, ap, _∙_, subst}
@@ -22,19 +22,19 @@ use Rattle.places.specs.declared.Shelf.{Shelf}
 use Rattle.places.specs.Outcome.{Outcome}
 use Rattle.places.specs.Shelf.{rowsAt, holding, Good}
 use Rattle.places.specs.Tests.{unfit, targetTests, oneSource, twoSources}
-use Rattle.conditions.specs.Conditions.{miscounted, above, eachTested, empty, full, differ, alikeTests, sourcesTo}
+use Rattle.conditions.specs.Conditions.{miscounted, misclamped, above, eachTested, empty, full, differ, alikeTests, sourcesTo, choiceTo}
 use Rattle.walk.specs.declared.Way.the-variants.{Inverted, Conversed}
 use Rattle.recipes.specs.declared.Recipe.{Recipe}
 use Rattle.recipes.specs.Recipe.{placesIn}
 use Rattle.places.proofs.Checking.{good-tested}
 use Rattle.operations.specs.Operations.{resulting, done, factorTest, operationVerdict, operationCall, productAt, inverseAt, converseAt, submatrixAt}
-use Rattle.operations.specs.Operations.{singular, chosenTests, submatrixTests, joinedRows, joinedAt, recipeTests}
+use Rattle.operations.specs.Operations.{singular, chosenTests, submatrixTests, schurAt, clampedTests, joinedRows, joinedAt, recipeTests}
 use Rattle.operations.specs.Operations.{buildTests, buildCall}
 use Rattle.operations.specs.Promise.{Met, Built}
-use Rattle.operations.proofs.Results.{Ready, submatrix-ready, operation-met}
+use Rattle.operations.proofs.Results.{Ready, submatrix-ready, schur-ready, operation-met}
 use Rattle.operations.proofs.Recipes.{product-ready, whole-ready, recipe-ready}
 use Rattle.operations.proofs.Building.{build-met}
-use Rattle.shelf.specs.Run.{Call, product, inverse, converse, submatrix, recipe, build, run}
+use Rattle.shelf.specs.Run.{Call, product, inverse, converse, submatrix, schur, recipe, build, run}
 use Rattle.tnb_c.specs.declared.Answer.{Answer}
 use Rattle.tnb_c.specs.Answers.{turnedAway, checked, answerOf, Promising, Answered, BuiltAnswer}
 use Rattle.tnb_c.proofs.Checked.{run-checked}
@@ -57,6 +57,9 @@ sources-numbered s L t =
     let rows = rowsAt s in
     all-numbered (eachTested above 1 L) _ (each-numbered above 0 L)
     (numbered (above t) 0, all-numbered (eachTested (empty rows) 11 L) _ (each-numbered (empty rows) 10 L) (numbered (full rows t) 11, alike-numbered rows L))
+
+pub choice-numbered : (s : Shelf) (p : ℕ) (wrong : Bool) (t : ℕ) → AllNumbered (choiceTo (rowsAt s) p wrong t)
+choice-numbered s p wrong t = one-more (sourcesTo (rowsAt s) (p ∷ []) t) wrong 7 (sources-numbered s (p ∷ []) t)
 
 -- A PROMISE P of the shelf, the bound and the steps
 module _ (P : Shelf → ℕ → ℕ → Type 0) where
@@ -119,7 +122,12 @@ module _ (s : Shelf) (good : Good s) where
   submatrix-answered p I J t =
       operation-answered (submatrixTests s p I J t) t _ _ (submatrix-ready s good p I J t)
       (one-more (chosenTests s p I J t) (singular (rowsAt s p) (submatrixAt s p I J)) 16
-      (one-more (oneSource s p t) (unfit (rowsAt s p) I J) 7 (sources-numbered s (p ∷ []) t))) s good (submatrix p I J t) refl
+      (choice-numbered s p (unfit (rowsAt s p) I J) t)) s good (submatrix p I J t) refl
+
+  pub schur-answered : (p k t : ℕ) → Answered (answerOf (checked s (schur p k t))) t (rowsAt s p) (schurAt s p k)
+  unfolding run
+  schur-answered p k t =
+      operation-answered (clampedTests s p k t) t _ _ (schur-ready s good p k t) (choice-numbered s p (misclamped (rowsAt s p) k) t) s good (schur p k t) refl
 
   pub recipe-answered : (r : Recipe) (t : ℕ) → length (r .steps) ≡ 6 → Answered (answerOf (checked s (recipe r t))) t (joinedRows s r) (joinedAt s r)
   unfolding run

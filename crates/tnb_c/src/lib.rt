@@ -7,17 +7,16 @@ ghost use Rattle.places.specs.Shelf.{emptyShelf, rowsAt};
 ghost use Rattle.lists.specs.Lists.{reversalsCall};
 ghost use Rattle.arithmetic.specs.Arithmetic.{arithmeticCall};
 ghost use Rattle.notices.specs.Sentence.{notice, sentenceReport, bytesAfterSentence};
-ghost use Rattle.operations.specs.Operations.{productAt, inverseAt, converseAt, submatrixAt};
-ghost use Rattle.shelf.specs.Run.{load, drop, write, byteLength, product, inverse, converse, submatrix, transpose, build, minor, operate, forecast};
-ghost use Rattle.shelf.specs.Run.{carry, rows, factor};
-ghost use Rattle.tnb_c.specs.Answers.{checked, answerOf, lengthOf, valueOf, workedOf, statusOf, stepsOf};
-ghost use Rattle.tnb_c.specs.Answers.{Answered, BuiltAnswer, ForetoldAnswer, MeasuredAnswer, SteadyStatus, LoggedAnswer, SentenceAnswer};
+ghost use Rattle.operations.specs.Operations.{productAt, inverseAt, converseAt, submatrixAt, schurAt};
+ghost use Rattle.shelf.specs.Run.{load, drop, write, byteLength, product, inverse, converse, submatrix, schur, transpose, build, minor, carry, rows, factor};
+ghost use Rattle.tnb_c.specs.Answers.{checked, answerOf, lengthOf, valueOf, workedOf, statusOf};
+ghost use Rattle.tnb_c.specs.Answers.{Answered, BuiltAnswer, MeasuredAnswer, SteadyStatus, LoggedAnswer, SentenceAnswer};
 use arithmetic::Operator;
-use operations::Task;
 use places::Shelf;
 use places::check;
 
 mod answers; // answers.rt: the shelf's answers as structs
+mod forecasts; // forecasts.rt: steps told without working them
 mod recipe; // recipe.rt: recipes and their steps
 
 // What a call answers that may change the shelf: 0, or the number of the refusal with its offset; the bound of an operation or a build and the steps of an
@@ -182,6 +181,18 @@ pub extern "C" fn tnb_submatrix(
     answers::foreign(shelf)
 }
 
+// The Schur complement of the first k rows and columns of a place, to an empty place: what remains once the first k control points are clamped.
+#[no_mangle]
+pub extern "C" fn tnb_schur(shelf: Shelf, source: usize, k: usize, target: usize) -> Answer
+    ensures { λ r. ⌜ r ≡ answerOf (checked shelf (schur source k target)) ⌝ }
+    ensures { λ r. ⌜ Answered r target (rowsAt shelf source) (schurAt shelf source k) ⌝ }
+{
+    if check::is_good(shelf) {
+        return answers::operated(operations::schur(shelf, source, k, target));
+    }
+    answers::foreign(shelf)
+}
+
 // The transpose of a place, to an empty place.
 #[no_mangle]
 pub extern "C" fn tnb_transpose(shelf: Shelf, source: usize, target: usize) -> Answer
@@ -191,78 +202,6 @@ pub extern "C" fn tnb_transpose(shelf: Shelf, source: usize, target: usize) -> A
         return answers::operated(operations::transpose(shelf, source, target));
     }
     answers::foreign(shelf)
-}
-
-// The steps that an operation will make.
-fn foretold(shelf: Shelf, task: Task) -> Steps
-    ensures { λ r. ⌜ r ≡ stepsOf (checked shelf (forecast task) .report) ⌝ }
-    ensures { λ r. ⌜ ForetoldAnswer shelf (operate task) r ⌝ }
-{
-    if check::is_good(shelf) {
-        return answers::foretold(operations::forecast(shelf, task));
-    }
-    Steps {
-        number: 255,
-        offset: 0,
-        steps: 0,
-    }
-}
-
-// The steps that the product of two places will make.
-#[no_mangle]
-pub extern "C" fn tnb_forecast_product(shelf: Shelf, left: usize, right: usize) -> Steps
-    ensures { λ r. ⌜ r ≡ stepsOf (checked shelf (forecast (Task.Product left right)) .report) ⌝ }
-    ensures { λ r. ⌜ ForetoldAnswer shelf (operate (Task.Product left right)) r ⌝ }
-{
-    foretold(shelf, Task::Product { left, right })
-}
-
-// The steps that the re-signed inverse of a place will make.
-#[no_mangle]
-pub extern "C" fn tnb_forecast_inverse(shelf: Shelf, source: usize) -> Steps
-    ensures { λ r. ⌜ r ≡ stepsOf (checked shelf (forecast (Task.Inverse source)) .report) ⌝ }
-    ensures { λ r. ⌜ ForetoldAnswer shelf (operate (Task.Inverse source)) r ⌝ }
-{
-    foretold(shelf, Task::Inverse(source))
-}
-
-// The steps that the converse of a place will make.
-#[no_mangle]
-pub extern "C" fn tnb_forecast_converse(shelf: Shelf, source: usize) -> Steps
-    ensures { λ r. ⌜ r ≡ stepsOf (checked shelf (forecast (Task.Converse source)) .report) ⌝ }
-    ensures { λ r. ⌜ ForetoldAnswer shelf (operate (Task.Converse source)) r ⌝ }
-{
-    foretold(shelf, Task::Converse(source))
-}
-
-// The steps that the transpose of a place will make: none.
-#[no_mangle]
-pub extern "C" fn tnb_forecast_transpose(shelf: Shelf, source: usize) -> Steps
-    ensures { λ r. ⌜ r ≡ stepsOf (checked shelf (forecast (Task.Transpose source)) .report) ⌝ }
-    ensures { λ r. ⌜ ForetoldAnswer shelf (operate (Task.Transpose source)) r ⌝ }
-{
-    foretold(shelf, Task::Transpose(source))
-}
-
-// The steps that the chosen rows and columns of a place, given as masks, will make.
-#[no_mangle]
-pub extern "C" fn tnb_forecast_submatrix(
-    shelf: Shelf,
-    source: usize,
-    rows: u8,
-    columns: u8,
-) -> Steps
-    ensures { λ r. ⌜ r ≡ stepsOf (checked shelf (forecast (Task.Submatrix source rows columns)) .report) ⌝ }
-    ensures { λ r. ⌜ ForetoldAnswer shelf (operate (Task.Submatrix source rows columns)) r ⌝ }
-{
-    foretold(
-        shelf,
-        Task::Submatrix {
-            source,
-            rows,
-            columns,
-        },
-    )
 }
 
 // The matrix whose row i holds the powers 0 to n - 1 of stamp i, from n time stamps, 1 to 8, to an empty place.

@@ -1,16 +1,16 @@
 -- Chosen rows in ascending order: how many (length-members), the highest of them (chosen-top), the others (chosen-under), each a row (chosen-in); sets among
--- them (length-among, count-among); and all rows chosen (count-all, chosen-all, among-all).
+-- them (length-among, count-among); and all rows chosen (count-all, chosen-all, among-all), or the first ones (chosen-first).
 use mathlib.Core.Path.{_≡_, refl, sym, ap, _∙_}
 use mathlib.Core.Bool.{true, false}
 use mathlib.Core.List.{[], _∷_, _++_}
-use Prim.Native.Nat.{ℕ, zero, suc, _-_}
+use Prim.Native.Nat.{ℕ, zero, suc, _-_, _≤_}
 use native.Mathlib.Decide.{decLe}
 use native.Mathlib.Omega.{arith}
 use lib.ListN.{length, getD, length-append, List·getD-append}
 use lib.Seq.{getD-append-seam}
 use Rattle.words.specs.RowSet.{In, RowSet, count, members, chosen, among, rows}
 use Rattle.words.proofs.RowSets.{in-under, length-rows}
-use Rattle.words.proofs.Runs.{rows-last, count-rows}
+use Rattle.words.proofs.Runs.{rows-last, rows-own, count-rows}
 
 -- SETS AMONG THE CHOSEN ROWS
 pub length-among : (P I : RowSet) → length I ≡ count P → length (among P I) ≡ length P
@@ -77,6 +77,11 @@ chosen-all (suc n) i h =
           let e : i ≡ suc (count (rows n 1 n)) = omega (arith, h .1, count-all n) in
           ap (chosen (true ∷ rows n 1 n)) e ∙ chosen-last (rows n 1 n) ∙ omega (arith, length-rows n 1 n, h .1)
     ]
+
+-- the i-th of the first k rows is row i
+pub chosen-first : (n k i : ℕ) → k ≤ n → In k i → chosen (rows n 1 k) i ≡ i
+unfolding members
+chosen-first n k i l h = rows-own (λ S. chosen S i) (λ S. refl) n 1 k l ∙ chosen-all k i h
 
 pub among-all : (n : ℕ) (I : RowSet) → length I ≡ n → among (rows n 1 n) I ≡ I
 unfolding among rows

@@ -20,7 +20,7 @@ pub rule-examples : AllHold ruleTable
 unfolding ruleTable has put count allBefore equal rows ofMask among ascending descending word inverseWord converseWord transposedWord joinedWord
     oneAt moved scaled act walk minor carryLetter carry some latest latestBefore onDiagonal belowDiagonal bandedBelow factorsBy result rowByRow
     roundBy renormalised sumBy productBy quotientBy signedRound signedSum withSign signedProduct inRange size lib.Ieee.span lib.Ieee.climb mathlib.Core.Bool.xor
-rule-examples = (refl, (refl, (refl, (refl, (refl, (refl, (refl, (refl, (refl, (refl, (refl, (refl, tt))))))))))))
+rule-examples = (refl, (refl, (refl, (refl, (refl, (refl, (refl, (refl, (refl, (refl, (refl, (refl, (refl, (refl, tt))))))))))))))
 
 pub zero-examples : AllHold twoZerosTable
 unfolding twoZerosTable has put count allBefore equal rows ofMask ascending descending word oneAt moved scaled act walk minor some latest latestBefore
@@ -29,13 +29,13 @@ zero-examples = (refl, (refl, (refl, tt)))
 
 pub bound-examples : AllHold boundTable
 unfolding boundTable ascending
-bound-examples = (refl, (refl, (refl, (refl, (refl, tt)))))
+bound-examples = (refl, (refl, (refl, (refl, (refl, (refl, tt))))))
 
 pub steps-examples : AllHold stepsTable
 unfolding stepsTable setsWith updated total sumOver factorSteps stepsMade choose quotientSteps has put count allBefore equal rows ofMask among ascending
     descending word inverseWord joinedWord oneAt moved scaled act walk minor some latest latestBefore onDiagonal belowDiagonal factorsBy roundBy
     renormalised sumBy productBy quotientBy size lib.Ieee.span lib.Ieee.climb
-steps-examples = (refl, (refl, (refl, (refl, (refl, (refl, tt))))))
+steps-examples = (refl, (refl, (refl, (refl, (refl, (refl, (refl, (refl, tt))))))))
 
 -- as the paper writes them, for any number of rows
 pub product-bound : (n : ℕ) → boundOf 2 n ≡ 16 * n * n - 8 * n + 3

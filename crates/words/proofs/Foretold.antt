@@ -14,11 +14,12 @@ use Rattle.fraction.specs.Arithmetic.{Arithmetic}
 use Rattle.number.proofs.Tests.{both}
 use Rattle.words.specs.RowSet.{In, RowSet, put, count, allBefore, rows}
 use Rattle.words.specs.Formula.{latestBefore, onDiagonal, belowDiagonal, factorBy, factorsBy, Divisible}
-use Rattle.words.specs.Operation.{Operation, joined, submatrix, steps, rowsOf, size, Fit, askedMinor}
-use Rattle.words.specs.Effort.{counted, factorSteps, stepsMade, minorForetold, fourSteps, quotientSteps, stepsForetold}
+use Rattle.words.specs.Operation.{Operation, joined, submatrix, schur, steps, rowsOf, size, Fit, askedMinor}
+use Rattle.words.specs.Effort.{counted, factorSteps, stepsMade, minorForetold, fourSteps, quotientSteps, walkedRows, stepsForetold}
 use Rattle.words.proofs.RowSets.{length-put, length-rows, put-top, put-under}
 use Rattle.words.proofs.Runs.{count-rows}
 use Rattle.words.proofs.Chosen.{count-among}
+use Rattle.words.proofs.FirstRows.{count-first}
 use Rattle.words.proofs.Formulas.{Candidate, latest-candidate, length-latestBefore}
 use Rattle.words.proofs.Sums.{sums-same}
 use Rattle.words.proofs.Effort.{walk-steps}
@@ -123,15 +124,16 @@ module _ (K : Arithmetic) (k : ℕ) (w : ℕ → ℕ) where
             below-steps (λ I J. M J I) (λ I J. T J I) (λ I J x y e. t J I y x (sym e) ∙ ap w (sym e)) d′ j i (p .0) l (q .1)
             ∙ ap (fourSteps w) (sym (min-eq-left (omega arith)))
 
--- AN OPERATION: its sets have as many rows as those of the formulas
-asked-many : {A : Type 0} (n : ℕ) (o : Operation A) → Fit n o → (I : RowSet) → length I ≡ size n o → count (rowsOf o I) ≡ count I
+-- AN OPERATION: its sets have as many rows as those of the formulas, and the clamped ones
+asked-many : {A : Type 0} (n : ℕ) (o : Operation A) → Fit n o → (I : RowSet) → length I ≡ size n o → count (rowsOf o I) ≡ walkedRows o (count I)
 asked-many n (joined L) h I i = refl
 asked-many n (submatrix b P Q) h I i = count-among P I i
+asked-many n (schur b k) h I i = count-first k I
 
 pub steps-foretold : (K : Arithmetic) (n : ℕ) (o : Operation (K .Num)) → 1 ≤ n → Fit n o
     → Divisible K (size n o) (askedMinor K n o) → Divisible K (size n o) (λ I J. askedMinor K n o J I) → stepsMade K n o ≡ stepsForetold n o
 unfolding stepsMade factorSteps
 steps-foretold K n o l h d d′ =
     sums-same (size n o) _ _
-    (factor-foretold K (size n o) (minorForetold (length (steps o)) n) (askedMinor K n o) _
+    (factor-foretold K (size n o) (λ p. minorForetold (length (steps o)) n (walkedRows o p)) (askedMinor K n o) _
     (λ I J i j e. walk-steps n (count (rowsOf o I)) (steps o) l ∙ ap (minorForetold (length (steps o)) n) (asked-many n o h I i)) d d′)

@@ -2,6 +2,7 @@ pub mod RowSets
 pub mod Latest
 pub mod Runs
 pub mod Chosen
+pub mod FirstRows
 pub mod Walks
 pub mod Agree
 pub mod Words

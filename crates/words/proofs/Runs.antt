@@ -1,6 +1,6 @@
 -- Runs, the consecutive rows a .. b of n rows: the highest row is one of them (rows-in, rows-last) or is not (rows-out, rows-above, rows-below); rows beyond n
--- (rows-beyond); how many they are (count-rows); the next row put to them (put-rows); what does not count rows above a set (rows-own, rows-none); and blocks of
--- rows (rows-run).
+-- (rows-beyond), and no rows (rows-empty); how many they are (count-rows); the next row put to them (put-rows); what does not count rows above a set (rows-own,
+-- rows-none); and blocks of rows (rows-run).
 use mathlib.Core.Path.{_≡_, refl, sym, ap, ap₂, _∙_}
 use mathlib.Core.Bool.{Bool, true, false, _&&_}
 use mathlib.Core.List.{[], _∷_}
@@ -58,6 +58,12 @@ module _ {A : Type 0} (f : RowSet → A) (above : (S : RowSet) → f (false ∷ 
   unfolding rows
   rows-none zero a b h = refl
   rows-none (suc n) a b h = ap f (rows-out n a b (λ p q. omega arith)) ∙ above (rows n a b) ∙ rows-none n a b h
+
+-- runs of no rows are one set
+pub rows-empty : (n a b : ℕ) → b < a → rows n a b ≡ rows n 1 0
+unfolding rows
+rows-empty zero a b h = refl
+rows-empty (suc n) a b h = rows-out n a b (λ p q. omega arith) ∙ ap (λ S. false ∷ S) (rows-empty n a b h) ∙ sym (rows-above n 1 0 (omega arith))
 
 -- HOW MANY
 pub count-rows : (n a b : ℕ) → 1 ≤ a → b ≤ n → count (rows n a b) ≡ suc b - a

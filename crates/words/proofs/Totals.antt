@@ -1,7 +1,7 @@
 -- THE TOTAL IN CLOSED FORM. The steps foretold, by the lesser index of the factors (result-by-rows); of m joined sources of n rows a weighted sum of the
--- numbers choose (n - 1) p, by Pascal (pair-foretold, total-by-rows), and for all n rows m n (n - 1) (2n - 1) 2^(n - 1) (whole-total, joined-whole): a row of
--- Pascal's triangle is the row above it and that row moved by one (pascal), and the weights fall by 4 from each to the next (weighted).
-use mathlib.Core.Path.{_≡_, refl, ap, ap₂, _∙_}
+-- numbers choose (n - 1) p, by Pascal (pair-foretold, total-by-rows, none-clamped), and for all n rows m n (n - 1) (2n - 1) 2^(n - 1) (whole-total,
+-- joined-whole): a row of Pascal's triangle is the row above it and that row moved by one (pascal), and the weights fall by 4 from each to the next (weighted).
+use mathlib.Core.Path.{_≡_, refl, sym, ap, ap₂, _∙_}
 use mathlib.Core.Bool.{cond}
 use mathlib.Core.List.{List}
 use Prim.Native.Nat.{ℕ, zero, suc, _+_, _-_, _*_, _^_, _≤_, min}
@@ -12,7 +12,7 @@ use lib.ListN.{length}
 use Rattle.words.specs.RowSet.{In}
 use Rattle.words.specs.Operation.{Step, joined}
 use Rattle.words.specs.Effort.{sumOver, choose, minorForetold, fourSteps, quotientSteps, resultSteps, stepsForetold, wholeSteps}
-use Rattle.words.proofs.Sums.{sum-same, sum-add, sum-times}
+use Rattle.words.proofs.Sums.{sum-same, sums-same, sum-add, sum-times, quotient-steps}
 
 back : (i : ℕ) → suc i - 1 ≡ i
 back i = omega arith
@@ -63,13 +63,19 @@ pair-foretold m zero (suc p) = omega arith
 pair-foretold m (suc zero) (suc p) = omega arith
 pair-foretold m (suc (suc n)) (suc p) = let e : suc (suc n) - 2 ≡ n = omega arith in rw (e, back (suc n)) (omega arith)
 
--- of k rows of m joined sources of n rows
-pub total-by-rows : (m n k : ℕ) → resultSteps (minorForetold m n) k ≡ m * (n * n - n) * sumOver k (λ p. (4 * (k - p) + 1) * choose (n - 1) (p - 1))
-total-by-rows m n k = result-by-rows _ k ∙ sum-same k _ _ by ∙ sum-times k (m * (n * n - n)) _
+-- of k rows of m joined sources of n rows, c more being clamped
+pub total-by-rows : (m n c k : ℕ)
+    → resultSteps (λ p. minorForetold m n (c + p)) k ≡ m * (n * n - n) * sumOver k (λ p. (4 * (k - p) + 1) * choose (n - 1) (c + (p - 1)))
+total-by-rows m n c k = result-by-rows _ k ∙ sum-same k _ _ by ∙ sum-times k (m * (n * n - n)) _
   where
-    by : (p : ℕ) → In k p → weight k p * (minorForetold m n p + minorForetold m n (p - 1)) ≡ m * (n * n - n) * (weight k p * choose (n - 1) (p - 1))
+    by : (p : ℕ) → In k p
+        → weight k p * (minorForetold m n (c + p) + minorForetold m n (c + (p - 1))) ≡ m * (n * n - n) * (weight k p * choose (n - 1) (c + (p - 1)))
     by zero h = absurd (omega (arith, h .0))
-    by (suc p) h = rw (back p, pair-foretold m n p) (omega arith)
+    by (suc p) h = let e : c + suc p ≡ suc (c + p) = omega arith in rw (back p, e, pair-foretold m n (c + p)) (omega arith)
+
+-- none clamped
+pub none-clamped : (m n k : ℕ) → resultSteps (λ p. minorForetold m n (0 + p)) k ≡ resultSteps (minorForetold m n) k
+none-clamped m n k = sums-same k _ _ (λ i j x y. quotient-steps _ _ (λ p. let e : 0 + p ≡ p = omega arith in ap (minorForetold m n) e) i j)
 
 -- A ROW OF PASCAL'S TRIANGLE, weighted
 abbrev row : (k n : ℕ) → (ℕ → ℕ) → ℕ
@@ -94,12 +100,14 @@ weighted (suc k) (suc n) l =
 
 -- THE TOTAL for all rows: m n (n - 1) (2n - 1) 2^(n - 1)
 pub whole-total : (m n : ℕ) → resultSteps (minorForetold m n) n ≡ wholeSteps m n
-whole-total m zero = total-by-rows m 0 0 ∙ omega arith
+whole-total m zero = sym (none-clamped m 0 0) ∙ total-by-rows m 0 0 0 ∙ omega arith
 whole-total m (suc k) =
     let s : suc k * suc k - suc k ≡ suc k * k = omega arith in
     let d : 2 * suc k - 1 ≡ 2 * k + 1 = omega arith in
     let r : row (suc k) k (weight (suc k)) ≡ (2 * k + 1) * 2 ^ k = omega (arith, weighted k k (omega arith)) in
-    total-by-rows m (suc k) (suc k) ∙ rw (s, d, back k, r)
+    let z : (p : ℕ) → In (suc k) p → weight (suc k) p * choose k (0 + (p - 1)) ≡ weight (suc k) p * choose k (p - 1)
+    = λ p h. let e : 0 + (p - 1) ≡ p - 1 = omega arith in ap (λ i. weight (suc k) p * choose k i) e in
+    sym (none-clamped m (suc k) (suc k)) ∙ total-by-rows m (suc k) 0 (suc k) ∙ rw (s, d, back k, sum-same (suc k) _ _ z, r)
 
 -- of an operation that joins them
 pub joined-whole : {A : Type 0} (n : ℕ) (L : List (Step A)) → stepsForetold n (joined L) ≡ wholeSteps (length L) n

@@ -11,7 +11,7 @@ use Rattle.words.specs.RowSet.{RowSet, count}
 use Rattle.words.specs.Word.{Factors, Letter, E, Et, D, Dinv, Word, total}
 use Rattle.words.specs.Walk.{moves}
 use Rattle.words.specs.Formula.{latestBefore, belowDiagonal, factorsBy}
-use Rattle.words.specs.Operation.{joinedWord, Operation, steps, rowsOf, size, askedMinor}
+use Rattle.words.specs.Operation.{joinedWord, Operation, joined, submatrix, schur, steps, rowsOf, size, askedMinor}
 
 -- how many sets of n rows pass a test
 unfoldable pub setsWith : ℕ → (RowSet → Bool) → ℕ
@@ -96,8 +96,14 @@ abbrev pub minorForetold : (m n p : ℕ) → ℕ
 minorForetold m n zero = 0
 minorForetold m n (suc p) = m * (choose (n - 2) p * (n * n - n))
 
+-- how many rows are walked for a minor of p rows: to those of what remains the clamped ones are joined, so M(1..k) is no empty minor
+abbrev pub walkedRows : {A : Type 0} → Operation A → ℕ → ℕ
+walkedRows (joined L) p = p
+walkedRows (submatrix b P Q) p = p
+walkedRows (schur b k) p = k + p
+
 abbrev pub stepsForetold : {A : Type 0} → ℕ → Operation A → ℕ
-stepsForetold n o = resultSteps (minorForetold (length (steps o)) n) (size n o)
+stepsForetold n o = resultSteps (λ p. minorForetold (length (steps o)) n (walkedRows o p)) (size n o)
 
 -- of all n rows of m joined sources, in one formula (`whole-total`): m n (n - 1) (2n - 1) 2^(n - 1)
 abbrev pub wholeSteps : (m n : ℕ) → ℕ

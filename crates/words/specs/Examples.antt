@@ -3,7 +3,7 @@
 -- crate to the same values.
 use mathlib.Core.Bool.{true, false, cond, _&&_}
 use mathlib.Core.List.{List, [], _∷_}
-use Prim.Native.Nat.{ℕ, _*_, _^_}
+use Prim.Native.Nat.{ℕ, _-_, _*_, _^_}
 use lib.Dec.{eqb, ltb}
 use Rattle.number.specs.declared.Number.{Number}
 use Rattle.number.specs.Number.{zeroNumber, oneNumber, rounded, inRange}
@@ -15,7 +15,8 @@ use Rattle.words.specs.Word.{Factors, word, forUp}
 use Rattle.words.specs.Walk.{minor, carry}
 use Rattle.words.specs.Formula.{latestBefore, newFactor}
 use Rattle.words.specs.Operation as words
-use Rattle.words.specs.Operation.{transposed, step, Operation, joined, product, inverse, converse, submatrix, size, boundOf, bound, rowByRow, result}
+use Rattle.words.specs.Operation.{transposed, step, Operation, joined, product, inverse, converse, submatrix, schur, size, boundOf, bound}
+use Rattle.words.specs.Operation.{rowByRow, result}
 use Rattle.words.specs.Effort.{stepsMade, stepsForetold}
 
 -- the source whose factors are all one
@@ -29,6 +30,10 @@ higher i j = cond (ltb i j) (down (2 ^ 31) 30) oneNumber
 -- rows 2 and 3, columns 1 and 2, of three
 abbrev pub cornerOf : Factors Number → Operation Number
 cornerOf b = submatrix b (ofMask 3 6) (ofMask 3 3)
+
+-- five in row 1, and in the others a number that a product with five and a quotient by five do not give back
+abbrev pub unlike : Factors Number
+unlike i j = cond (eqb i 1) (down (5 * 2 ^ 29) 29) (down (2 ^ 32 - 1) 31)
 
 -- the operation's factors, row by row
 abbrev factorsOf : ℕ → Operation Number → List Number
@@ -77,6 +82,9 @@ ruleTable =
     ∷ row (factorsOf 2 (joined (step words.plain ones ∷ step transposed higher ∷ [])))
     (three ∷ down 2863311531 31 ∷ down 3579139413 31 ∷ down 2863311531 33 ∷ [])  -- times a transpose: 3 4, 5 7, so 3, 4/3, 5/3, 1/3
     ∷ row (factorsOf 3 (cornerOf ones)) (oneNumber ∷ two ∷ oneNumber ∷ oneNumber ∷ [])
+    ∷ row (factorsOf 3 (schur ones 1)) (oneNumber ∷ two ∷ two ∷ oneNumber ∷ [])  -- what remains after row and column 1
+    ∷ row (factorsOf 3 (schur unlike 1)) (down (2 ^ 32 - 2) 31 ∷ down (7 * 2 ^ 29) 29 ∷ down (2 ^ 32 - 1) 30 ∷ down (2 ^ 32 - 2) 31 ∷ [])
+    -- M(1) is worked and rounded like any other: it does not cancel, and no minor is divided by it first
     ∷ row (minor rounded (word 3 ones) (ofMask 3 5) (ofMask 3 5)) five  -- rows and columns 1 and 3
     ∷ row (factorsOf 1 (inverse (λ i j. three))) (down 2863311531 33 ∷ [])  -- the inverse of 3
     ∷ row (inRange (result rounded 1 (product (λ i j. large) ones) 1 1)) true  -- the largest exponent times one
@@ -102,9 +110,11 @@ boundTable =
     ∷ row (forUp 1 6 (λ m. boundOf m 8 ∷ [])) (483 ∷ 963 ∷ 1443 ∷ 1923 ∷ 2403 ∷ 2883 ∷ [])  -- of up to six steps
     ∷ row (bound 2 (joined (step words.plain ones ∷ step transposed ones ∷ []))) 51  -- a transposed step counts like any other
     ∷ row (bound 3 (cornerOf ones)) 63  -- which goes by the source's rows
+    ∷ row (bound 3 (schur ones 1)) 63  -- and so does this
     ∷ []
 
--- steps: of the paper's product, of a submatrix and of a source with zeros as they are made; of products, of one source and of a submatrix as they are foretold
+-- steps: of the paper's product, of a submatrix, of a source with zeros and of a Schur complement as they are made; of products, of one source, of a submatrix
+-- and of Schur complements as they are foretold
 unfoldable pub stepsTable : List Row
 stepsTable =
     row (stepsMade rounded 2 (product ones ones)) 24
@@ -113,4 +123,6 @@ stepsTable =
     ∷ row (forUp 1 8 (λ n. stepsForetold n (product ones ones) ∷ [])) (0 ∷ 24 ∷ 240 ∷ 1344 ∷ 5760 ∷ 21120 ∷ 69888 ∷ 215040 ∷ [])
     ∷ row (forUp 1 8 (λ n. stepsForetold n (inverse ones) ∷ [])) (0 ∷ 12 ∷ 120 ∷ 672 ∷ 2880 ∷ 10560 ∷ 34944 ∷ 107520 ∷ [])
     ∷ row (stepsForetold 3 (cornerOf ones)) 42
+    ∷ row (stepsMade rounded 3 (schur ones 1)) 66  -- where M(1) is walked like any other minor
+    ∷ row (forUp 1 7 (λ k. stepsForetold 8 (schur ones k) ∷ [])) (105896 ∷ 96096 ∷ 71400 ∷ 38080 ∷ 12600 ∷ 2016 ∷ 56 ∷ [])
     ∷ []

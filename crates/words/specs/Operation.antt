@@ -1,11 +1,11 @@
--- The operations (document 01): product, re-signed inverse and converse, which are steps joined, and submatrix. Their words, the minors that are asked for,
--- the new factors and their bounds, over any arithmetic.
+-- The operations (document 01): product, re-signed inverse and converse, which are steps joined, and submatrix; and the Schur complement (document 02, (l)).
+-- Their words, the minors that are asked for, the new factors and their bounds, over any arithmetic.
 use mathlib.Core.Path.{_≡_}
 use mathlib.Core.List.{List, [], _∷_, _++_}
-use Prim.Native.Nat.{ℕ, _+_, _-_, _*_, _≤_}
+use Prim.Native.Nat.{ℕ, _+_, _-_, _*_, _≤_, _<_}
 use lib.ListN.{length}
 use Rattle.fraction.specs.Arithmetic.{Arithmetic}
-use Rattle.words.specs.RowSet.{RowSet, count, among}
+use Rattle.words.specs.RowSet.{RowSet, count, among, withFirst}
 use Rattle.words.specs.Word.{Factors, Word, word, inverseWord, converseWord, transposedWord, forUp}
 use Rattle.words.specs.Walk.{minor}
 use Rattle.words.specs.Formula.{newFactor}
@@ -17,10 +17,11 @@ pub data Way : Type 0 where
 pub data Step (A : Type 0) : Type 0 where
   step : Way → Factors A → Step A
 
--- The operations: steps joined, and the chosen rows and columns of a source.
+-- The operations: steps joined; the chosen rows and columns of a source; what remains of a source after its first k rows and columns.
 pub data Operation (A : Type 0) : Type 0 where
   joined : List (Step A) → Operation A
   submatrix : Factors A → RowSet → RowSet → Operation A
+  schur : Factors A → ℕ → Operation A
 
 module _ {A : Type 0} (n : ℕ) where
   abbrev pub stepWord : Step A → Word A
@@ -54,25 +55,31 @@ module _ {A : Type 0} where
   abbrev pub steps : Operation A → List (Step A)
   steps (joined L) = L
   steps (submatrix b P Q) = step plain b ∷ []
+  steps (schur b k) = step plain b ∷ []
 
-  -- a set of the result's rows as a set of the sources' rows: sets of a submatrix count among the chosen rows
+  -- a set of the result's rows as a set of the sources' rows: sets of a submatrix count among the chosen rows; to those of what remains the rows 1 .. k are
+  -- joined, so that M(1..k) stands for the empty minor
   abbrev pub rowsOf : Operation A → RowSet → RowSet
   rowsOf (joined L) I = I
   rowsOf (submatrix b P Q) I = among P I
+  rowsOf (schur b k) I = withFirst k I
 
   abbrev pub columnsOf : Operation A → RowSet → RowSet
   columnsOf (joined L) J = J
   columnsOf (submatrix b P Q) J = among Q J
+  columnsOf (schur b k) J = withFirst k J
 
   -- how many rows the result has, where the sources have n
   abbrev pub size : ℕ → Operation A → ℕ
   size n (joined L) = n
   size n (submatrix b P Q) = count P
+  size n (schur b k) = n - k
 
-  -- what fits sources of n rows: one step or more; chosen rows and columns of n, equally many
+  -- what fits sources of n rows: one step or more; chosen rows and columns of n, equally many; one row or more clamped, and not all
   abbrev pub Fit : ℕ → Operation A → Type 0
   Fit n (joined L) = 1 ≤ length L
   Fit n (submatrix b P Q) = (length P ≡ n) × (length Q ≡ n) × (count Q ≡ count P)
+  Fit n (schur b k) = (1 ≤ k) × (k < n)
 
   abbrev pub bound : ℕ → Operation A → ℕ
   bound n o = boundOf (length (steps o)) n
@@ -107,3 +114,4 @@ module _ {A B : Type 0} (f : A → B) where
   abbrev pub eachSource : Operation A → Operation B
   eachSource (joined L) = joined (eachSteps L)
   eachSource (submatrix b P Q) = submatrix (eachFactor b) P Q
+  eachSource (schur b k) = schur (eachFactor b) k

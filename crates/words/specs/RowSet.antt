@@ -74,3 +74,7 @@ among [] S = []
 among (false ∷ P) S = false ∷ among P S
 among (true ∷ P) [] = []
 among (true ∷ P) (x ∷ S) = x ∷ among P S
+
+-- the rows 1 .. k joined to S, whose own rows then count from k + 1
+abbrev pub withFirst : ℕ → RowSet → RowSet
+withFirst k S = S ++ rows k 1 k

@@ -60,6 +60,12 @@ wide-requires-2 c κs = search needs
 submatrix-requires : tie.Need-submatrix-requires
 submatrix-requires c κs = search needs
 
+enum-known-task-6 : tie.Need-enum-known-task-6
+enum-known-task-6 c = search needs
+
+schur-requires : tie.Need-schur-requires
+schur-requires c κs = search needs
+
 returns : tie.Need-returns
 unfolding forecastCall
 returns c =
@@ -92,6 +98,10 @@ returns-5 c =
     ∙ ap₂ (λ (I J : ℕ). forecastCall s (Submatrix (known .task5 .given .0 .0) I J)) (c .before .before .wide .ensures .0) (c .before .wide2 .ensures .0)
     ∙ sym (ap (forecastCall _) (known .task5 .given .1)))
 
+returns-6 : tie.Need-returns-6
+unfolding forecastCall
+returns-6 c = told (c .before .before .before .before) _ (c .schur .ensures ∙ sym (ap (forecastCall _) (c .before .before .task6 .given .1)))
+
 pub forecast-spec : {M : Type 1} → statement M
 forecast-spec =
     tie.close
@@ -111,8 +121,11 @@ forecast-spec =
     wide-requires
     wide-requires-2
     submatrix-requires
+    enum-known-task-6
+    schur-requires
     returns
     returns-2
     returns-3
     returns-4
-    returns-5)
+    returns-5
+    returns-6)

@@ -3,18 +3,22 @@ use mir.Syntax.{w64}
 use mir.Val.{SFits}
 use mir.Facts.{toZ-ofZ}
 use mathlib.Core.Path.{_≡_, sym, ap, ap₂, _∙_}
-use mathlib.Core.Bool.{Bool, true}
+use mathlib.Core.Bool.{true}
+use Prim.Native.Nat.{ℕ}
 use lib.IntN.{ℤ}
 use Rattle.number.specs.declared.Number.{Number}
 use Rattle.number.specs.Number.{inRange, exponentOf}
 use Rattle.verdict.specs.declared.Verdict.the-variants.{Accepted}
-use Rattle.verdict.specs.Verdict.{firstOf, orElse, when}
+use Rattle.verdict.specs.Verdict.{firstOf}
 use Rattle.verdict.specs.Report.{Report}
+use Rattle.conditions.proofs.Passed.{choice-verdict}
+use Rattle.places.specs.Shelf.{rowsAt}
+use Rattle.places.specs.Tests.{unfit, sourceTests}
 use Rattle.places.proofs.Verdicts.{rows-few}
 use Rattle.operations.specs.declared.Valued.the-variants.{Value}
 use Rattle.operations.specs.Operations.{minorAt, setTests}
 use Rattle.operations.specs.Reports.{valuedReport}
-use Rattle.operations.proofs.MinorCalls.{set-verdict, sets-passed, minor-turned, minor-outside, minor-done, minor-is, minor-workable, in-range-small}
+use Rattle.operations.proofs.MinorCalls.{sets-passed, minor-turned, minor-outside, minor-done, minor-is, minor-workable, in-range-small}
 use borrow.Author.Tests.{not-true, not-false}
 use borrow.Author.Needs.{needs}
 use Rattle.operations.proofs.minor.Statement.{statement}
@@ -31,9 +35,10 @@ tested : (c : tie.After-test) → (let a = entry (judged c) .args in c .test .re
 tested c =
     let x = judged c in
     let a = entry x .args in
-    set-verdict (a .shelf) (a .place) (a .rows) (a .columns) _ _ _ _ _ (x .before .before .before .rows-at .ensures) (x .before .before .wide .ensures .0)
-    (x .before .wide2 .ensures .0)
-    (x .source .ensures) (c .test .ensures ∙ ap (λ (t : Bool). orElse (x .source .result) (when t 8)) (c .before .unfit .ensures))
+    choice-verdict (sourceTests (a .shelf) (a .place)) (x .source .ensures)
+    (c .before .unfit .ensures
+    ∙ ap (λ (n : ℕ). unfit n (x .before .before .wide .result) (x .before .wide2 .result)) (x .before .before .before .rows-at .ensures)
+    ∙ ap₂ (unfit (rowsAt (a .shelf) (a .place))) (x .before .before .wide .ensures .0) (x .before .wide2 .ensures .0)) (c .test .ensures)
 
 -- the tests passed, and the minor worked
 abbrev passing : tie.After-enum-told → tie.After-test

@@ -33,6 +33,12 @@ enum-known-task-5 c = search needs
 submatrix-requires : tie.Need-submatrix-requires
 submatrix-requires c κs = search needs
 
+enum-known-task-6 : tie.Need-enum-known-task-6
+enum-known-task-6 c = search needs
+
+schur-requires : tie.Need-schur-requires
+schur-requires c κs = search needs
+
 returns : tie.Need-returns
 returns c = (rw (c .before .before .task .given .1) (c .product .ensures .0), c .product .ensures .1 .0)
 
@@ -48,6 +54,9 @@ returns-4 c = (rw (c .before .before .task4 .given .1) (c .transpose .ensures .0
 returns-5 : tie.Need-returns-5
 returns-5 c = (rw (c .before .before .task5 .given .1) (c .submatrix .ensures .0), c .submatrix .ensures .1 .0)
 
+returns-6 : tie.Need-returns-6
+returns-6 c = (rw (c .before .before .task6 .given .1) (c .schur .ensures .0), c .schur .ensures .1 .0)
+
 pub perform-spec : {M : Type 1} → statement M
 perform-spec =
     tie.close
@@ -62,8 +71,11 @@ perform-spec =
     transpose-requires
     enum-known-task-5
     submatrix-requires
+    enum-known-task-6
+    schur-requires
     returns
     returns-2
     returns-3
     returns-4
-    returns-5)
+    returns-5
+    returns-6)

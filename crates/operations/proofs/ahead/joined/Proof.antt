@@ -11,6 +11,7 @@ use Rattle.recipes.specs.Recipe.{placesIn}
 use Rattle.recipes.proofs.Slots.{taken-length}
 use Rattle.places.specs.Shelf.{rowsAt}
 use Rattle.words.specs.Effort.{minorForetold, resultSteps}
+use Rattle.words.proofs.Totals.{none-clamped}
 use Rattle.operations.specs.Operations.{stepWith}
 use Rattle.operations.proofs.Recipes.{alone-rows}
 use Rattle.operations.proofs.Forecasts.{told-refused, told-steps}
@@ -55,7 +56,7 @@ of-sizes-requires : tie.Need-of-sizes-requires
 of-sizes-requires c κs =
     let begin = c .before .before .before .before .before in
     let z = rows-few c in
-    (begin .pre .2, z .0, z .1, z .1)
+    (begin .pre .2, z .0, z .1, omega (arith, z .1))
 
 returns-2 : tie.Need-returns-2
 returns-2 c =
@@ -64,7 +65,7 @@ returns-2 c =
     let begin = told .before .before .before in
     let a = begin .args in
     told-steps _ _ _ (accepted told)
-    (c .of-sizes .ensures ∙ ap₂ (λ (m n : ℕ). resultSteps (minorForetold m n) n)
+    (c .of-sizes .ensures ∙ none-clamped _ _ _ ∙ ap₂ (λ (m n : ℕ). resultSteps (minorForetold m n) n)
     (sym (taken-length (stepWith (a .shelf)) (a .recipe .count) (a .recipe .steps) (omega (arith, long begin, begin .pre .2)))) (rows .rows-at .ensures))
 
 pub joined-spec : {M : Type 1} → statement M

@@ -1,17 +1,18 @@
 -- The forecast of a submatrix: the tests of its source and its sets, then by the rows of both (laws in Forecasts).
-use mathlib.Core.Path.{_≡_, refl, sym, ap, ap₂, _∙_}
-use mathlib.Core.Bool.{Bool}
+use mathlib.Core.Path.{_≡_, sym, ap, ap₂, _∙_}
 use Prim.Native.Nat.{ℕ, _≤_}
 use native.Mathlib.Omega.{arith}
 use Rattle.verdict.specs.declared.Verdict.the-variants.{Accepted}
-use Rattle.verdict.specs.Verdict.{firstOf, orElse, when}
+use Rattle.verdict.specs.Verdict.{firstOf}
 use Rattle.places.specs.Shelf.{rowsAt}
 use Rattle.rowset.proofs.Counts.{mask-count}
-use Rattle.conditions.proofs.Passed.{Source}
+use Rattle.conditions.proofs.Passed.{Source, choice-verdict}
+use Rattle.places.specs.Tests.{unfit, sourceTests}
 use Rattle.places.proofs.Verdicts.{Fit, rows-few}
 use Rattle.operations.specs.Operations.{setTests}
-use Rattle.operations.proofs.MinorCalls.{set-verdict, sets-passed}
+use Rattle.operations.proofs.MinorCalls.{sets-passed}
 use Rattle.words.specs.Effort.{minorForetold, resultSteps}
+use Rattle.words.proofs.Totals.{none-clamped}
 use Rattle.operations.proofs.Forecasts.{told-refused, told-steps}
 use borrow.Author.Needs.{needs}
 use Rattle.operations.proofs.ahead.submatrix.Statement.{statement}
@@ -25,8 +26,8 @@ tested : (c : tie.After-test) → (let a = entry c .args in c .test .result ≡ 
 tested c =
     let x = c .before .before in
     let a = entry c .args in
-    set-verdict (a .shelf) (a .source) (a .rows) (a .columns) _ _ _ _ _ (x .before .rows-at .ensures) refl refl (x .source .ensures)
-    (c .test .ensures ∙ ap (λ (t : Bool). orElse (x .source .result) (when t 8)) (c .before .unfit .ensures))
+    choice-verdict (sourceTests (a .shelf) (a .source)) (x .source .ensures)
+    (c .before .unfit .ensures ∙ ap (λ (n : ℕ). unfit n (a .rows) (a .columns)) (x .before .rows-at .ensures)) (c .test .ensures)
 
 -- they passed
 passed : (c : tie.After-enum-told)
@@ -78,7 +79,7 @@ returns-2 c =
     let told = c .before .before in
     let n = told .before .before .before .before .before .rows-at .ensures in
     told-steps _ _ _ (passed told)
-    (c .of-sizes .ensures ∙ ap₂ (λ (n k : ℕ). resultSteps (minorForetold 1 n) k) n
+    (c .of-sizes .ensures ∙ none-clamped _ _ _ ∙ ap₂ (λ (n k : ℕ). resultSteps (minorForetold 1 n) k) n
     (c .before .count .ensures .0 ∙ sym (mask-count _ _ (few told) (fit told .1 .rows))))
 
 pub submatrix-spec : {M : Type 1} → statement M

@@ -10,10 +10,10 @@ use Rattle.operations.proofs.effort.of_sizes.Statement.{statement}
 use Rattle.operations.proofs.effort.of_sizes.Tie as tie
 
 abbrev Inv-loop : tie.InvT-loop
-Inv-loop m n k sum₀ p₀ sum p = (sum ≡ sumOver p (term n k)) × (sum ≤ 2310 * p) × (p ≤ k)
+Inv-loop m n clamped k sum₀ p₀ sum p = (sum ≡ sumOver p (term n clamped k)) × (sum ≤ 2310 * p) × (p ≤ k)
 
 abbrev μ-loop : tie.MeasureT-loop
-μ-loop m n k sum₀ p₀ sum p = k - p
+μ-loop m n clamped k sum₀ p₀ sum p = k - p
 
 loop-holds : tie.Need-loop-holds Inv-loop μ-loop
 unfolding sumOver
@@ -34,13 +34,16 @@ add-sum-2 c = search needs
 sub-sets-of : tie.Need-sub-sets-of Inv-loop μ-loop
 sub-sets-of c = search needs
 
+add-sets-of : tie.Need-add-sets-of Inv-loop μ-loop
+add-sets-of c = search needs
+
 sets-of-requires : tie.Need-sets-of-requires Inv-loop μ-loop
 sets-of-requires c κs = search needs
 
 -- how large a term is, and all of them
 few : (c : tie.After-sets-of Inv-loop μ-loop)
     → (let a = c .before .before .before .args in (4 * (a .k - (c .before .before .loop .p + 1)) + 1) * c .sets-of .result ≤ 2310)
-few c = let a = c .before .before .before .args in term-few (a .n) (a .k) (c .before .before .loop .p) _ (search needs) (c .sets-of .ensures .1)
+few c = let a = c .before .before .before .args in term-few (a .n) (a .clamped) (a .k) (c .before .before .loop .p) _ (search needs) (c .sets-of .ensures .1)
 
 mul-sum-2 : tie.Need-mul-sum-2 Inv-loop μ-loop
 mul-sum-2 c = omega (arith, few c)
@@ -58,7 +61,7 @@ loop-again : tie.Need-loop-again Inv-loop μ-loop
 loop-again c =
     let a = c .before .before .before .args in
     let l = c .before .before .loop in (
-      term-more (a .n) (a .k) (l .p) _ _ (search needs) (search needs) (l .inv .0) (c .sets-of .ensures .0),
+      term-more (a .n) (a .clamped) (a .k) (l .p) _ _ (search needs) (omega arith) (l .inv .0) (c .sets-of .ensures .0),
       omega (arith, few c, l .inv .1),
       omega arith,
     )
@@ -87,11 +90,11 @@ returns c =
     let a = c .before .before .args in
     let l = c .before .loop in
     let e : l .p ≡ a .k = omega (arith, l .inv .2, c .loop-test .left) in
-    let f : l .sum ≡ sumOver (a .k) (term (a .n) (a .k)) = rw e at (l .inv .0) in
-    ap (λ (x : ℕ). a .m * (a .n * a .n - a .n) * x) f ∙ sym (total-by-rows (a .m) (a .n) (a .k))
+    let f : l .sum ≡ sumOver (a .k) (term (a .n) (a .clamped) (a .k)) = rw e at (l .inv .0) in
+    ap (λ (x : ℕ). a .m * (a .n * a .n - a .n) * x) f ∙ sym (total-by-rows (a .m) (a .n) (a .clamped) (a .k))
 
 pub of-sizes-spec : {M : Type 1} → statement M
 of-sizes-spec =
     tie.close
-    (tie.spec Inv-loop μ-loop loop-holds add-sum sub-sum mul-sum add-sum-2 sub-sets-of sets-of-requires mul-sum-2 add-sum-3 add-p loop-less loop-again
-    mul-result sub-result mul-result-2 mul-result-3 returns)
+    (tie.spec Inv-loop μ-loop loop-holds add-sum sub-sum mul-sum add-sum-2 sub-sets-of add-sets-of sets-of-requires mul-sum-2 add-sum-3 add-p loop-less
+    loop-again mul-result sub-result mul-result-2 mul-result-3 returns)

@@ -72,7 +72,7 @@ put-step-requires c κs =
 
 -- the masks
 sets : (c : tie.After-enum-told)
-    → (let a = entry c .args in Sets (rowsAt (a .shelf) (a .source)) (submatrixAt (a .shelf) (a .source) (a .rows) (a .columns)) (a .rows) (a .columns))
+    → (let a = entry c .args in Sets (rowsAt (a .shelf) (a .source)) (submatrixAt (a .shelf) (a .source) (a .rows) (a .columns)) (a .rows) (a .columns) 0)
 sets c = let f = fit c .1 in chosen-sets _ _ _ _ (ready c .few) (f .rows) (f .columns) (f .counts)
 
 work-requires : tie.Need-work-requires

@@ -1,15 +1,17 @@
 -- The tests of a submatrix: those of its places and its sets, and then, of sets that fit, that it is not singular (laws in Results).
 use borrow.Author.Needs.{needs}
 use mathlib.Core.Path.{_≡_, refl, sym, ap, _∙_}
-use mathlib.Core.Bool.{Bool}
+use Prim.Native.Nat.{ℕ}
 use lib.Dec.{eqb}
 use Rattle.number.specs.declared.Number.{Number}
 use Rattle.verdict.specs.declared.Verdict.the-variants.{Accepted}
-use Rattle.verdict.specs.Verdict.{firstOf, orElse, when}
+use Rattle.verdict.specs.Verdict.{firstOf}
+use Rattle.conditions.proofs.Passed.{choice-verdict}
+use Rattle.places.specs.Tests.{unfit, oneSource}
 use Rattle.places.proofs.Verdicts.{rows-few}
 use Rattle.operations.specs.Operations.{chosenTests}
 use Rattle.operations.proofs.MinorCalls.{minor-is, minor-workable}
-use Rattle.operations.proofs.Results.{chosen-verdict, chosen-fit, chosen-turned, chosen-tested}
+use Rattle.operations.proofs.Results.{chosen-fit, chosen-turned, chosen-tested}
 use Rattle.operations.proofs.work.submatrix_tests.Statement.{statement}
 use Rattle.operations.proofs.work.submatrix_tests.Tie as tie
 
@@ -21,8 +23,8 @@ tested : (c : tie.After-test) → (let a = entry c .args in c .test .result ≡ 
 tested c =
     let x = c .before .before in
     let a = entry c .args in
-    chosen-verdict (a .shelf) (a .source) (a .rows) (a .columns) (a .target) _ _ _ (x .before .rows-at .ensures) (x .one-source .ensures)
-    (c .test .ensures ∙ ap (λ (t : Bool). orElse (x .one-source .result) (when t 8)) (c .before .unfit .ensures))
+    choice-verdict (oneSource (a .shelf) (a .source) (a .target)) (x .one-source .ensures)
+    (c .before .unfit .ensures ∙ ap (λ (n : ℕ). unfit n (a .rows) (a .columns)) (x .before .rows-at .ensures)) (c .test .ensures)
 
 -- they passed
 passed : (c : tie.After-enum-told)

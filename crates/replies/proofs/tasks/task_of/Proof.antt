@@ -24,6 +24,9 @@ mask-requires c κs = search needs
 mask-requires-2 : tie.Need-mask-requires-2
 mask-requires-2 c κs = search needs
 
+enum-told-6 : tie.Need-enum-told-6
+enum-told-6 c = search needs
+
 returns : tie.Need-returns
 returns c = rw (c .enum-told .given .1)
 
@@ -39,6 +42,9 @@ returns-4 c = rw (c .enum-told4 .given .1)
 returns-5 : tie.Need-returns-5
 returns-5 c = rw (c .before .before .enum-told5 .given .1, c .before .mask .ensures, c .mask2 .ensures)
 
+returns-6 : tie.Need-returns-6
+returns-6 c = rw (c .enum-told6 .given .1)
+
 pub task-of-spec : {M : Type 1} → statement M
 task-of-spec =
     tie.close
@@ -50,8 +56,10 @@ task-of-spec =
     enum-told-5
     mask-requires
     mask-requires-2
+    enum-told-6
     returns
     returns-2
     returns-3
     returns-4
-    returns-5)
+    returns-5
+    returns-6)

@@ -35,6 +35,12 @@ slice-aggregate-operation-5 c = search needs
 operation-requires-5 : tie.Need-operation-requires-5
 operation-requires-5 c κs = search needs
 
+slice-aggregate-operation-6 : tie.Need-slice-aggregate-operation-6
+slice-aggregate-operation-6 c = search needs
+
+operation-requires-6 : tie.Need-operation-requires-6
+operation-requires-6 c κs = search needs
+
 slice-aggregate-named : tie.Need-slice-aggregate-named
 slice-aggregate-named c = search needs
 
@@ -43,17 +49,19 @@ named-requires c κs = search needs
 
 returns : tie.Need-returns
 returns c =
-    let c5 = c .before .before .before in
+    let c6 = c .before .before .before in
+    let c5 = c6 .before .before .before in
     let c4 = c5 .before .before .before in
     let c3 = c4 .before .before .before in
     let c2 = c3 .before .before .before in
     let c1 = c2 .before .before .before in
     c .named .ensures ∙ onto _ _ _
+    (c6 .operation6 .ensures ∙ onto _ _ _
     (c5 .operation5 .ensures ∙ onto _ _ _
     (c4 .operation4 .ensures ∙ onto _ _ _
     (c3 .operation3 .ensures ∙ onto _ _ _
     (c2 .operation2 .ensures ∙ onto _ _ _
-    (c1 .operation .ensures)))))
+    (c1 .operation .ensures))))))
 
 pub operation-forms-spec : {M : Type 1} → statement M
 operation-forms-spec =
@@ -69,6 +77,8 @@ operation-forms-spec =
     operation-requires-4
     slice-aggregate-operation-5
     operation-requires-5
+    slice-aggregate-operation-6
+    operation-requires-6
     slice-aggregate-named
     named-requires
     returns)

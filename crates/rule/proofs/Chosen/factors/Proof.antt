@@ -31,12 +31,17 @@ count-requires c κs =
     let b = c .before .before in
     below-256 (b .args .self .word .n) (b .args .self .rows) (b .pre .0 .few) (b .pre .0 .rows)
 
+sub-k : tie.Need-sub-k Inv-loop μ-loop
+sub-k c = let b = c .before .before .before .before in omega (arith, b .pre .0 .held, c .before .count .ensures .0)
+
 -- what the walks in Bools ask
 present-requires : tie.Need-present-requires Inv-loop μ-loop
-present-requires c κs = let p = c .before .before .before .pre in ((p .0 .some, p .0 .few, p .0 .six, p .0 .columns), (p .0 .walkable, p .1))
+present-requires c κs = let p = c .before .before .before .before .pre in ((p .0 .some, p .0 .few, p .0 .six, p .0 .columns), (p .0 .walkable, p .1))
 
 present-turned-requires : tie.Need-present-turned-requires Inv-loop μ-loop
-present-turned-requires c κs = let p = c .before .before .before .before .pre in ((p .0 .some, p .0 .few, p .0 .six, p .0 .rows), (p .0 .walkable, p .1))
+present-turned-requires c κs =
+    let p = c .before .before .before .before .before .pre in
+    ((p .0 .some, p .0 .few, p .0 .six, p .0 .rows), (p .0 .walkable, p .1))
 
 loop-holds : tie.Need-loop-holds Inv-loop μ-loop
 unfolding cellsSteps sumOver
@@ -46,9 +51,9 @@ cell-requires : tie.Need-cell-requires Inv-loop μ-loop
 cell-requires c κs =
     let l = c .before .before .before .before in
     let u = l .before in
-    let m = u .before .before in
+    let m = u .before .before .before in
     let p = m .before .before .before .pre in (
-      (p .0, m .count .ensures .0, omega arith),
+      (p .0, ap (λ (k : ℕ). k - m .before .before .before .args .self .clamped) (m .count .ensures .0), omega arith),
       (u .before .present .ensures, u .present-turned .ensures, record { tables = m .before .tables .ensures; letters = p .1 }),
     )
 
@@ -81,14 +86,14 @@ loop-again c =
 
 returns : tie.Need-returns Inv-loop μ-loop
 returns c =
-    let m = c .before .before .before .before in
+    let m = c .before .before .before .before .before in
     let b = m .before .before .before in (
       table-filled _ _ (c .before .loop .inv .0) (c .loop-test .left)
-          ∙ ap (λ (k : ℕ). tableOf k (chosenFactors (b .args .self) (b .args .sources .now))) (m .count .ensures .0),
+          ∙ ap (λ (k : ℕ). tableOf (k - b .args .self .clamped) (chosenFactors (b .args .self) (b .args .sources .now))) (m .count .ensures .0),
       (let e : c .before .loop .t ≡ 64 = omega (arith, c .before .loop .inv .3, c .loop-test .left) in
           rw e at (c .before .loop .inv .1))
           ∙ cells-all _ _ (omega (arith, m .count .ensures .0, size-few (b .args .self) (b .pre .0)))
-          ∙ ap (resultSteps (chosenSteps (b .args .self) (b .args .sources .now))) (m .count .ensures .0),
+          ∙ ap (λ (k : ℕ). resultSteps (chosenSteps (b .args .self) (b .args .sources .now)) (k - b .args .self .clamped)) (m .count .ensures .0),
     )
 
 pub factors-spec : {M : Type 1} → statement M
@@ -99,6 +104,7 @@ factors-spec =
     μ-loop
     tables-requires
     count-requires
+    sub-k
     present-requires
     present-turned-requires
     loop-holds

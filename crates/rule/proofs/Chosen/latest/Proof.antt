@@ -1,6 +1,8 @@
 -- `Chosen::latest` meets its contract: what the search finds is R.
 use borrow.Author.Needs.{needs}
+use Prim.Native.Nat.{_≤_}
 use native.Mathlib.Omega.{arith}
+use Rattle.rowset.specs.Mask.{maskCount}
 use Rattle.walk.proofs.Sweep.{below-256}
 use Rattle.rule.proofs.Sets.{latest-mask, latest-mask-turned}
 use Rattle.rule.proofs.Chosen.latest.Statement.{statement}
@@ -13,7 +15,8 @@ latest-requires : tie.Need-latest-requires
 latest-requires c κs =
     let b = c .before in
     let p = b .pre .0 in
-    (below-256 (b .args .self .word .n) (b .args .self .columns) (p .few) (p .columns), omega arith, omega (arith, p .equal))
+    let few : b .args .self .clamped ≤ maskCount (b .args .self .columns) = omega (arith, p .held, p .equal) in
+    (below-256 (b .args .self .word .n) (b .args .self .columns) (p .few) (p .columns), few, omega arith, omega (arith, few, p .equal))
 
 sub-latest-2 : tie.Need-sub-latest-2
 sub-latest-2 c = search needs
@@ -22,7 +25,7 @@ latest-requires-2 : tie.Need-latest-requires-2
 latest-requires-2 c κs =
     let b = c .before in
     let p = b .pre .0 in
-    (below-256 (b .args .self .word .n) (b .args .self .rows) (p .few) (p .rows), omega arith, omega arith)
+    (below-256 (b .args .self .word .n) (b .args .self .rows) (p .few) (p .rows), p .held, omega arith, omega (arith, p .held))
 
 returns : tie.Need-returns
 returns c =

@@ -7,8 +7,8 @@ use Rattle.tnb_c.specs.Answers.{stepsOf}
 use Rattle.tnb_c.proofs.Checked.{answered}
 use Rattle.tnb_c.proofs.Ahead.{foretold-answered, away-foretold}
 use borrow.Author.Needs.{needs}
-use Rattle.tnb_c.proofs.foretold.Statement.{statement}
-use Rattle.tnb_c.proofs.foretold.Tie as tie
+use Rattle.tnb_c.proofs.forecasts.foretold.Statement.{statement}
+use Rattle.tnb_c.proofs.forecasts.foretold.Tie as tie
 
 abbrev answer : Outcome → Steps
 answer x = stepsOf (x .report)
