@@ -6,8 +6,8 @@ use Rattle.minors.specs.Matrix.{Matrix, Equal, identity, times}
 module _ (K : CRing) where
   open CRing K using (add, neg)
 
-  -- the blocks of A behind its first k rows, behind its first k columns, and behind both; the leading block is A itself, where only its first k rows and
-  -- columns are summed over
+  -- the blocks of A behind its first k rows, behind its first k columns, and behind both. For the leading block stands A itself: no more than its first k rows
+  -- and columns are looked at
   abbrev pub lowerLeft : ℕ → Matrix K → Matrix K
   lowerLeft k A i j = A (k + i) j
 
@@ -21,8 +21,8 @@ module _ (K : CRing) where
   abbrev pub schurBy : ℕ → Matrix K → Matrix K → Matrix K
   schurBy k Y A i j = add (lowerRight k A i j) (neg (times K k (times K k (lowerLeft k A) Y) (upperRight k A) i j))
 
-  -- X, of m rows, is the SCHUR COMPLEMENT of the leading k rows and columns of A: the leading block has an inverse, on both sides, and Y is that in the line
-  -- above
+  -- X, of m rows, is the SCHUR COMPLEMENT of the leading k rows and columns of A: the leading block has an inverse, on both sides, and X is the lower right
+  -- block minus the lower left one times that inverse times the upper right one
   pub record SchurComplement (k m : ℕ) (A X : Matrix K) : Type 0 where
     pub inverse : Matrix K
     pub left : Equal K k (times K k inverse A) (identity K)
