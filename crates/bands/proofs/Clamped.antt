@@ -82,13 +82,13 @@ module _ {A : Type 0} where
       half : (b : Factors A) → All (Rows m) (cut k (lowerHalf (k +ℕ m) b))
       half b = raises-rows m (cut k (lowerHalf (k +ℕ m) b)) (cut-raises k m (lowerHalf (k +ℕ m) b) (lower-raises (k +ℕ m) b))
 
+-- the numbers at the sets with the first k rows
+abbrev onto : (K : Arithmetic) → ℕ → State K → State K
+onto K k ω I = ω (withFirst k I)
+
 -- A WALK OF LETTERS E, over any arithmetic
 module _ (K : Arithmetic) (k m : ℕ) where
   open Arithmetic K using (Num)
-
-  -- the numbers at the sets with the first k rows
-  abbrev pub onto : State K → State K
-  onto ω I = ω (withFirst k I)
 
   -- a letter of the rows up to row k + 1 does nothing there
   raise-low : (j : ℕ) (w : Num) (ω : State K) (I : RowSet) → 2 ≤ j → j ≤ suc k → act K (E j w) ω (withFirst k I) ≡ ω (withFirst k I)
@@ -102,7 +102,8 @@ module _ (K : Arithmetic) (k m : ℕ) where
       by false = refl
 
   -- and one of the rows beyond it moves the set's own rows
-  raise-high : (j : ℕ) (w : Num) (ω : State K) (I : RowSet) → suc k < j → j ≤ k +ℕ length I → act K (E j w) ω (withFirst k I) ≡ act K (E (j - k) w) (onto ω) I
+  raise-high : (j : ℕ) (w : Num) (ω : State K) (I : RowSet) → suc k < j → j ≤ k +ℕ length I
+      → act K (E j w) ω (withFirst k I) ≡ act K (E (j - k) w) (onto K k ω) I
   unfolding act
   raise-high j w ω I o l =
       let u : k +ℕ (j - k) ≡ j = omega arith in
@@ -112,35 +113,37 @@ module _ (K : Arithmetic) (k m : ℕ) where
       (ap (λ i. has i (withFirst k I)) (sym v) ∙ has-own k I (j - k - 1) (omega arith)))
       (ap₂ (λ a o. replaced a o (withFirst k I)) (sym u) (sym v) ∙ replaced-own k I (j - k) (j - k - 1) (omega arith, omega arith) (omega arith, omega arith))
 
-  pub walk-raising : (W : Word Num) → All (Raises (k +ℕ m)) W → (ω : State K) → Agree m (onto (walk K W ω)) (walk K (cut k W) (onto ω))
+  walk-raising : (W : Word Num) → All (Raises (k +ℕ m)) W → (ω : State K) → Agree m (onto K k (walk K W ω)) (walk K (cut k W) (onto K k ω))
   unfolding walk cut
   walk-raising [] r ω I i = refl
   walk-raising (E j w ∷ W) r ω I i = by (leb j (suc k)) refl (walk-raising W (r .1) ω)
     where
-      by : (t : Bool) → leb j (suc k) ≡ t → Agree m (onto (walk K W ω)) (walk K (cut k W) (onto ω))
-          → act K (E j w) (walk K W ω) (withFirst k I) ≡ walk K (cond t (cut k W) (E (j - k) w ∷ cut k W)) (onto ω) I
+      by : (t : Bool) → leb j (suc k) ≡ t → Agree m (onto K k (walk K W ω)) (walk K (cut k W) (onto K k ω))
+          → act K (E j w) (walk K W ω) (withFirst k I) ≡ walk K (cond t (cut k W) (E (j - k) w ∷ cut k W)) (onto K k ω) I
       by true e h = raise-low j w (walk K W ω) I (r .0 .0) (leb-true j (suc k) e) ∙ h I i
       by false e h =
           raise-high j w (walk K W ω) I (leb-false j (suc k) e) (omega (arith, r .0 .1, i))
-          ∙ act-agree K m (E (j - k) w) (onto (walk K W ω)) (walk K (cut k W) (onto ω)) h I i
+          ∙ act-agree K m (E (j - k) w) (onto K k (walk K W ω)) (walk K (cut k W) (onto K k ω)) h I i
   walk-raising (Et j w ∷ W) r ω I i = absurd (r .0)
   walk-raising (D e ∷ W) r ω I i = absurd (r .0)
   walk-raising (Dinv e ∷ W) r ω I i = absurd (r .0)
 
-  start-first : (J : RowSet) → length J ≡ m → Agree m (onto (oneAt K (withFirst k J))) (oneAt K J)
+  start-first : (J : RowSet) → length J ≡ m → Agree m (onto K k (oneAt K (withFirst k J))) (oneAt K J)
   unfolding oneAt
   start-first J j I i = ap (λ t. cond t (K .one) (K .zero)) (equal-first k J I (j ∙ sym i))
 
-  pub minor-raising : (W : Word Num) → All (Raises (k +ℕ m)) W → (I J : RowSet) → length I ≡ m → length J ≡ m
+  minor-raising : (W : Word Num) → All (Raises (k +ℕ m)) W → (I J : RowSet) → length I ≡ m → length J ≡ m
       → minor K W (withFirst k I) (withFirst k J) ≡ minor K (cut k W) I J
   unfolding minor
   minor-raising W r I J i j = walk-raising W r (oneAt K (withFirst k J)) I i ∙ walk-agree K m (cut k W) _ _ (start-first J j) I i
 
-module _ (K : CRing) (O : Ordered K) (k m : ℕ) where
-  open CRing K using (R, add as _+_, mul as _*_)
-  open Ordered O using (Pos)
+-- the product of the first k numbers of a source's diagonal
+unfoldable pub scale : (K : CRing) → ℕ → Factors (K .R) → K .R
+scale K k b = entryProduct K (λ i. b i i) (rows k 1 k)
 
-  infixl 65 _+_
+module _ (K : CRing) (O : Ordered K) (k m : ℕ) where
+  open CRing K using (R, mul as _*_)
+
   infixl 70 _*_
   abbrev F : Arithmetic
   F = arithmetic K O
@@ -166,7 +169,7 @@ module _ (K : CRing) (O : Ordered K) (k m : ℕ) where
   entries-first e (false ∷ I) = entries-first e I
 
   diagonal-first : (e : ℕ → R) (ω : State F) (I : RowSet)
-      → act F (D e) ω (withFirst k I) ≡ entryProduct K e (rows k 1 k) * act F (D (λ i. e (k +ℕ i))) (onto F k m ω) I
+      → act F (D e) ω (withFirst k I) ≡ entryProduct K e (rows k 1 k) * act F (D (λ i. e (k +ℕ i))) (onto F k ω) I
   unfolding act
   diagonal-first e ω I =
       scaled-product K O (λ x. x) e (withFirst k I) (ω (withFirst k I)) ∙ ap (λ x. ω (withFirst k I) * x) (entries-first e I) ∙ regroup _ _ _
@@ -184,11 +187,8 @@ module _ (K : CRing) (O : Ordered K) (k m : ℕ) where
 
   -- A MINOR WITH THE FIRST k ROWS AND COLUMNS JOINED
   module _ (b : Factors R) where
-    unfoldable pub scale : R
-    scale = entryProduct K (λ i. b i i) (rows k 1 k)
-
     pub clamped-minor : (I J : RowSet) → length I ≡ m → length J ≡ m
-        → minor F (word (k +ℕ m) b) (withFirst k I) (withFirst k J) ≡ scale * minor F (remains k m b) I J
+        → minor F (word (k +ℕ m) b) (withFirst k I) (withFirst k J) ≡ scale K k b * minor F (remains k m b) I J
     unfolding minor walk remains scale
     clamped-minor I J i j =
         let L : Word R = lowerHalf (k +ℕ m) b in
@@ -200,8 +200,8 @@ module _ (K : CRing) (O : Ordered K) (k m : ℕ) where
         ap (λ W. walk F W (oneAt F (withFirst k J)) (withFirst k I)) (word-stages (k +ℕ m) b)
         ∙ ap (λ ν. ν (withFirst k I)) (walk-append F L (D (λ i. b i i) ∷ transposedWord U) (oneAt F (withFirst k J)))
         ∙ walk-raising F k m L (lower-raises (k +ℕ m) b) (act F (D (λ i. b i i)) ω) I i
-        ∙ walk-agree F m (cut k L) (onto F k m (act F (D (λ i. b i i)) ω)) (λ T. c * act F (D e) η T)
+        ∙ walk-agree F m (cut k L) (onto F k (act F (D (λ i. b i i)) ω)) (λ T. c * act F (D e) η T)
         (λ T t. diagonal-first (λ i. b i i) ω T
-        ∙ ap (λ x. c * x) (act-agree F m (D e) (onto F k m ω) η (λ S s. minor-lowering U (lower-raises (k +ℕ m) (exchanged b)) S J s j) T t)) I i
+        ∙ ap (λ x. c * x) (act-agree F m (D e) (onto F k ω) η (λ S s. minor-lowering U (lower-raises (k +ℕ m) (exchanged b)) S J s j) T t)) I i
         ∙ walk-times (cut k L) (raises-rows m (cut k L) (cut-raises k m L (lower-raises (k +ℕ m) b))) c (act F (D e) η) I i
         ∙ ap (λ x. c * x) (sym (ap (λ ν. ν I) (walk-append F (cut k L) (D e ∷ transposedWord (cut k U)) (oneAt F J))))

@@ -109,31 +109,31 @@ module _ (K : CRing) (O : Ordered K) where
             cut-all (KeepsSign K O (k +ℕ m)) (KeepsSign K O m) k (λ j w l p. p) (lowerHalf (k +ℕ m) c) (k +ℕ m) (lower-raises (k +ℕ m) c)
             (stages-all (KeepsSign K O (k +ℕ m)) (k +ℕ m) 1 (k +ℕ m - 1) c (omega arith) g)
 
-    scale-positive : Pos (scale K O k m b)
+    scale-positive : Pos (scale K k b)
     unfolding scale
     scale-positive = entryProduct-positive K O (λ i. b i i) (rows k 1 k) (λ i p. h .on i (p .0, omega (arith, p .1, length-rows k 1 k)))
 
     -- THE MINORS WITH THE FIRST k ROWS AND COLUMNS JOINED factor what remains
     pub schur-factored : MatrixFactored K O m (λ I J. minor F (word (k +ℕ m) b) (withFirst k I) (withFirst k J)) (wordMatrix K O m (remains k m b))
     schur-factored =
-        scaled-factored m (scale K O k m b) scale-positive _ (minor F (remains k m b)) (wordMatrix K O m (remains k m b)) (clamped-minor K O k m b)
+        scaled-factored m (scale K k b) scale-positive _ (minor F (remains k m b)) (wordMatrix K O m (remains k m b)) (clamped-minor K O k m b)
         (whole-factored K O m (remains k m b) (remains-rows k m b) remains-signs)
 
     abbrev A : Matrix K
     A = multiplied K O (k +ℕ m) b
 
     scaled-minor : (I J : RowSet) → length I ≡ m → length J ≡ m
-        → minor F (word (k +ℕ m) b) (withFirst k I) (withFirst k J) ≡ scale K O k m b * determinant K (wordMatrix K O m (remains k m b)) I J
+        → minor F (word (k +ℕ m) b) (withFirst k I) (withFirst k J) ≡ scale K k b * determinant K (wordMatrix K O m (remains k m b)) I J
     scaled-minor I J i j =
-        clamped-minor K O k m b I J i j ∙ ap (λ x. scale K O k m b * x) (word-determinant K O m (remains k m b) (remains-rows k m b) I J i j)
+        clamped-minor K O k m b I J i j ∙ ap (λ x. scale K k b * x) (word-determinant K O m (remains k m b) (remains-rows k m b) I J i j)
 
     -- M(1..k)
-    alone-scale : minor F (word (k +ℕ m) b) (withFirst k (rows m 1 0)) (withFirst k (rows m 1 0)) ≡ scale K O k m b
+    alone-scale : minor F (word (k +ℕ m) b) (withFirst k (rows m 1 0)) (withFirst k (rows m 1 0)) ≡ scale K k b
     alone-scale =
         scaled-minor (rows m 1 0) (rows m 1 0) (length-rows m 1 0) (length-rows m 1 0)
-        ∙ ap (λ x. scale K O k m b * x) (determinant-none K _ (rows m 1 0) m 1 0 (omega arith) ∙ empty-none K m 1 0 (omega arith)) ∙ *-one K _
+        ∙ ap (λ x. scale K k b * x) (determinant-none K _ (rows m 1 0) m 1 0 (omega arith) ∙ empty-none K m 1 0 (omega arith)) ∙ *-one K _
 
-    leading-scale : minor F (word (k +ℕ m) b) (rows (k +ℕ m) 1 k) (rows (k +ℕ m) 1 k) ≡ scale K O k m b
+    leading-scale : minor F (word (k +ℕ m) b) (rows (k +ℕ m) 1 k) (rows (k +ℕ m) 1 k) ≡ scale K k b
     leading-scale = sym (ap (λ S. minor F (word (k +ℕ m) b) S S) (first-alone k m)) ∙ alone-scale
 
     -- the minors with the first k rows and columns joined, by those of what remains
@@ -150,8 +150,8 @@ module _ (K : CRing) (O : Ordered K) where
     schur-entries : 1 ≤ k → (Y : Matrix K) → Equal K k (times K k Y (multiplied K O (k +ℕ m) b)) (identity K)
         → Equal K m (wordMatrix K O m (remains k m b)) (schurBy K k Y (multiplied K O (k +ℕ m) b))
     schur-entries some Y g i j p y =
-        pos-cancel K O (scale K O k m b) _ _ scale-positive
-        (*-comm K _ _ ∙ ap (λ x. scale K O k m b * x) (sym (determinant-entry K m (wordMatrix K O m (remains k m b)) i j p y))
+        pos-cancel K O (scale K k b) _ _ scale-positive
+        (*-comm K _ _ ∙ ap (λ x. scale K k b * x) (sym (determinant-entry K m (wordMatrix K O m (remains k m b)) i j p y))
         ∙ sym (scaled-minor (rows m i i) (rows m j j) (length-rows m i i) (length-rows m j j))
         ∙ joined-determinant (rows m i i) (rows m j j) (length-rows m i i) (length-rows m j j)
         ∙ schur-formula K k m some A Y g i p j y
