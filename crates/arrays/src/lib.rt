@@ -1,1 +1,2 @@
 // No code: laws of arrays and slices, the kit's lists, stand in proofs/.
+#![tactic(auto)]

@@ -1,5 +1,6 @@
 // The operations on places: transpose, product, re-signed inverse, converse, submatrix, Schur complement, recipes of steps joined; minors; and a place filled
 // from time stamps. A result is worked first and kept by a step of its own.
+#![tactic(auto)]
 ghost use Rattle.std.specs.Prelude.{◌≡◌};
 ghost use Rattle.places.specs.Shelf.{rows_at, Good};
 ghost use Rattle.operations.specs.Operations.{product_at, inverse_at, converse_at, submatrix_at, schur_at, joined_rows, joined_at};

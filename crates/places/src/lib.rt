@@ -1,4 +1,5 @@
 // The shelf: eight places, each empty or holding a matrix. It goes in by value and comes back; what a place holds is read and put here.
+#![tactic(auto)]
 ghost use Rattle.std.specs.Prelude.{◌≡◌, ◌<◌};
 ghost use Rattle.places.specs.Shelf.{rows_at, count_at, table_at, with_table, empty_shelf, Fits, Good};
 

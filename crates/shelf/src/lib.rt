@@ -1,4 +1,5 @@
 // The shelf of eight matrices, and its calls. A shelf goes in by value and comes back; a refused call hands it back as it was.
+#![tactic(auto)]
 ghost use Rattle.std.specs.Prelude.{◌≡◌};
 ghost use Rattle.places.specs.Shelf.{Good};
 ghost use Rattle.verdict.specs.Report.{verdict_report};

@@ -1,5 +1,6 @@
 // The shelf's calls for programs in C and Rust. Nothing proves what such a caller hands over, so each call that takes a shelf tests it first:
 // one that these calls cannot have made is answered with 255 and handed back.
+#![tactic(auto)]
 ghost use Rattle.std.specs.Prelude.{◌≡◌, length};
 ghost use Rattle.reader.specs.Matrix.{behind_of};
 ghost use Rattle.places.specs.Shelf.{empty_shelf, rows_at};

@@ -1,6 +1,7 @@
 // Minors (document 01, "The rounded rule"): a number for every set of k rows is held, and the letters of a word are applied from right to left.
 // The sets that letters update are counted. The numbers are held in words, changed in place; the tables of row sets, the letters and the factors are lent by
 // the caller, who made them once.
+#![tactic(auto)]
 ghost use Rattle.std.specs.Prelude.{◌≡◌, cond, ◌+◌, ◌-◌, ◌*◌, ◌^◌, ◌≤◌, ◌<◌, length};
 ghost use Rattle.number.specs.Number.{rounded, Ranged, Stored};
 ghost use Rattle.rowset.specs.Mask.{mask_count, count_below};
