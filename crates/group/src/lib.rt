@@ -1,5 +1,6 @@
 // Group numbers: seven bits a byte, lowest first, the top bit set on all bytes but the last, in the fewest bytes, below 2^32.
 #![tactic(auto)]
+
 ghost use Rattle.std.specs.Prelude.{◌≡◌, ◌≤◌, length};
 ghost use Rattle.std.proofs.lemmas.List.Edits.{sets};
 ghost use Rattle.group.specs.Group.{group_of, bytes_of, Inside};

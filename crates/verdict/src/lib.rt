@@ -1,6 +1,7 @@
 // Verdicts: a call is accepted, or turned down with document 01's number and an offset. A call's tests are a list of lines in document 01's order,
 // each a `test`; the first condition that holds decides.
 #![tactic(auto)]
+
 ghost use Rattle.std.specs.Prelude.{◌≡◌};
 ghost use Rattle.verdict.specs.Verdict.{refused_at, when, or_else};
 
