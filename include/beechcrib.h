@@ -25,18 +25,11 @@ extern "C" {
 
 /* The version of this header and of the archive built beside it. It rises whenever a struct changes its size, a call or a number is added, or a call
  * answers otherwise than before (2: tnb_reversals passes over zeros; 3: tnb_add, tnb_multiply and tnb_divide are new; 4: tnb_build and its refusal 15
-<<<<<<< HEAD
  * are new; 5: tnb_sentence is new; 6: factors may be zero in the pattern that tnb_load names, with the refusals 16 and 17; 7: answers have steps, and
  * tnb_byte_length and the forecasts are new; 8: recipes are new, with the refusal 18; 9: tnb_schur and its forecast are new). A program that uses only what
  * stands here, and not the inside of a shelf or a step, compiles again with every later version; it is compiled again for each, since structs go by value.
-=======
- * are new; 5: tnb_sentence is new; 6: factors may be zero in the pattern that tnb_load names, with the refusals 16 and 17; 7: answers have steps,
- * and tnb_byte_length and the forecasts are new; 8: tnb_recipe, its refusal 18 and its forecast are new; 9: tnb_schur and its forecast are new; 10: tnb_count and the
- * refusal 20 are new, and a shelf is larger). A program that uses only what stands here, and
- * not the inside of a shelf, compiles again with every later version; it is compiled again for each, since structs go by value.
->>>>>>> 172a746 (i)
  * Later versions may refuse with numbers that are not listed yet: test for TNB_ACCEPTED. */
-#define TNB_VERSION 10
+#define TNB_VERSION 9
 
 /* The numbers of answers. */
 enum {
@@ -59,12 +52,7 @@ enum {
     TNB_BAD_STAMPS = 15,         /* a time stamp is zero, is 2^32 or more, or does not exceed the one before it, or their count is not 1 to 8 */
     TNB_BROKEN_PATTERN = 16,     /* a zero below the diagonal with a nonzero factor further down its column, or above it with one further right in its row */
     TNB_SINGULAR = 17,           /* the chosen submatrix is singular: its exact determinant is zero */
-<<<<<<< HEAD
     TNB_BAD_STEP_COUNT = 18,     /* a recipe has not 2 to 6 steps */
-=======
-    TNB_BAD_STEP_COUNT = 18,     /* the count of a recipe's steps is not 2 to 6 */
-    TNB_COUNT_TOO_LARGE = 20,    /* the count of the result would exceed 16777216 */
->>>>>>> 172a746 (i)
     TNB_FOREIGN_SHELF = 255      /* the shelf handed over is not one that these calls can have made */
 };
 
@@ -72,7 +60,7 @@ enum {
  * an answer, is copied whole, and is read by tnb_rows, tnb_factor and tnb_write. Words in place of fields, so that no program can come to use
  * one; size and alignment are the library's. */
 typedef struct {
-    uint64_t private_[1029];
+    uint64_t private_[1025];
 } tnb_shelf;
 
 /* What a call answers that may change the shelf: the bound of an operation, a recipe or a build (0 for a load or drop), the steps that an operation or recipe
@@ -86,11 +74,7 @@ typedef struct {
     tnb_shelf shelf;
 } tnb_answer;
 
-<<<<<<< HEAD
 /* How many bytes were written or will be, reversals counted, or rows a place has; 0 for a refusal. */
-=======
-/* How many bytes were written or will be, reversals counted, rows a place has, its count, or steps that an operation will make; 0 for a refusal. */
->>>>>>> 172a746 (i)
 typedef struct {
     uint8_t number;
     size_t offset;
@@ -153,36 +137,25 @@ tnb_length tnb_write(tnb_shelf shelf, size_t place, uint8_t *out, size_t room);
 /* How many bytes tnb_write of a place will take, exactly. Nothing is written. Refusals 1, 11. */
 tnb_length tnb_byte_length(tnb_shelf shelf, size_t place);
 
-/* The count of a place: how many roundings, at most, its factors lie from those that exact arithmetic would hold there after the same calls. 0 for a loaded
- * matrix; 11 for a build; a transpose keeps its source's; else the bound and 4n^2 times the sum of the counts of the sources, of n rows, one for each time
- * that a source is used. Refusals 1, 11. */
-tnb_length tnb_count(tnb_shelf shelf, size_t place);
-
 /* Empties a place, which can then be filled again. Refusals 1, 11. */
 tnb_answer tnb_drop(tnb_shelf shelf, size_t place);
 
-/* The product of two places, to an empty place. Both sources may be one place. Refusals 1, 11, 12, 13, 20, 14. */
+/* The product of two places, to an empty place. Both sources may be one place. Refusals 1, 11, 12, 13, 14. */
 tnb_answer tnb_product(tnb_shelf shelf, size_t left, size_t right, size_t target);
 
-/* The re-signed inverse of a place, to an empty place: the inverse with signs (-1)^(i+j). Refusals 1, 11, 12, 20, 14. */
+/* The re-signed inverse of a place, to an empty place: the inverse with signs (-1)^(i+j). Refusals 1, 11, 12, 14. */
 tnb_answer tnb_inverse(tnb_shelf shelf, size_t source, size_t target);
 
-/* The converse of a place, to an empty place: rows and columns read backwards. Refusals 1, 11, 12, 20, 14. */
+/* The converse of a place, to an empty place: rows and columns read backwards. Refusals 1, 11, 12, 14. */
 tnb_answer tnb_converse(tnb_shelf shelf, size_t source, size_t target);
 
 /* The submatrix of chosen rows and columns, to an empty place. It must not be singular, which it cannot be where no factor of the source is zero.
- * Refusals 1, 11, 12, 8, 17, 20, 14. */
+ * Refusals 1, 11, 12, 8, 17, 14. */
 tnb_answer tnb_submatrix(tnb_shelf shelf, size_t source, uint8_t rows, uint8_t columns, size_t target);
 
-<<<<<<< HEAD
 /* The Schur complement of the first k rows and columns of a place of n rows, 1 <= k < n, to an empty place: what remains for the other control points once
  * the first k are clamped, that is, the lower right block minus the lower left one times the leading block's inverse times the upper right one. It has n - k
  * rows; its bound goes by n. It is never singular. Refusals 1, 11, 12, 8 (k is 0, or not below n), 14. */
-=======
-/* What remains of a place after its first k rows and columns are clamped, to an empty place: the Schur complement of these, the lower right block minus the
- * lower left one times the leading block's inverse times the upper right one. k is one or more and less than the rows of the source; the bound is that of the
- * source's size. Refusals 1, 11, 12, 8, 20, 14. */
->>>>>>> 172a746 (i)
 tnb_answer tnb_schur(tnb_shelf shelf, size_t source, size_t k, size_t target);
 
 /* The transpose of a place, to an empty place; no rounding, bound 0. Refusals 1, 11, 12. */
@@ -228,20 +201,6 @@ tnb_steps tnb_forecast_recipe(tnb_shelf shelf, const tnb_step *steps, size_t cou
  * are always in range. Refusals 1, 12, 15. */
 tnb_answer tnb_build(tnb_shelf shelf, size_t target, const uint64_t *stamps, size_t count);
 
-<<<<<<< HEAD
-=======
-/* The ways that a step of a recipe takes its place, and a step as a number. */
-enum { TNB_PLAIN = 0, TNB_INVERSE = 1, TNB_CONVERSE = 2, TNB_TRANSPOSE = 3 };
-static inline uint64_t tnb_step(size_t place, unsigned way) { return (uint64_t)place * 4 + way % 4; }
-
-/* The product of 2 to 6 steps in their order, to an empty place, rounded once: the bound is 4 count (2 n^2 - n) + 3. A place may be used more than once; two plain
- * steps are tnb_product. Refusals 18 (count, tested first of all), 1, 11, 12, 13, 20, 14. */
-tnb_answer tnb_recipe(tnb_shelf shelf, const uint64_t *steps, size_t count, size_t target);
-
-/* The steps that a recipe will make. Refusals 18, 1, 11, 13. */
-tnb_length tnb_forecast_recipe(tnb_shelf shelf, const uint64_t *steps, size_t count);
-
->>>>>>> 172a746 (i)
 /* A minor of a place. It may be zero, mantissa and exponent 0, which is in range. Refusals 1, 11, 8, 14. */
 tnb_value tnb_minor(tnb_shelf shelf, size_t place, uint8_t rows, uint8_t columns);
 

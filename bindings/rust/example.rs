@@ -5,7 +5,7 @@ use std::process::exit;
 #[repr(C)]
 #[derive(Clone, Copy)]
 pub struct Shelf {
-    private: [u64; 1029],
+    private: [u64; 1025],
 }
 
 #[repr(C)]
@@ -154,7 +154,7 @@ fn main() {
     }
 
     // a shelf that this library did not make
-    let foreign = Shelf { private: [u64::MAX; 1029] };
+    let foreign = Shelf { private: [u64::MAX; 1025] };
     if let Err(why) = write(foreign, 2, &mut bytes) {
         say(&why);
     }

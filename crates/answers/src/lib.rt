@@ -1,5 +1,6 @@
 // Answer lines, put into a buffer: numbers, refusals, and the answers of the calls by what they report.
 #![tactic(auto)]
+
 ghost use Rattle.std.specs.Prelude.{◌++◌, [], ◌∷◌, pos};
 ghost use Rattle.lines.specs.Ascii.{ascii};
 ghost use Rattle.lines.specs.Text.{Puts, decimal};

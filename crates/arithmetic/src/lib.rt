@@ -1,5 +1,6 @@
 // The arithmetic as it is offered outside: one operation on two list items, answered with the rounded result and with what rounding took away.
 #![tactic(auto)]
+
 ghost use Rattle.std.specs.Prelude.{◌≡◌};
 ghost use Rattle.rests.specs.Rest.{Small};
 ghost use Rattle.arithmetic.specs.Arithmetic.{is_positive, arithmetic_call, result_of, worked_report};

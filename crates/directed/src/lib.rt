@@ -1,6 +1,7 @@
 // The directed operations for the comparison with exact fractions, and for nothing else: this archive is no part of the library. Nothing proves what its
 // caller hands over, so operands are tested, and what cannot be worked is answered with a number that no operation gives.
 #![tactic(auto)]
+
 ghost use Rattle.std.specs.Prelude.{◌≡◌, true};
 ghost use Rattle.directed.specs.Directed.{nothing, is_workable, direction_of, worked_of, directed_of};
 

@@ -53,8 +53,9 @@ reached n [] = 31
 reached n (c ∷ κ) = 1035 * (n * n) + reached n κ
 
 -- the sum of the counts
-abbrev pub sum_of : List ℕ → ℕ
-sum_of κ = total (λ c. c) κ
+unfoldable pub sum_of : List ℕ → ℕ
+sum_of [] = 0
+sum_of (c ∷ κ) = c + sum_of κ
 
 -- ONE OPERATION ON NUMBERS AND ON FRACTIONS
 pub data Beside (n : ℕ) (κ : List ℕ) : Operation Number → Operation Fraction → Type 0 where

@@ -1,5 +1,6 @@
 // Lines of text: their words, decimal numbers and hexadecimal bytes, read and written.
 #![tactic(auto)]
+
 mod reading; // reading.rt: words, numbers and bytes of a line
 mod writing; // writing.rt: the same put into a buffer
 

@@ -1,5 +1,6 @@
 // Lists of signed items: carried through the word of a matrix, and their reversals counted.
 #![tactic(auto)]
+
 ghost use Rattle.std.specs.Prelude.{◌≡◌, ◌≤◌, take};
 ghost use Rattle.lists.specs.Lists.{item_outside, any_outside, carry_tests, items_after_carry, reversals_call, reversals_report};
 ghost use Rattle.lists.specs.Promise.{Steady};

@@ -2,6 +2,7 @@
 // Each operation brings its exact result to the form n / d at an exponent x, whatever the direction. Sums and products are rounded by `kept`, quotients by
 // `whole`, since nothing is carried; differences to nearest by `round_integer`. Where a caller names a direction, it is chosen when the code is compiled.
 #![tactic(auto)]
+
 ghost use Rattle.std.specs.Prelude.{◌≡◌, false, cond, ◌+◌, ◌-◌, ◌*◌, ◌^◌, ◌≤◌, ◌<◌, min};
 ghost use Rattle.fraction.specs.Fraction.{fraction_sum, fraction_product, fraction_quotient};
 ghost use Rattle.number.specs.Number.{zero_number, one_number, natural_number, unbiased, round, round_by, sum_of, product_of, sum_by, product_by, quotient_by};

@@ -1,7 +1,6 @@
 -- A PLACE FILLED FROM TIME STAMPS. Where the tests passed, the factors fit the place (`build-fits`), and so the shelf stays good (`build-good`) and what is
 -- promised of the stamps holds (`build-done`). No exponent is out of range: with 14 tested behind 15 the verdict would be the same (`build-ranged`).
 use Prim.Native.Nat.{ℕ, ◌<◌}
-use native.Mathlib.Omega.{arith}
 use mathlib.Core.Path.{◌≡◌, refl, sym, ap, ◌∙◌, subst}
 use mathlib.Core.Bool.{Bool, false}
 use mathlib.Core.List.{List, [], ◌∷◌, ◌++◌}
@@ -23,13 +22,8 @@ use Rattle.verdict.proofs.Verdicts.{first-last, first-passed, when-passed}
 use Rattle.places.specs.declared.Shelf.{Shelf}
 use Rattle.places.specs.Shelf.{rows_at, holding, Fits, Good}
 use Rattle.places.specs.Tests.{target_tests}
-<<<<<<< HEAD
 use Rattle.places.proofs.Holding.{fits-table}
 use Rattle.conditions.proofs.Passed.{target-accepted}
-=======
-use Rattle.places.proofs.Holding.{count_fits, fits-table}
-use Rattle.places.proofs.Verdicts.{target-accepted}
->>>>>>> 172a746 (i)
 use Rattle.operations.specs.declared.Proposed.{Proposed}
 use Rattle.operations.specs.declared.Operated.{Operated}
 use Rattle.operations.specs.declared.Filled.{Filled}
@@ -65,11 +59,10 @@ module _ (s : Shelf) (t : ℕ) (stamps : List ℕ) where
       let a = first-passed (target_tests s t) (when (mistimed stamps) 15) e in
       ((target-accepted (rows_at s) t a.0).small, when-passed (mistimed stamps) 15 a.1)
 
-  pub build-fits : first_of (build_tests s t stamps) ≡ Accepted → (t < 8) × Fits (length stamps) stamp_bound (table_of (length stamps) (built_factors stamps))
+  build-fits : verdict ≡ Accepted → (t < 8) × Fits n (table_of n b)
   build-fits e =
       let a = build-accepted e in
-      let w = timed stamps a.1 in
-      (a.0, fits-table n stamp_bound b w.few (count_fits n stamp_bound w.some (omega arith)) (stored-banded n b (stamped stamps a.1).stored))
+      (a.0, fits-table n b (timed stamps a.1).few (stored-banded n b (stamped stamps a.1).stored))
 
   -- 14 CANNOT OCCUR
   pub build-ranged : first_of (build_tests s t stamps ++ (when (outside (row_by_row (length stamps) (built_factors stamps))) 14 ∷ []))
@@ -81,35 +74,35 @@ module _ (s : Shelf) (t : ℕ) (stamps : List ℕ) where
       by (Refused w) e = refl
 
   answered : (x : Proposed) → x ≡ build_proposal s t stamps → (x ≡ build_proposal s t stamps) × Keepable t x
-  answered = result-answered t n stamp_bound 0 stamp_bound b verdict build-fits
+  answered = result-answered t n stamp_bound 0 b verdict build-fits
 
   -- the two ways in which a build is answered
   pub build-turned : (w : Refusal) (x : Proposed) → first_of (build_tests s t stamps) ≡ Refused w → x ≡ turned_down w
       → (x ≡ build_proposal s t stamps) × Keepable t x
-  build-turned w x e f = answered x (f ∙ ap (λ (v : Verdict). proposal v n stamp_bound 0 stamp_bound b) (sym e))
+  build-turned w x e f = answered x (f ∙ ap (λ (v : Verdict). proposal v n stamp_bound 0 b) (sym e))
 
   pub build-worked : (l : List Number) → first_of (build_tests s t stamps) ≡ Accepted → l ≡ table_of (length stamps) (built_factors stamps)
-      → (let x : Proposed = record { answer = answer.Done stamp_bound 0; rows = length stamps; count = stamp_bound; factors = l } in
+      → (let x : Proposed = record { answer = answer.Done stamp_bound 0; rows = length stamps; factors = l } in
       (x ≡ build_proposal s t stamps) × Keepable t x)
   build-worked l e f =
       answered _
-      (ap (λ (l : List Number). let r : Proposed = record { answer = answer.Done stamp_bound 0; rows = n; count = stamp_bound; factors = l } in r) f
-      ∙ ap (λ (v : Verdict). proposal v n stamp_bound 0 stamp_bound b) (sym e))
+      (ap (λ (l : List Number). let r : Proposed = record { answer = answer.Done stamp_bound 0; rows = n; factors = l } in r) f
+      ∙ ap (λ (v : Verdict). proposal v n stamp_bound 0 b) (sym e))
 
   module _ (good : Good s) where
     pub build-good : Good (build_call s t stamps).shelf
     unfolding build_call
-    build-good = result-good t n stamp_bound b verdict build-fits s good (pos stamp_bound ∷ [])
+    build-good = result-good t n b verdict build-fits s good (pos stamp_bound ∷ [])
 
     pub build-met : first_of (build_tests s t stamps) ≡ Accepted
-        → Built (holding s t (length stamps) stamp_bound (built_factors stamps)) t stamps stamp_bound
+        → Built (holding s t (length stamps) (built_factors stamps)) t stamps stamp_bound
     build-met e =
-        record { bound-is = refl; held = result-held t n stamp_bound b verdict build-fits s good e; stamped = stamped stamps (build-accepted e).1 }
+        record { bound-is = refl; held = result-held t n b verdict build-fits s good e; stamped = stamped stamps (build-accepted e).1 }
 
     -- without steps
-    filled-by : (v : Verdict) → (v ≡ Accepted → Built (holding s t n stamp_bound b) t stamps stamp_bound)
-        → (let y = filled_by (kept s t (proposal v n stamp_bound 0 stamp_bound b)) in
-        (filled_outcome y ≡ resulting s t v n (pos stamp_bound ∷ []) stamp_bound b) × BuildPromised y.shelf t stamps y.answer)
+    filled-by : (v : Verdict) → (v ≡ Accepted → Built (holding s t n b) t stamps stamp_bound)
+        → (let y = filled_by (kept s t (proposal v n stamp_bound 0 b)) in
+        (filled_outcome y ≡ resulting s t v n (pos stamp_bound ∷ []) b) × BuildPromised y.shelf t stamps y.answer)
     unfolding kept filled_by
     filled-by Accepted h = (refl, h refl)
     filled-by (Refused w) h = (refl, tt)

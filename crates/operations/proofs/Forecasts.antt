@@ -36,7 +36,6 @@ use Rattle.places.proofs.Verdicts.{one-accepted}
 use Rattle.operations.specs.declared.Task.{Task}
 use Rattle.operations.specs.declared.Task.TheVariants.{Product, Inverse, Converse, Transpose, Submatrix, Schur}
 use Rattle.operations.specs.declared.Foretold.TheVariants as foretold
-<<<<<<< HEAD
 use Rattle.operations.specs.Operations.{done, factor_test, operation_verdict, operation_call, transpose_call, product_at, inverse_at, converse_at, submatrix_at}
 use Rattle.operations.specs.Operations.{step_with, joined_rows, joined_at, recipe_tests, recipe_call}
 use Rattle.operations.specs.Operations.{schur_at, singular, chosen_tests, submatrix_tests, set_tests, clamped_tests}
@@ -45,14 +44,6 @@ use Rattle.operations.specs.Forecast.{Found, RecipeFound, Foretells, Foretelling
 use Rattle.operations.specs.Forecast as forecast
 use Rattle.operations.proofs.Results.{Ready, ready-foretold, submatrix-ready, schur-ready}
 use Rattle.operations.proofs.Recipes.{product-ready, whole_ready, recipe-ready, rows-others}
-=======
-use Rattle.operations.specs.Operations.{done, operation_call, transpose_call, product_at, inverse_at, converse_at, submatrix_at, schur_at}
-use Rattle.operations.specs.Operations.{singular, chosen_tests, submatrix_tests, set_tests}
-use Rattle.operations.specs.Operations.{recipe_rows, recipe_at, recipe_tests, recipe_call}
-use Rattle.operations.specs.Forecast.{foretelling, forecast_call, task_call, alone_tests, recipe_forecast, foretold_report}
-use Rattle.operations.proofs.Results.{Ready, ready-foretold, operation-tests, product-ready, whole_ready, submatrix-ready, schur-ready}
-use Rattle.operations.proofs.Recipes.{recipe-ready}
->>>>>>> 172a746 (i)
 
 module _ (L : List Verdict) where
   pub told-refused : (w : Refusal) (n : ℕ) → first_of L ≡ Refused w → foretold_report (foretold.Refused w) ≡ foretelling L n
@@ -150,7 +141,6 @@ made_by (forecast.turned_down k offset p q) b e h = absurd (false≢true (ap is_
 made_by (forecast.done-in b' e' p q) b e h = p ∙ ap (λ (x : ℕ). accepted (pos x ∷ [])) (ap second (sym q ∙ h))
 made_by (forecast.found-out e' k p q g) b e h = absurd (false≢true (ap is_accepted (sym q ∙ h)))
 
-<<<<<<< HEAD
 -- MADE AS FORETOLD, whatever is accepted
 pub foretold-made : (s : Shelf) → Good s → (o : Task) (t b e : ℕ) → (task_call s o t).report ≡ accepted (done b e) → forecast_call s o ≡ accepted (pos e ∷ [])
 foretold-made s g o t b e h = let a = task-target s o t _ h refl in made_by (to-empty s g o t a.small a.none) b e h
@@ -159,52 +149,6 @@ foretold-made s g o t b e h = let a = task-target s o t _ h refl in made_by (to-
 pub forecast-tells : (s : Shelf) → Good s → (o : Task) (f : Report) → f ≡ forecast_call s o → Foretelling s (Found o) (task_call s o) f
 forecast-tells s g o f e =
     subst (Foretelling s (Found o) (task_call s o)) (sym e) (record { to-empty = to-empty s g o; made = foretold-made s g o })
-=======
-  source-passes : (p : ℕ) → Source s p → first_of (source_tests s p) ≡ Accepted
-  unfolding first_behind
-  source-passes p a = ap₂ (λ (x y : Bool). first_of (when x 1 ∷ when y 11 ∷ [])) (small p a.small) (some p a)
-
-  both-passes : (l r : ℕ) → Source s l → Source s r → rows_at s l ≡ rows_at s r → first_of (both_sources s l r) ≡ Accepted
-  unfolding first_behind
-  both-passes l r a b e = rw (small l a.small, small r b.small, some l a, some r b, eq-eqb (rows_at s l) (rows_at s r) e) refl
-
--- behind the tests L, with the forecast's own tests T
-operation-made : (s : Shelf) (L T : List Verdict) (t n c : ℕ) (o : Operation Number) → (first_of L ≡ Accepted → Ready t n o)
-    → (first_of L ≡ Accepted → first_of T ≡ Accepted) → (b e : ℕ) → (operation_call s L t n c o).report ≡ accepted (done b e)
-    → foretelling T (steps_foretold n o) ≡ accepted (pos e ∷ [])
-unfolding operation_call
-operation-made s L T t n c o ready tests b e h =
-    let r = returned _ _ _ b e h in
-    let l = operation-tests L t n c o ready r.0 in
-    sym (told-steps T e (steps_foretold n o) (tests l) (sym r.1 ∙ ready-foretold (ready l)))
-
--- THE PROMISE OF (k)
-pub foretold-made : (s : Shelf) → Good s → (o : Task) (t b e : ℕ) → (task_call s o t).report ≡ accepted (done b e) → forecast_call s o ≡ accepted (pos e ∷ [])
-unfolding forecast_call transpose_call
-foretold-made s g (Product l r) t b e h =
-    operation-made s (two_sources s l r t) (both_sources s l r) t (rows_at s l) _ (product_at s l r) (product-ready s g l r t)
-    (λ a. let x = two-accepted s l r t a in both-passes s l r x.0 x.1 x.3) b e h
-foretold-made s g (Inverse p) t b e h =
-    operation-made s (one_source s p t) (source_tests s p) t (rows_at s p) _ (inverse_at s p) (whole_ready s g inverted p t)
-    (λ a. source-passes s p (one-accepted s p t a).0) b e h
-foretold-made s g (Converse p) t b e h =
-    operation-made s (one_source s p t) (source_tests s p) t (rows_at s p) _ (converse_at s p) (whole_ready s g conversed p t)
-    (λ a. source-passes s p (one-accepted s p t a).0) b e h
-foretold-made s g (Transpose p) t b e h =
-    let r = returned _ 0 0 b e h in
-    sym (told-steps (source_tests s p) e 0 (source-passes s p (one-accepted s p t r.0).0) (sym r.1))
-foretold-made s g (Submatrix p I J) t b e h =
-    operation-made s (submatrix_tests s p I J t) (set_tests s p I J) t (rows_at s p) _ (submatrix_at s p I J) (submatrix-ready s g p I J t)
-    (λ a. let c = (first-passed (chosen_tests s p I J t) (when (singular (rows_at s p) (submatrix_at s p I J)) 17) a).0 in
-    let f = first-passed (one_source s p t) (when (unfit (rows_at s p) I J) 8) c in
-    first-last (source_tests s p) (when (unfit (rows_at s p) I J) 8)
-    ∙ ap₂ or_else (source-passes s p (one-accepted s p t f.0).0) f.1) b e h
-foretold-made s g (Schur p k) t b e h =
-    operation-made s (clamped_tests s p k t) (clamped_alone s p k) t (rows_at s p) _ (schur_at s p k) (schur-ready s g p k t)
-    (λ a. let f = first-passed (one_source s p t) (when (misclamped (rows_at s p) k) 8) a in
-    first-last (source_tests s p) (when (misclamped (rows_at s p) k) 8)
-    ∙ ap₂ or_else (source-passes s p (one-accepted s p t f.0).0) f.1) b e h
->>>>>>> 172a746 (i)
 
 -- A RECIPE
 module _ (s : Shelf) (g : Good s) (r : Recipe) (long : length r.steps ≡ 6) where
@@ -244,7 +188,6 @@ miscounted-told s r n e = ap (λ (v : Verdict). report_of v (pos n ∷ [])) (whe
 -- what stands behind the count changes nothing here either
 pub forecast-others : (s : Shelf) (r q : Recipe) → r.count ≡ q.count → steps_in r ≡ steps_in q → recipe_forecast s r ≡ recipe_forecast s q
 unfolding recipe_forecast
-<<<<<<< HEAD
 forecast-others s r q many same = by (miscounted r.count) refl
   where
     by : (b : Bool) → miscounted r.count ≡ b
@@ -286,8 +229,3 @@ module _ (s : Shelf) where
           let c = counted r.count e in
           ap (foretelling L) (whole-total (length (map (step_with s) (steps_in r))) (joined_rows s r)
           ∙ ap (λ (m : ℕ). whole_steps m (joined_rows s r)) (taken-length (step_with s) r.count r.steps (omega (arith, long, c.1))))
-=======
-recipe-foretold-made s g r long t b e h =
-    operation-made s (recipe_tests s r t) (alone_tests s r) t (recipe_rows s r) _ (recipe_at s r) (λ a. recipe-ready s r t long a g)
-    (λ a. alone-passed s r.count _ t a) b e h
->>>>>>> 172a746 (i)

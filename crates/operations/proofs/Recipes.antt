@@ -31,7 +31,6 @@ use Rattle.walk.specs.declared.Joined.{Joined}
 use Rattle.walk.specs.declared.Way.{Way}
 use Rattle.walk.specs.declared.Way.TheVariants.{Plain}
 use Rattle.walk.specs.Lent.{steps_of, no_steps, Prepared}
-<<<<<<< HEAD
 use Rattle.places.specs.declared.Shelf.{Shelf}
 use Rattle.places.specs.Shelf.{rows_at, factors_at, Good}
 use Rattle.places.specs.Outcome.{outcome}
@@ -43,64 +42,6 @@ use Rattle.operations.specs.Proposed.{Made}
 use Rattle.operations.proofs.Made.{made-start, made-next}
 use Rattle.operations.proofs.Results.{Ready, whole}
 
-=======
-use Rattle.operations.specs.declared.RecipeStep.{RecipeStep}
-use Rattle.operations.specs.declared.RecipeSteps.{RecipeSteps}
-use Rattle.operations.specs.Operations.{sum_of, operation_call, product_call, steps_in, count_with, place_of, slot_at, recipe_rows, step_with, recipe_at, recipe_tests, recipe_call}
-use Rattle.operations.specs.Forecast.{alone_tests}
-use Rattle.operations.proofs.Made.{Made, made-start, made-next}
-use Rattle.operations.proofs.Results.{Ready, whole}
-
-abbrev pub no_step : RecipeStep
-no_step = record { place = 0; way = Plain }
-
--- LISTS
-module _ {A B : Type 0} (f : A → B) where
-  pub map-take : (n : ℕ) (l : List A) → map f (take n l) ≡ take n (map f l)
-  map-take zero l = refl
-  map-take (suc n) [] = refl
-  map-take (suc n) (x ∷ l) = ap (λ (L : List B). f x ∷ L) (map-take n l)
-
-  pub map-length : (l : List A) → length (map f l) ≡ length l
-  map-length [] = refl
-  map-length (x ∷ l) = ap suc (map-length l)
-
-  -- one more
-  map_next : (l : List A) (c : ℕ) (d : A) → c < length l → map f (take (suc c) l) ≡ map f (take c l) ++ (f (get_or l c d) ∷ [])
-  map_next [] c d h = absurd (not-suc-le-zero h)
-  map_next (x ∷ l) zero d h = refl
-  map_next (x ∷ l) (suc c) d h = ap (λ (L : List B). f x ∷ L) (map_next l c d (omega arith))
-
-  pub take-length : (c : ℕ) (l : List A) → c ≤ length l → length (map f (take c l)) ≡ c
-  take-length zero l h = refl
-  take-length (suc c) [] h = absurd (not-suc-le-zero h)
-  take-length (suc c) (x ∷ l) h = ap suc (take-length c l (omega arith))
-
-take_at : {A : Type 0} (l : List A) (m c : ℕ) (d : A) → c < m → get_or (take m l) c d ≡ get_or l c d
-take_at [] zero c d h = refl
-take_at [] (suc m) c d h = refl
-take_at (x ∷ l) zero c d h = absurd (not-suc-le-zero h)
-take_at (x ∷ l) (suc m) zero d h = refl
-take_at (x ∷ l) (suc m) (suc c) d h = take_at l m c d (omega arith)
-
--- THE SUM of the counts of the first c steps
-sum-next : (κ : List ℕ) (x : ℕ) → sum_of (κ ++ (x ∷ [])) ≡ sum_of κ + x
-unfolding sum_of
-sum-next [] x = omega arith
-sum-next (k ∷ κ) x = ap (λ (m : ℕ). k + m) (sum-next κ x) ∙ omega arith
-
-pub counts-none : (s : Shelf) (L : List RecipeStep) → 0 ≡ sum_of (map (count_with s) (take 0 L))
-unfolding sum_of
-counts-none s L = refl
-
-pub counts-next : (s : Shelf) (L : List RecipeStep) (c sum x : ℕ) → c < length L → sum ≡ sum_of (map (count_with s) (take c L))
-    → x ≡ count_with s (get_or L c no_step) → sum + x ≡ sum_of (map (count_with s) (take (c + 1) L))
-counts-next s L c sum x h e f =
-    let z : suc c ≡ c + 1 = omega arith in
-    ap₂ (λ (a b : ℕ). a + b) e f ∙ sym (sum-next (map (count_with s) (take c L)) (count_with s (get_or L c no_step)))
-    ∙ ap sum_of (sym (map_next (count_with s) L c no_step h) ∙ ap (λ (m : ℕ). map (count_with s) (take m L)) z)
-
->>>>>>> 172a746 (i)
 -- THE STEPS as they are put: the first c of them
 module _ (s : Shelf) (n : ℕ) (L : List RecipeStep) where
   abbrev pub Put : ℕ → Joined → List ℕ → List ℕ → Type 0
@@ -202,7 +143,6 @@ pub rows-others : (s : Shelf) (r q : Recipe) → r.count ≡ q.count → steps_i
 rows-others s r q many same low =
     ap (rows_at s) (sym (place_at r 0 (omega arith)) ∙ ap (λ (L : List RecipeStep). get_or (map place_of L) 0 0) same ∙ place_at q 0 (omega (arith, many)))
 
-<<<<<<< HEAD
 pub recipe-others : (s : Shelf) (r q : Recipe) (t : ℕ) → r.count ≡ q.count → steps_in r ≡ steps_in q → recipe_call s r t ≡ recipe_call s q t
 recipe-others s r q t many same = by (miscounted r.count) refl
   where
@@ -216,39 +156,6 @@ recipe-others s r q t many same = by (miscounted r.count) refl
         ∙ ap (λ (n : ℕ). operation_call s (recipe_tests s q t) t n (joined_at s q)) (rows-others s r q many same (counted r.count e).0)
 
 -- TWO PLAIN STEPS, whatever stands in the other slots, are the product call: its bits, its bound, its steps and its refusals
-=======
-  pub recipe-holds : EachHolds s (recipe_rows s r) (map place_of (steps_in r))
-  recipe-holds = subst (λ (n : ℕ). EachHolds s n (map place_of (steps_in r))) (first_rows s r long passed) passed.sources
-
-  module _ (good : Good s) where
-    holds-banded : (n : ℕ) (L : List RecipeStep) → EachHolds s n (map place_of L) → Sources (BandedNumbers n) (map (step_with s) L)
-    holds-banded n [] h = tt
-    holds-banded n (x ∷ L) h =
-        (subst (λ (m : ℕ). BandedNumbers m (factors_at s x.place)) h.1 (good.held x.place h.0).banded, holds-banded n L h.2)
-
-    pub recipe-ready : Ready t (recipe_rows s r) (recipe_at s r)
-    recipe-ready =
-        let first = recipe-small 0 (omega (arith, passed.low)) in
-        let few = (good.held (place_of (slot_at r 0)) first).few in
-        let many : length (map (step_with s) (steps_in r)) ≡ r.count = take-length (step_with s) r.count r.steps (omega (arith, long, passed.high)) in
-        let h : Proper (BandedNumbers (recipe_rows s r)) (recipe_rows s r) (recipe_at s r) =
-        record {
-          sources = subst (λ (n : ℕ). Sources (BandedNumbers n) (map (step_with s) (steps_in r))) (first_rows s r long passed) (holds-banded _ (steps_in r) passed.sources);
-          fit = omega (arith, many, passed.low);
-        } in
-        record {
-          small = shown.1.small;
-          some = subst (λ (n : ℕ). 1 ≤ n) (first_rows s r long passed) passed.some;
-          few = few;
-          six = omega (arith, many, passed.high);
-          proper = h;
-          regular = whole _ _ h;
-          any = subst (λ (n : ℕ). 1 ≤ n) (first_rows s r long passed) passed.some;
-          fits = few;
-        }
-
--- TWO PLAIN STEPS, whatever stands in the other slots, are the product call: its bits, its bound and its refusals
->>>>>>> 172a746 (i)
 pub recipe-product : (s : Shelf) (p q t : ℕ) (others : List RecipeStep)
     → recipe_call s (record { steps = taken Plain p ∷ taken Plain q ∷ others; count = 2 }) t ≡ product_call s p q t
 unfolding operation_call first_behind

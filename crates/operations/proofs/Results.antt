@@ -1,4 +1,3 @@
-<<<<<<< HEAD
 -- The rule's operations on places. Where the tests of the places passed, the rule can be run (`Ready`, `submatrix-ready`, `schur-ready`; of steps joined,
 -- Recipes) and demand 3 holds (`ready-demand`, in plain words `ready-close`), and the steps made are those foretold (`ready-foretold`); what is accepted can be
 -- kept, the shelf stays good, and what was promised holds (`operation-fits`, `operation-good`, `operation-met`). The result by what was found:
@@ -10,21 +9,8 @@ use mathlib.Core.Path.{◌≡◌, refl, sym, ap, ap₂, ◌∙◌}
 use mathlib.Core.Bool.{Bool, true, false, cond}
 use mathlib.Core.List.{List, [], ◌∷◌, ◌++◌}
 use lib.Dec.{eqb}
-=======
--- The rule's operations on places. Where the tests of the places passed, the rule can be run (`Ready`, `product-ready`, `whole_ready`, `submatrix-ready`,
--- `schur-ready`) and demand 3 holds (`ready-demand`), and the steps made are those foretold (`ready-foretold`); what is accepted can be kept, the shelf stays good, and what was promised holds (`operation-fits`,
--- `operation-good`, `operation-met`). The result by what was found: `operation-turned`, `operation-ranged`. A submatrix is singular where its rounded minor is
--- zero (`singular-tested`), which is how its tests are worked (`chosen-tested`).
-use Prim.Native.Nat.{ℕ, ◌+◌, ◌*◌, ◌^◌, ◌<◌, ◌≤◌}
-use native.Mathlib.Nat.{pow-le-pow_right}
-use native.Mathlib.Omega.{arith}
-use mathlib.Core.Path.{◌≡◌, refl, sym, ap, ap₂, ◌∙◌, subst}
-use mathlib.Core.Bool.{Bool, true, false, cond, ◌||◌}
-use mathlib.Core.List.{List, [], ◌∷◌}
-use lib.Dec.{eqb, leb, ltb}
->>>>>>> 172a746 (i)
 use lib.ListN.{length}
-use borrow.Author.Tests.{eqb-false, ne_eqb, leb-true, ltb-false, lt-ltb, le-ltb}
+use borrow.Author.Tests.{eqb-false}
 use Rattle.number.specs.declared.Number.{Number}
 use Rattle.number.specs.Number.{zero_number, rounded, value, Ranged, Stored, reach, in_range}
 use Rattle.number.proofs.Reach.{in-range-stored}
@@ -38,9 +24,6 @@ use Rattle.words.specs.Effort.{steps_made, steps_foretold}
 use Rattle.words.proofs.Chosen.{among-whole}
 use Rattle.words.proofs.Banded.{banded-like}
 use Rattle.words.proofs.Foretold.{steps-foretold}
-use Rattle.rowset.specs.Mask.{mask_count, count_to, mask_has}
-use Rattle.arrays.specs.Below.{all_below}
-use Rattle.arrays.proofs.Below.{all-each}
 use Rattle.rowset.proofs.Masks.{of_mask-length}
 use Rattle.rowset.proofs.Counts.{mask-count, count-to, count_to-le}
 use Rattle.fraction.specs.Fraction.{Fraction}
@@ -52,7 +35,6 @@ use Rattle.places.specs.declared.Shelf.{Shelf}
 use Rattle.verdict.specs.declared.Refusal.{Refusal}
 use Rattle.verdict.specs.declared.Verdict.{Verdict}
 use Rattle.verdict.specs.declared.Verdict.TheVariants.{Accepted, Refused}
-<<<<<<< HEAD
 use Rattle.places.specs.Shelf.{rows_at, factors_at, holding, Fits, Good}
 use Rattle.verdict.specs.Verdict.{first_of, or_else, when}
 use Rattle.places.specs.Tests.{unfit, one_source}
@@ -70,23 +52,6 @@ use Rattle.operations.specs.Operations.{singular, chosen_tests, submatrix_tests,
 use Rattle.operations.specs.Reports.{operated_outcome}
 use Rattle.operations.specs.Proposed.{turned_down, proposal, proposed, kept, ranged_of, Keepable}
 use Rattle.operations.specs.Promise.{CloseFactors, Met, Promised}
-=======
-use Rattle.places.specs.Shelf.{rows_at, factors_at, holding, most_count, Fits, Good}
-use Rattle.verdict.specs.Verdict.{first_behind, first_of, or_else, when}
-use Rattle.places.specs.Tests.{unfit, one_source, two_sources, clamped_tests}
-use Rattle.table.proofs.Ranges.{rows-ranged, outside-table}
-use Rattle.places.proofs.Holding.{count_fits, fits-table}
-use Rattle.verdict.proofs.Verdicts.{first-append, first-last, first-passed, when-passed, when-accepted, or-else-both}
-use Rattle.places.proofs.Verdicts.{Source, Fit, one-accepted, two-accepted, sets-accepted, clamped-accepted}
-use Rattle.operations.specs.declared.Proposed.{Proposed}
-use Rattle.operations.specs.declared.Operated.{Operated}
-use Rattle.operations.specs.declared.Performed.TheVariants as answer
-use Rattle.operations.specs.Operations.{done, sum_of, count_of, count_test, factor_test, operation_verdict, operation_call, product_at, taken_at, submatrix_at, schur_at, minor_at}
-use Rattle.operations.specs.Operations.{singular, chosen_tests, submatrix_tests}
-use Rattle.operations.specs.Reports.{operated_outcome}
-use Rattle.operations.specs.Proposed.{turned_down, proposal, proposed, kept, ranged_of, counted_by, Keepable}
-use Rattle.operations.specs.Promise.{Met, Promised}
->>>>>>> 172a746 (i)
 use Rattle.operations.proofs.Proposals.{result-answered, result-good, result-held, result-done}
 
 -- sources of n rows that hold accepted factors, sets that fit, a matrix that is not singular, and a place of the shelf
@@ -97,7 +62,6 @@ pub record Ready (t n : ℕ) (o : Operation Number) : Type 0 where
   pub six : length (steps o) ≤ 6
   pub proper : Proper (BandedNumbers n) n o
   pub regular : Regular n (exactly o)
-  pub any : 1 ≤ size n o
   pub fits : size n o ≤ 8
 
 pub ready-demand : {t n : ℕ} {o : Operation Number} → Ready t n o → Demand n o
@@ -124,51 +88,15 @@ above_zero x e = let f : x.top ≡ 0 → ⊥ = eqb-false x.top 0 e in omega arit
 pub whole : (n : ℕ) (L : List (Step Number)) → Proper (BandedNumbers n) n (joined L) → Regular n (exactly (joined L))
 whole n L h = joined-regular n (each_steps value L) (proper-value n (joined L) h)
 
--- a mask that is not zero has a row
-abbrev mask-tested : ℕ → Bool
-mask-tested I = eqb I 0 || leb 1 (mask_count I)
-
-masks-tested : all_below 256 mask-tested ≡ true
-unfolding all_below mask_count count_to mask_has
-masks-tested = refl
-
-mask-some : (I : ℕ) → 0 < I → I < 256 → 1 ≤ mask_count I
-mask-some I h l =
-    leb-true 1 (mask_count I)
-    (sym (ap (λ (t : Bool). t || leb 1 (mask_count I)) (ne_eqb I 0 (λ e. omega arith))) ∙ all-each mask-tested 256 masks-tested I l)
-
-below-256 : (n I : ℕ) → n ≤ 8 → I < 2 ^ n → I < 256
-below-256 n I few h = let p : 2 ^ n ≤ 2 ^ 8 = pow-le-pow_right {n = 2} (omega arith) {i = n} {j = 8} few in omega (arith, p)
-
 -- READY: each operation on the places that its tests accepted
 module _ (s : Shelf) (good : Good s) where
-<<<<<<< HEAD
-=======
-  pub product-ready : (l r t : ℕ) → first_of (two_sources s l r t) ≡ Accepted → Ready t (rows_at s l) (product_at s l r)
-  product-ready l r t e =
-      let a = two-accepted s l r t e in
-      let left = good.held l a.0.small in
-      let right = subst (λ (n : ℕ). BandedNumbers n (factors_at s r)) (sym a.3) (good.held r a.1.small).banded in
-      let h : Proper (BandedNumbers (rows_at s l)) (rows_at s l) (product_at s l r) = record { sources = (left.banded, (right, tt)); fit = omega arith } in
-      record {
-        small = a.2.small;
-        some = a.0.some;
-        few = left.few;
-        six = omega arith;
-        proper = h;
-        regular = whole _ _ h;
-        any = a.0.some;
-        fits = left.few;
-      }
-
->>>>>>> 172a746 (i)
   module _ (p t : ℕ) (e : first_of (one_source s p t) ≡ Accepted) where
     source : (o : Operation Number) → length (steps o) ≤ 6 → Proper (BandedNumbers (rows_at s p)) (rows_at s p) o → Regular (rows_at s p) (exactly o)
-        → 1 ≤ size (rows_at s p) o → size (rows_at s p) o ≤ rows_at s p → Ready t (rows_at s p) o
-    source o six h g k l =
+        → size (rows_at s p) o ≤ rows_at s p → Ready t (rows_at s p) o
+    source o six h g l =
         let a = one-accepted s p t e in
         let few = (good.held p a.0.small).few in
-        record { small = a.1.small; some = a.0.some; few = few; six = six; proper = h; regular = g; any = k; fits = omega arith }
+        record { small = a.1.small; some = a.0.some; few = few; six = six; proper = h; regular = g; fits = omega arith }
 
     pub source-banded : BandedNumbers (rows_at s p) (factors_at s p)
     source-banded = (good.held p (one-accepted s p t e).0.small).banded
@@ -206,17 +134,8 @@ module _ (s : Shelf) (good : Good s) where
     fit-ready : (I J : ℕ) → Fit (rows_at s p) I J → singular (rows_at s p) (submatrix_at s p I J) ≡ false → Ready t (rows_at s p) (submatrix_at s p I J)
     fit-ready I J f g =
         source (submatrix_at s p I J) (omega arith) (fit-proper I J f) (above_zero (determinant_of (rows_at s p) (exactly (submatrix_at s p I J))) g)
-        (omega (arith, mask-count (rows_at s p) I source-few f.rows, mask-some I f.some (below-256 (rows_at s p) I source-few f.rows)))
         (omega (arith, count-to (rows_at s p) I, count_to-le (rows_at s p) I))
 
-<<<<<<< HEAD
-=======
-  pub whole_ready : (w : Way) (p t : ℕ) → first_of (one_source s p t) ≡ Accepted → Ready t (rows_at s p) (taken_at w s p)
-  whole_ready w p t e =
-      let h : Proper (BandedNumbers (rows_at s p)) (rows_at s p) (taken_at w s p) = record { sources = (source-banded p t e, tt); fit = omega arith } in
-      source p t e (taken_at w s p) (omega arith) h (whole _ _ h) (one-accepted s p t e).0.some (omega arith)
-
->>>>>>> 172a746 (i)
   pub submatrix-ready : (p I J t : ℕ) → first_of (submatrix_tests s p I J t) ≡ Accepted → Ready t (rows_at s p) (submatrix_at s p I J)
   submatrix-ready p I J t e =
       let b = first-passed (chosen_tests s p I J t) (when (singular (rows_at s p) (submatrix_at s p I J)) 17) e in
@@ -234,7 +153,7 @@ module _ (s : Shelf) (good : Good s) where
       let a = schur-clamped p k t e in
       let h : Proper (BandedNumbers (rows_at s p)) (rows_at s p) (schur_at s p k) = record { sources = (source-banded p t a.0, tt); fit = a.1 } in
       source p t a.0 (schur_at s p k) (omega arith) h
-      (schur-regular (rows_at s p) (each_factor value (factors_at s p)) k (proper-value (rows_at s p) (schur_at s p k) h)) (omega (arith, a.2)) (omega arith)
+      (schur-regular (rows_at s p) (each_factor value (factors_at s p)) k (proper-value (rows_at s p) (schur_at s p k) h)) (omega arith)
 
 -- a result in range can be stored
 run-stored : (k : ℕ) (b : Factors Number) → Banded (λ a. 0 < a.m) (λ a. a ≡ zero_number) k b → Each (Ranged reach) k b
@@ -249,131 +168,81 @@ unfolding proposed
 proposed-behind k L n o e =
     ap (λ (v : Verdict). proposal v (size n o) (bound n o) (steps_made rounded n o) (result rounded n o)) (sym (when-left k (L ++ (factor_test n o ∷ [])) e))
 
--- THE TESTS OF A RESULT as the code makes them, with the count c as it worked it
-module _ (x : Refactored) (c d : ℕ) (same : c ≡ d) where
-  pub ranged-many : most_count < c → turned_down (record { number = 20; offset = 0 }) ≡ ranged_of x d
-  unfolding ranged_of
-  ranged-many h = simp (lt-ltb most_count d (subst (λ (k : ℕ). most_count < k) same h))
-
-  pub ranged-outside : c ≤ most_count → outside x.factors ≡ true → turned_down (record { number = 14; offset = 0 }) ≡ ranged_of x d
-  unfolding ranged_of
-  ranged-outside h e = simp (le-ltb most_count d (subst (λ (k : ℕ). k ≤ most_count) same h), e)
-
-  pub ranged-kept : c ≤ most_count → outside x.factors ≡ false
-      → ◌≡◌ {A = Proposed} (record { answer = answer.Done x.bound x.steps; rows = x.rows; count = c; factors = x.factors }) (ranged_of x d)
-  unfolding ranged_of
-  ranged-kept h e =
-      ap (λ (k : ℕ). let r : Proposed = record { answer = answer.Done x.bound x.steps; rows = x.rows; count = k; factors = x.factors } in r) same
-      ∙ simp (le-ltb most_count d (subst (λ (k : ℕ). k ≤ most_count) same h), e)
-
--- the count of a result of one source, and of two, as the code works it
-pub count-one : (n m k sum : ℕ) (o : Operation Number) (x : Refactored) → x ≡ result_of n o → m ≡ n → sum ≡ k
-    → counted_by x m sum ≡ count_of n o (k ∷ [])
-unfolding sum_of
-count-one n m k sum o x e f g =
-    ap₂ (λ (r : Refactored) (m : ℕ). counted_by r m sum) e f ∙ ap (λ (s : ℕ). bound n o + 4 * (n * n) * s) (g ∙ omega arith)
-
-pub count-two : (n m k l a b : ℕ) (o : Operation Number) (x : Refactored) → x ≡ result_of n o → m ≡ n → a ≡ k → b ≡ l
-    → counted_by x m (a + b) ≡ count_of n o (k ∷ l ∷ [])
-unfolding sum_of
-count-two n m k l a b o x e f g h =
-    ap₂ (λ (r : Refactored) (m : ℕ). counted_by r m (a + b)) e f ∙ ap (λ (s : ℕ). bound n o + 4 * (n * n) * s) (ap₂ (λ (a b : ℕ). a + b) g h ∙ omega arith)
-
--- and of any list of sources, by the sum of their counts
-pub count-many : (n m sum : ℕ) (κ : List ℕ) (o : Operation Number) (x : Refactored) → x ≡ result_of n o → m ≡ n → sum ≡ sum_of κ
-    → counted_by x m sum ≡ count_of n o κ
-count-many n m sum κ o x e f g =
-    ap₂ (λ (r : Refactored) (m : ℕ). counted_by r m sum) e f ∙ ap (λ (s : ℕ). bound n o + 4 * (n * n) * s) g
-
 -- WHAT WAS ACCEPTED can be kept, and meets demand 3
-module _ (L : List Verdict) (t n c : ℕ) (o : Operation Number) (ready : first_of L ≡ Accepted → Ready t n o) where
-  abbrev behind : List Verdict
-  behind = count_test c ∷ factor_test n o ∷ []
-
-  verdict : operation_verdict L n c o ≡ Accepted
-      → (first_of L ≡ Accepted) × (c ≤ most_count) × (outside (row_by_row (size n o) (result rounded n o)) ≡ false)
+module _ (L : List Verdict) (t n : ℕ) (o : Operation Number) (ready : first_of L ≡ Accepted → Ready t n o) where
+  verdict : operation_verdict L n o ≡ Accepted → (first_of L ≡ Accepted) × (outside (row_by_row (size n o) (result rounded n o)) ≡ false)
   verdict e =
-      let a = or-else-both (first_of L) (first_of behind) (sym (first-append L behind) ∙ e) in
-      let b = when-accepted (ltb most_count c) 20 (factor_test n o ∷ []) a.1 in
-      let f = when-accepted (outside (row_by_row (size n o) (result rounded n o))) 14 [] b.1 in
-      (a.0, ltb-false most_count c b.0, f.0)
-
-  -- the tests before the rule is run
-  pub operation-tests : operation_verdict L n c o ≡ Accepted → first_of L ≡ Accepted
-  operation-tests e = (verdict e).0
+      let a = first-passed L (factor_test n o) e in
+      (a.0, when-passed _ 14 a.1)
 
   operation-demand : first_of L ≡ Accepted → Demand n o
   operation-demand e = ready-demand (ready e)
 
-  pub operation-fits : operation_verdict L n c o ≡ Accepted → (t < 8) × Fits (size n o) c (table_of (size n o) (result rounded n o))
+  operation-fits : operation_verdict L n o ≡ Accepted → (t < 8) × Fits (size n o) (table_of (size n o) (result rounded n o))
   operation-fits e =
       let v = verdict e in
       let w = ready v.0 in
       let d = operation-demand v.0 in (
         w.small,
-        fits-table (size n o) c (result rounded n o) w.fits (count_fits (size n o) c w.any v.1)
-            (run-stored (size n o) (result rounded n o) d.banded d.ranged (rows-ranged (size n o) (result rounded n o) w.fits v.2)),
+        fits-table (size n o) (result rounded n o) w.fits
+            (run-stored (size n o) (result rounded n o) d.banded d.ranged (rows-ranged (size n o) (result rounded n o) w.fits v.1)),
       )
 
-  pub operation-turned : (w : Refusal) → first_of L ≡ Refused w → turned_down w ≡ proposed L n c o
+  pub operation-turned : (w : Refusal) → first_of L ≡ Refused w → turned_down w ≡ proposed L n o
   unfolding proposed
   operation-turned w e =
-      let v : operation_verdict L n c o ≡ Refused w = first-append L behind ∙ ap (λ (u : Verdict). or_else u (first_of behind)) e in
-      ap (λ (u : Verdict). proposal u (size n o) (bound n o) (steps_made rounded n o) c (result rounded n o)) (sym v)
+      let v : operation_verdict L n o ≡ Refused w = first-last L (factor_test n o) ∙ ap (λ (u : Verdict). or_else u (factor_test n o)) e in
+      ap (λ (u : Verdict). proposal u (size n o) (bound n o) (steps_made rounded n o) (result rounded n o)) (sym v)
 
-  by-range : (u t : Bool)
-      → cond u (turned_down (record { number = 20; offset = 0 }))
-      (cond t (turned_down (record { number = 14; offset = 0 }))
-      (record { answer = answer.Done (bound n o) (steps_made rounded n o); rows = size n o; count = c; factors = table_of (size n o) (result rounded n o) }))
-      ≡ proposal (first_of (when u 20 ∷ when t 14 ∷ [])) (size n o) (bound n o) (steps_made rounded n o) c (result rounded n o)
-  unfolding first_behind
-  by-range true t = refl
-  by-range false true = refl
-  by-range false false = refl
+  by-range : (t : Bool)
+      → cond t (turned_down (record { number = 14; offset = 0 }))
+      (record { answer = answer.Done (bound n o) (steps_made rounded n o); rows = size n o; factors = table_of (size n o) (result rounded n o) })
+      ≡ proposal (when t 14) (size n o) (bound n o) (steps_made rounded n o) (result rounded n o)
+  by-range true = refl
+  by-range false = refl
 
-  pub operation-ranged : first_of L ≡ Accepted → (x : Refactored) → x ≡ result_of n o → ranged_of x c ≡ proposed L n c o
+  pub operation-ranged : first_of L ≡ Accepted → (x : Refactored) → x ≡ result_of n o → ranged_of x ≡ proposed L n o
   unfolding proposed ranged_of
   operation-ranged e x f =
       let b = result rounded n o in
-      let v : operation_verdict L n c o ≡ first_of behind = first-append L behind ∙ ap (λ (u : Verdict). or_else u (first_of behind)) e in
-      ap (λ (r : Refactored). ranged_of r c) f
-      ∙ by-range (ltb most_count c) (outside (table_of (size n o) b))
-      ∙ ap (λ (t : Bool). proposal (first_of (count_test c ∷ when t 14 ∷ [])) (size n o) (bound n o) (steps_made rounded n o) c b) (outside-table (size n o) b (ready e).fits)
-      ∙ ap (λ (u : Verdict). proposal u (size n o) (bound n o) (steps_made rounded n o) c b) (sym v)
+      let v : operation_verdict L n o ≡ factor_test n o = first-last L (factor_test n o) ∙ ap (λ (u : Verdict). or_else u (factor_test n o)) e in
+      ap ranged_of f
+      ∙ by-range (outside (table_of (size n o) b))
+      ∙ ap (λ (t : Bool). proposal (when t 14) (size n o) (bound n o) (steps_made rounded n o) b) (outside-table (size n o) b (ready e).fits)
+      ∙ ap (λ (u : Verdict). proposal u (size n o) (bound n o) (steps_made rounded n o) b) (sym v)
 
-  answered : (y : Proposed) → y ≡ proposed L n c o → (y ≡ proposed L n c o) × Keepable t y
+  answered : (y : Proposed) → y ≡ proposed L n o → (y ≡ proposed L n o) × Keepable t y
   unfolding proposed
-  answered = result-answered t (size n o) (bound n o) (steps_made rounded n o) c (result rounded n o) (operation_verdict L n c o) operation-fits
+  answered = result-answered t (size n o) (bound n o) (steps_made rounded n o) (result rounded n o) (operation_verdict L n o) operation-fits
 
   -- the two ways in which a result is answered
-  pub answered-turned : (w : Refusal) (y : Proposed) → first_of L ≡ Refused w → y ≡ turned_down w → (y ≡ proposed L n c o) × Keepable t y
+  pub answered-turned : (w : Refusal) (y : Proposed) → first_of L ≡ Refused w → y ≡ turned_down w → (y ≡ proposed L n o) × Keepable t y
   answered-turned w y e f = answered y (f ∙ operation-turned w e)
 
-  pub answered-ranged : (x : Refactored) (y : Proposed) (d : ℕ) → first_of L ≡ Accepted → x ≡ result_of n o → y ≡ ranged_of x d → d ≡ c
-      → (y ≡ proposed L n c o) × Keepable t y
-  answered-ranged x y d e f g h = answered y (g ∙ ap (ranged_of x) h ∙ operation-ranged e x f)
+  pub answered-ranged : (x : Refactored) (y : Proposed) → first_of L ≡ Accepted → x ≡ result_of n o → y ≡ ranged_of x → (y ≡ proposed L n o) × Keepable t y
+  answered-ranged x y e f g = answered y (g ∙ operation-ranged e x f)
 
   module _ (s : Shelf) (good : Good s) where
-    pub operation-good : Good (operation_call s L t n c o).shelf
+    pub operation-good : Good (operation_call s L t n o).shelf
     unfolding operation_call
     operation-good =
-        result-good t (size n o) c (result rounded n o) (operation_verdict L n c o) operation-fits s good (done (bound n o) (steps_made rounded n o))
+        result-good t (size n o) (result rounded n o) (operation_verdict L n o) operation-fits s good (done (bound n o) (steps_made rounded n o))
 
-    pub operation-met : operation_verdict L n c o ≡ Accepted → Met (holding s t (size n o) c (result rounded n o)) t n o (bound n o) (steps_made rounded n o)
+    pub operation-met : operation_verdict L n o ≡ Accepted → Met (holding s t (size n o) (result rounded n o)) t n o (bound n o) (steps_made rounded n o)
     operation-met e = record {
       bound-is = refl;
       steps-are = refl;
       foretold = ready-foretold (ready (verdict e).0);
-      held = result-held t (size n o) c (result rounded n o) (operation_verdict L n c o) operation-fits s good e;
+      held = result-held t (size n o) (result rounded n o) (operation_verdict L n o) operation-fits s good e;
       demand = operation-demand (verdict e).0;
       close = ready-close (ready (verdict e).0);
     }
 
-    pub operation-done : (x : Proposed) (y : Operated) → x ≡ proposed L n c o → (y ≡ kept s t x) × Good y.shelf
-        → (operated_outcome y ≡ operation_call s L t n c o) × (Good y.shelf × Promised y.shelf t n o y.answer)
+    pub operation-done : (x : Proposed) (y : Operated) → x ≡ proposed L n o → (y ≡ kept s t x) × Good y.shelf
+        → (operated_outcome y ≡ operation_call s L t n o) × (Good y.shelf × Promised y.shelf t n o y.answer)
     unfolding operation_call proposed
     operation-done =
-        result-done (λ s k e. Met s t n o k e) s t (size n o) (bound n o) (steps_made rounded n o) c (result rounded n o) (operation_verdict L n c o) operation-met
+        result-done (λ s k e. Met s t n o k e) s t (size n o) (bound n o) (steps_made rounded n o) (result rounded n o) (operation_verdict L n o) operation-met
 
 -- THE TESTS OF A SUBMATRIX: those of its places and sets (`chosen-fit`), and then that it is not singular (`chosen-turned`, `chosen-tested`)
 module _ (s : Shelf) (p I J t : ℕ) where

@@ -1,6 +1,7 @@
 // The operations on places: transpose, product, re-signed inverse, converse, submatrix, Schur complement, recipes of steps joined; minors; and a place filled
 // from time stamps. A result is worked first and kept by a step of its own.
 #![tactic(auto)]
+
 ghost use Rattle.std.specs.Prelude.{◌≡◌};
 ghost use Rattle.places.specs.Shelf.{rows_at, Good};
 ghost use Rattle.operations.specs.Operations.{product_at, inverse_at, converse_at, submatrix_at, schur_at, joined_rows, joined_at};
@@ -39,7 +40,6 @@ pub enum Performed {
 pub struct Proposed {
     answer: Performed,
     rows: usize,
-    count: u32,
     factors: [Number; 64],
 }
 

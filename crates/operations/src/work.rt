@@ -1,33 +1,18 @@
 // The operations: a result is worked first (`Proposed`) and kept by a step of its own.
-ghost use Rattle.std.specs.Prelude.{◌≡◌, map, ◌+◌, ◌*◌, ◌^◌, ◌<◌, ◌≤◌, length};
+ghost use Rattle.std.specs.Prelude.{◌≡◌, map, ◌≤◌, ◌<◌, length};
 ghost use Rattle.verdict.specs.Verdict.{first_of};
-<<<<<<< HEAD
 ghost use Rattle.conditions.specs.Conditions.{sources_to};
 ghost use Rattle.recipes.specs.Recipe.{place_of, places_in, steps_in, slot_at};
 ghost use Rattle.places.specs.Shelf.{rows_at, Good};
 ghost use Rattle.operations.specs.Operations.{submatrix_at, submatrix_tests, schur_at, clamped_tests, step_with, joined_rows, joined_at};
 ghost use Rattle.operations.specs.Proposed.{turned_down, transpose_proposal, build_proposal, proposed, kept, filled_by, ranged_of, Keepable, Made};
-=======
-ghost use Rattle.operations.specs.Operations.{product_at, taken_at, submatrix_at, submatrix_tests, schur_at, sum_of, two_counts, one_count};
-ghost use Rattle.operations.specs.Operations.{steps_in, place_of, slot_at, step_with, count_with, recipe_rows, recipe_count, recipe_at, recipe_tests};
-ghost use Rattle.operations.specs.Proposed.{turned_down, transpose_proposal, build_proposal, proposed, kept, filled_by, ranged_of, counted_by, Keepable};
->>>>>>> 172a746 (i)
-use crate::Bounded;
-use crate::Filled;
-use crate::Operated;
-use crate::Performed;
-use crate::Proposed;
-use crate::value;
-use places::Shelf;
-use places::judge;
+
+use crate::{Bounded, Filled, Operated, Performed, Proposed, value};
+use places::{Shelf, judge};
 use recipes::Recipe;
 use rule::Refactored;
-use verdict::Refusal;
-use verdict::Verdict;
-use verdict::test;
-use walk::Joined;
-use walk::Way;
-use walk::source;
+use verdict::{Refusal, Verdict, test};
+use walk::{Joined, Way, source};
 
 // What is proposed where a call is turned down: no rows.
 fn turned_down(why: Refusal) -> Proposed
@@ -37,7 +22,6 @@ fn turned_down(why: Refusal) -> Proposed
     Proposed {
         answer: Performed::Refused(why),
         rows: 0,
-        count: 0,
         factors,
     }
 }
@@ -52,7 +36,7 @@ pub fn keep(shelf: Shelf, target: usize, res: Proposed) -> Operated
     match answer {
         Performed::Done { bound, steps } => {
             let factors = res.factors;
-            let after = places::with_table(shelf, target, res.rows, res.count, factors);
+            let after = places::with_table(shelf, target, res.rows, factors);
             Operated {
                 shelf: after,
                 answer: Performed::Done { bound, steps },
@@ -94,12 +78,10 @@ pub fn transposed(shelf: Shelf, source: usize, target: usize) -> Proposed
         return turned_down(why);
     }
     let rows = places::rows_at(shelf, source);
-    let count = places::count_at(shelf, source);
     let factors = table::exchanged(places::table_at(shelf, source));
     Proposed {
         answer: Performed::Done { bound: 0, steps: 0 },
         rows,
-        count,
         factors,
     }
 }
@@ -122,33 +104,14 @@ pub fn built(shelf: Shelf, target: usize, stamps: &[u64]) -> Proposed
             steps: 0,
         },
         rows: stamps.len(),
-        count: 11,
         factors,
     }
 }
 
-// The count of a result: its bound, and 4n² times the sum of the sources' counts.
-fn counted(bound: u32, n: usize, sum: u64) -> u64
-    requires { (n ≤ 8) × (sum ≤ 6 * 2 ^ 32) }
-    ensures { result ≡ bound + 4 * (n * n) * sum }
+// What the rule handed back: no result where a new factor has an exponent outside -1000 to 1000.
+fn ranged(res: Refactored) -> Proposed
+    ensures { result ≡ ranged_of res }
 {
-    let square = 4 * (n * n) as u64;
-    bound as u64 + square * sum
-}
-
-// What the rule handed back from sources of n rows whose counts have this sum: no result where the new count would exceed 16,777,216, nor where a new factor
-// has an exponent outside -1000 to 1000.
-fn ranged(res: Refactored, n: usize, sum: u64) -> Proposed
-    requires { (n ≤ 8) × (sum ≤ 6 * 2 ^ 32) }
-    ensures { result ≡ ranged_of res (counted_by res n sum) }
-{
-    let count = counted(res.bound, n, sum);
-    if 16777216 < count {
-        return turned_down(Refusal {
-            number: 20,
-            offset: 0,
-        });
-    }
     let factors = res.factors;
     if table::outside(factors) {
         return turned_down(Refusal {
@@ -156,81 +119,17 @@ fn ranged(res: Refactored, n: usize, sum: u64) -> Proposed
             offset: 0,
         });
     }
-    let kept = count as u32;
     Proposed {
         answer: Performed::Done {
             bound: res.bound,
             steps: res.steps,
         },
         rows: res.rows,
-        count: kept,
         factors,
     }
 }
 
-<<<<<<< HEAD
 // The steps of a recipe put one after the other, in their order, as a word of n rows.
-=======
-pub fn product(shelf: Shelf, left: usize, right: usize, target: usize) -> Proposed
-    requires { Good shelf }
-    ensures value { result ≡ proposed (two_sources shelf left right target) (rows_at shelf left) (two_counts shelf left right (product_at shelf left right)) (product_at shelf left right) }
-    ensures keepable { Keepable target result }
-{
-    let first = judge::two_sources(shelf, left, right, target);
-    if let Verdict::Refused(why) = first {
-        return turned_down(why);
-    }
-    let n = places::rows_at(shelf, left);
-    let b = places::table_at(shelf, left);
-    let c = places::table_at(shelf, right);
-    let mut letters = [0u16; 342];
-    let mut sources = [0u64; 768];
-    let none = source::no_steps(n);
-    let one = source::put_step(none, &mut letters, &mut sources, Way::Plain, b);
-    let both = source::put_step(one, &mut letters, &mut sources, Way::Plain, c);
-    let all = rowset::run(1, n);
-    let result = rule::work(both, &letters, &sources, b, all, all, 0);
-    let sum = places::count_at(shelf, left) as u64 + places::count_at(shelf, right) as u64;
-    ranged(result, n, sum)
-}
-
-// One source taken this way: inverted it is the re-signed inverse, conversed the converse.
-pub fn of_whole(shelf: Shelf, way: Way, source: usize, target: usize) -> Proposed
-    requires { Good shelf }
-    ensures value { result ≡ proposed (one_source shelf source target) (rows_at shelf source) (one_count shelf source (taken_at (way_of way) shelf source)) (taken_at (way_of way) shelf source) }
-    ensures keepable { Keepable target result }
-{
-    let first = judge::one_source(shelf, source, target);
-    if let Verdict::Refused(why) = first {
-        return turned_down(why);
-    }
-    let n = places::rows_at(shelf, source);
-    let b = places::table_at(shelf, source);
-    let mut letters = [0u16; 342];
-    let mut sources = [0u64; 768];
-    let none = source::no_steps(n);
-    let word = source::put_step(none, &mut letters, &mut sources, way, b);
-    let all = rowset::run(1, n);
-    let result = rule::work(word, &letters, &sources, b, all, all, 0);
-    let sum = places::count_at(shelf, source) as u64;
-    ranged(result, n, sum)
-}
-
-// The places in all slots of a recipe.
-pub fn slot_places(recipe: RecipeSteps) -> [usize; 6]
-    ensures { result ≡ map place_of recipe.steps }
-{
-    let steps = recipe.steps;
-    let mut places = [0usize; 6];
-    for c in 0..6usize {
-        let step = steps[c];
-        places[c] = step.place;
-    }
-    places
-}
-
-// The steps of a recipe of n rows put one after the other, in their order.
->>>>>>> 172a746 (i)
 fn put_steps(
     shelf: Shelf,
     recipe: Recipe,
@@ -254,34 +153,11 @@ fn put_steps(
     word
 }
 
-<<<<<<< HEAD
 // The words of one to six steps, joined: the rule is run once.
 pub fn joined(shelf: Shelf, recipe: Recipe, target: usize) -> Proposed
     requires { Good shelf × (1 ≤ recipe.count) × (recipe.count ≤ 6) }
-    ensures { result ≡ proposed (sources_to (rows_at shelf) (places_in recipe) target) (joined_rows shelf recipe) (joined_at shelf recipe) }
-=======
-// The sum of the counts of a recipe's sources, one for each step.
-fn step_counts(shelf: Shelf, recipe: RecipeSteps) -> u64
-    requires { recipe.count ≤ 6 }
-    ensures { (result ≡ sum_of (map (count_with shelf) (steps_in recipe))) × (result ≤ 6 * 2 ^ 32) }
-{
-    let steps = recipe.steps;
-    let many = recipe.count;
-    let mut sum = 0u64;
-    for c in 0..many {
-        let step = steps[c];
-        let own = places::count_at(shelf, step.place);
-        sum = sum + own as u64;
-    }
-    sum
-}
-
-// The words of a recipe's steps, joined.
-pub fn recipe(shelf: Shelf, recipe: RecipeSteps, target: usize) -> Proposed
-    requires { Good shelf }
-    ensures { result ≡ proposed (recipe_tests shelf recipe target) (recipe_rows shelf recipe) (recipe_count shelf recipe) (recipe_at shelf recipe) }
->>>>>>> 172a746 (i)
-    ensures { Keepable target result }
+    ensures value { result ≡ proposed (sources_to (rows_at shelf) (places_in recipe) target) (joined_rows shelf recipe) (joined_at shelf recipe) }
+    ensures keepable { Keepable target result }
 {
     let first = judge::sources_to(shelf, recipe, target);
     if let Verdict::Refused(why) = first {
@@ -293,14 +169,8 @@ pub fn recipe(shelf: Shelf, recipe: RecipeSteps, target: usize) -> Proposed
     let mut sources = [0u64; 768];
     let word = put_steps(shelf, recipe, n, &mut letters, &mut sources);
     let all = rowset::run(1, n);
-<<<<<<< HEAD
     let blank = table::blank();
     ranged(rule::work(word, &letters, &sources, blank, all, all, 0))
-=======
-    let result = rule::work(word, &letters, &sources, b, all, all, 0);
-    let sum = step_counts(shelf, recipe);
-    ranged(result, n, sum)
->>>>>>> 172a746 (i)
 }
 
 // The tests of a submatrix before its factors are worked. Whether it is singular is asked of sets that fit.
@@ -333,7 +203,7 @@ pub fn submatrix(
     target: usize,
 ) -> Proposed
     requires { Good shelf × (rows < 256) × (columns < 256) }
-    ensures value { result ≡ proposed (submatrix_tests shelf source rows columns target) (rows_at shelf source) (one_count shelf source (submatrix_at shelf source rows columns)) (submatrix_at shelf source rows columns) }
+    ensures value { result ≡ proposed (submatrix_tests shelf source rows columns target) (rows_at shelf source) (submatrix_at shelf source rows columns) }
     ensures keepable { Keepable target result }
 {
     let first = submatrix_tests(shelf, source, rows, columns, target);
@@ -346,15 +216,13 @@ pub fn submatrix(
     let mut sources = [0u64; 768];
     let none = source::no_steps(n);
     let word = source::put_step(none, &mut letters, &mut sources, Way::Plain, b);
-    let result = rule::work(word, &letters, &sources, b, rows, columns, 0);
-    let sum = places::count_at(shelf, source) as u64;
-    ranged(result, n, sum)
+    ranged(rule::work(word, &letters, &sources, b, rows, columns, 0))
 }
 
 // What remains after the first k rows and columns, which are joined to every row and column set.
 pub fn schur(shelf: Shelf, source: usize, k: usize, target: usize) -> Proposed
     requires { Good shelf }
-    ensures value { result ≡ proposed (clamped_tests shelf source k target) (rows_at shelf source) (one_count shelf source (schur_at shelf source k)) (schur_at shelf source k) }
+    ensures value { result ≡ proposed (clamped_tests shelf source k target) (rows_at shelf source) (schur_at shelf source k) }
     ensures keepable { Keepable target result }
 {
     let n = places::rows_at(shelf, source);
@@ -369,7 +237,5 @@ pub fn schur(shelf: Shelf, source: usize, k: usize, target: usize) -> Proposed
     let none = source::no_steps(n);
     let plain = source::put_step(none, &mut letters, &mut sources, Way::Plain, b);
     let all = rowset::run(1, n);
-    let result = rule::work(plain, &letters, &sources, b, all, all, k);
-    let sum = places::count_at(shelf, source) as u64;
-    ranged(result, n, sum)
+    ranged(rule::work(plain, &letters, &sources, b, all, all, k))
 }

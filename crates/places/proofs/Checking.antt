@@ -24,8 +24,8 @@ use Rattle.table.specs.Table.{absent, cell_of, factors_of, padded, table_of}
 use Rattle.table.proofs.RowByRow.{row_below}
 use Rattle.table.proofs.Table.{within-cases, table-list, factors-within}
 use Rattle.places.specs.declared.Shelf.{Shelf}
-use Rattle.places.specs.Shelf.{rows_at, count_at, table_at, factors_at, count_limit, Fits, Good}
-use Rattle.places.specs.Check.{is_stored, is_zero, back, continues, sound, few, few_at, few_rows, sound_at, sound_numbers, is_good}
+use Rattle.places.specs.Shelf.{rows_at, table_at, factors_at, Fits, Good}
+use Rattle.places.specs.Check.{is_stored, is_zero, back, continues, sound, few_rows, sound_at, sound_numbers, is_good}
 use Rattle.places.proofs.Asked.{zero-tested, stored_is, stored-tested, continued-zero, continued-stored, continued-tested, asked, asked-within}
 use Rattle.places.proofs.Asked.{asked-off, sound-asked, back_below, back_above}
 use Rattle.places.proofs.Holding.{number_at}
@@ -77,12 +77,9 @@ module _ (s : Shelf) (all : length s.numbers ≡ 512) (p : ℕ) (place : p < 8) 
     unfolding is_good
     parts = (and-eq-true_iff (few_rows s) (sound_numbers s)).0 tested
 
-    sized : (leb n 8 ≡ true) × (leb (count_at s p) (count_limit n) ≡ true)
-    unfolding few_rows few
-    sized = (and-eq-true_iff (leb n 8) (leb (count_at s p) (count_limit n))).0 (all-each (few_at s) 8 parts.0 p place)
-
     few-of : n ≤ 8
-    few-of = leb-true n 8 sized.0
+    unfolding few_rows
+    few-of = leb-true n 8 (all-each (λ p. leb (rows_at s p) 8) 8 parts.0 p place)
 
     passed : (i j : ℕ) → In 8 i → In 8 j → asked n i j (before i j) (b i j) ≡ true
     unfolding sound_numbers
@@ -132,11 +129,11 @@ module _ (s : Shelf) (all : length s.numbers ≡ 512) (p : ℕ) (place : p < 8) 
         sym e
         ∙ asked-within (leb (suc i) n && leb (suc j) n) _ (b (suc i) (suc j)) (passed (suc i) (suc j) (omega arith, omega arith) (omega arith, omega arith)))
 
-    fits-of : Fits n (count_at s p) (table_at s p)
-    fits-of = record { few = few-of; counted = leb-true (count_at s p) (count_limit n) sized.1; banded = banded-of; rest = rest-is }
+    fits-of : Fits n (table_at s p)
+    fits-of = record { few = few-of; banded = banded-of; rest = rest-is }
 
   -- and what fits passes
-  module _ (fits : Fits n (count_at s p) (table_at s p)) (i j : ℕ) (row : In 8 i) (column : In 8 j) where
+  module _ (fits : Fits n (table_at s p)) (i j : ℕ) (row : In 8 i) (column : In 8 j) where
     held-there : b i j ≡ padded n b i j
     held-there = ap (λ (t : List Number). factors_of t i j) fits.rest ∙ factors-within n b i j row column
 
@@ -166,18 +163,14 @@ module _ (s : Shelf) (all : length s.numbers ≡ 512) (p : ℕ) (place : p < 8) 
         row.0 column.0 (λ x y e. cell-passes x y) (λ e. subst (λ a. is_zero a ≡ true) (sym e) zero-tested) held-there
 
 -- THE SHELF
-pub tested-good : (s : Shelf) → length s.sizes ≡ 8 → length s.numbers ≡ 512 → length s.counts ≡ 8 → is_good s ≡ true → Good s
-tested-good s eight all counts e = record { places = eight; numbers = all; counts = counts; held = λ p h. fits-of s all p h e }
+pub tested-good : (s : Shelf) → length s.sizes ≡ 8 → length s.numbers ≡ 512 → is_good s ≡ true → Good s
+tested-good s eight all e = record { places = eight; numbers = all; held = λ p h. fits-of s all p h e }
 
 pub good-tested : (s : Shelf) → Good s → is_good s ≡ true
-unfolding is_good few few_rows sound_numbers
+unfolding is_good few_rows sound_numbers
 good-tested s g =
     (and-eq-true_iff (few_rows s) (sound_numbers s)).1 (
-      all-below (few_at s) 8
-          (λ p h.
-          let f = g.held p h in
-          (and-eq-true_iff (leb (rows_at s p) 8) (leb (count_at s p) (count_limit (rows_at s p)))).1
-          (le-leb (rows_at s p) 8 f.few, le-leb (count_at s p) (count_limit (rows_at s p)) f.counted)),
+      all-below (λ p. leb (rows_at s p) 8) 8 (λ p h. le-leb (rows_at s p) 8 (g.held p h).few),
       all-below (sound_at s) 512
           (λ k h.
           let p : k / 64 < 8 = (div-lt_iff_lt-mul {k = 64} {x = k} {y = 8} (omega arith)).1 (omega arith) in

@@ -18,8 +18,8 @@ use Rattle.arrays.specs.Below.{all_below}
 use Rattle.arrays.proofs.Below.{all-below, all-each}
 use Rattle.table.specs.Table.{absent}
 use Rattle.places.specs.declared.Shelf.{Shelf}
-use Rattle.places.specs.Shelf.{rows_at, count_at, count_limit}
-use Rattle.places.specs.Check.{is_zero, back, sound, few, few_at, few_rows, sound_at, sound_numbers, is_good}
+use Rattle.places.specs.Shelf.{rows_at}
+use Rattle.places.specs.Check.{is_zero, back, sound, few_rows, sound_at, sound_numbers, is_good}
 use Rattle.places.proofs.Checking.{sound-there}
 
 -- A TEST OF ALL NUMBERS BELOW n
@@ -82,7 +82,7 @@ sound-behind n k x a h =
 module _ (s : Shelf) where
   -- the places before p, and k numbers of place p
   pub record Passed (p k : ℕ) : Type 0 where
-    pub rows : Seen (few_at s) 8 p
+    pub rows : Seen (λ i. leb (rows_at s i) 8) 8 p
     pub numbers : Seen (sound_at s) 512 (p * 64 + k)
 
   pub all-passed : (p : ℕ) → Passed p 0 → 8 ≤ p → is_good s ≡ true
@@ -90,27 +90,14 @@ module _ (s : Shelf) where
   all-passed p w h = (and-eq-true_iff (few_rows s) (sound_numbers s)).1 (seen_all _ w.rows h, seen_all _ w.numbers (omega arith))
 
   module _ (p : ℕ) (place : p < 8) where
-    place-failed : few_at s p ≡ false → is_good s ≡ false
-    unfolding is_good few_rows
-    place-failed h = ap (λ t. t && sound_numbers s) (all-fails (few_at s) 8 p place h)
-
     pub rows-failed : 8 < rows_at s p → is_good s ≡ false
-    unfolding few
-    rows-failed h = place-failed (ap (λ t. t && leb (count_at s p) (count_limit (rows_at s p))) (lt-leb (rows_at s p) 8 h))
+    unfolding is_good few_rows
+    rows-failed h = ap (λ t. t && sound_numbers s) (all-fails _ 8 p place (lt-leb (rows_at s p) 8 h))
 
-    pub count-failed : (l : ℕ) → l ≡ count_limit (rows_at s p) → l < count_at s p → is_good s ≡ false
-    unfolding few
-    count-failed l e h =
-        place-failed
-        (unless (few_at s p)
-        (λ g. true≢false (sym ((and-eq-true_iff (leb (rows_at s p) 8) (leb (count_at s p) (count_limit (rows_at s p)))).0 g).1 ∙ lt-leb (count_at s p) _ (subst (λ (l : ℕ). l < count_at s p) e h))))
-
-    pub place-passed : Passed p 64 → rows_at s p ≤ 8 → (l : ℕ) → l ≡ count_limit (rows_at s p) → count_at s p ≤ l → Passed (p + 1) 0
-    unfolding few
-    place-passed w h l e g =
+    pub place-passed : Passed p 64 → rows_at s p ≤ 8 → Passed (p + 1) 0
+    place-passed w h =
         record {
-          rows = seen_more _ w.rows place
-              ((and-eq-true_iff (leb (rows_at s p) 8) (leb (count_at s p) (count_limit (rows_at s p)))).1 (le-leb (rows_at s p) 8 h, le-leb (count_at s p) _ (subst (λ (l : ℕ). count_at s p ≤ l) e g)));
+          rows = seen_more _ w.rows place (le-leb (rows_at s p) 8 h);
           numbers = subst (Seen (sound_at s) 512) (omega arith) w.numbers;
         }
 

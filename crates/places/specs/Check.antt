@@ -5,7 +5,7 @@ use Rattle.number.specs.declared.Number.{Number}
 use Rattle.number.specs.Number.{bias, in_range}
 use Rattle.table.specs.Table.{absent}
 use Rattle.places.specs.declared.Shelf.{Shelf}
-use Rattle.places.specs.Shelf.{rows_at, count_at, count_limit}
+use Rattle.places.specs.Shelf.{rows_at}
 
 unfoldable pub is_stored : Number → Bool
 is_stored a = leb (2 ^ 31) a.m && (ltb a.m (2 ^ 32) && in_range a)
@@ -26,16 +26,9 @@ unfoldable pub sound : ℕ → ℕ → (before a : Number) → Bool
 sound n k before a =
     cond (leb (suc (k / 8)) n && leb (suc (k % 8)) n) (cond (eqb (k / 8) (k % 8)) (is_stored a) (continues before a)) (is_zero a)
 
--- at most eight rows, and a count that such a place can have
-unfoldable pub few : (n c : ℕ) → Bool
-few n c = leb n 8 && leb c (count_limit n)
-
--- so at each place
-abbrev pub few_at : Shelf → ℕ → Bool
-few_at s p = few (rows_at s p) (count_at s p)
-
+-- at most eight rows at each place
 unfoldable pub few_rows : Shelf → Bool
-few_rows s = all_below 8 (few_at s)
+few_rows s = all_below 8 (λ p. leb (rows_at s p) 8)
 
 abbrev pub sound_at : Shelf → ℕ → Bool
 sound_at s k = sound (rows_at s (k / 64)) (k % 64) (get_or s.numbers (k - back (k % 64)) absent) (get_or s.numbers k absent)

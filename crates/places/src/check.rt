@@ -1,6 +1,6 @@
 // Whether a shelf may be one that the calls made: for callers whose shelf nothing vouches for.
 ghost use Rattle.std.specs.Prelude.{◌≡◌, true, ◌≤◌, eqb};
-ghost use Rattle.places.specs.Shelf.{count_limit, Good};
+ghost use Rattle.places.specs.Shelf.{Good};
 ghost use Rattle.places.specs.Check.{is_stored, is_zero, back, continues, sound, is_good};
 
 use crate::Shelf;
@@ -75,30 +75,15 @@ fn sound(n: usize, k: usize, before: Number, a: Number) -> bool
     continues(before, a)
 }
 
-// The largest count that a place with n rows can have.
-fn limit(n: usize) -> u32
-    ensures { result ≡ count_limit n }
-{
-    if n == 0 {
-        return 0;
-    }
-    16777216
-}
-
 // A good shelf: at most eight rows at each place, accepted factors in them, and zeros elsewhere. The numbers behind the rows are tested at once.
 pub fn is_good(shelf: Shelf) -> bool
     ensures value { result ≡ is_good shelf }
     ensures good { result ≡ true → Good shelf }
 {
     let sizes = shelf.sizes;
-    let counts = shelf.counts;
     for p in 0..8usize {
         let n = sizes[p] as usize;
         if 8 < n {
-            return false;
-        }
-        let count = counts[p];
-        if limit(n) < count {
             return false;
         }
         for k in 0..n * 8 {

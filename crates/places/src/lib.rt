@@ -1,21 +1,20 @@
 // The shelf: eight places, each empty or holding a matrix. It goes in by value and comes back; what a place holds is read and put here.
 #![tactic(auto)]
+
 ghost use Rattle.std.specs.Prelude.{◌≡◌, ◌<◌};
-ghost use Rattle.places.specs.Shelf.{rows_at, count_at, table_at, with_table, empty_shelf, Fits, Good};
+ghost use Rattle.places.specs.Shelf.{rows_at, table_at, with_table, empty_shelf, Fits, Good};
 
 use number::Number;
 
 pub mod check; // check.rt: the test of a shelf that nothing vouches for
 pub mod judge; // judge.rt: the tests of the calls
 
-// Eight places of 64 numbers each, the rows of the matrix at each, 0 where the place is empty, and its count: how many unit roundings it is from the drawing,
-// at most.
+// Eight places of 64 numbers each, and the rows of the matrix at each, 0 where the place is empty.
 #[repr(C)]
 #[derive(Drop)]
 pub struct Shelf {
     numbers: [Number; 512],
     sizes: [u8; 8],
-    counts: [u32; 8],
 }
 
 // All places empty.
@@ -27,7 +26,6 @@ pub fn new() -> Shelf
     Shelf {
         numbers: [zero; 512],
         sizes: [0u8; 8],
-        counts: [0u32; 8],
     }
 }
 
@@ -40,17 +38,6 @@ pub fn rows_at(shelf: Shelf, place: usize) -> usize
     }
     let sizes = shelf.sizes;
     sizes[place] as usize
-}
-
-// The count of a place, 0 where it is empty or above 7.
-pub fn count_at(shelf: Shelf, place: usize) -> u32
-    ensures { result ≡ count_at shelf place }
-{
-    if place > 7 {
-        return 0;
-    }
-    let counts = shelf.counts;
-    counts[place]
 }
 
 // The 64 numbers of a place.
@@ -67,10 +54,10 @@ pub fn table_at(shelf: Shelf, place: usize) -> [Number; 64]
     t
 }
 
-// A table of n rows put at a place, with a count.
-pub fn with_table(shelf: Shelf, place: usize, n: usize, count: u32, t: [Number; 64]) -> Shelf
-    requires { Good shelf × (place < 8) × Fits n count t }
-    ensures value { result ≡ with_table shelf place n count t }
+// A table of n rows put at a place.
+pub fn with_table(shelf: Shelf, place: usize, n: usize, t: [Number; 64]) -> Shelf
+    requires { Good shelf × (place < 8) × Fits n t }
+    ensures value { result ≡ with_table shelf place n t }
     ensures good { Good result }
 {
     let mut left = shelf;
@@ -80,6 +67,5 @@ pub fn with_table(shelf: Shelf, place: usize, n: usize, count: u32, t: [Number; 
         left.numbers[at] = x;
     }
     left.sizes[place] = n as u8;
-    left.counts[place] = count;
     left
 }

@@ -1,6 +1,7 @@
 // Which minors of a joined word are not zero (document 02, request (e)), by a walk of Bools; and the latest set of rows with such a minor. Where no factor is
 // zero no minor is, and nothing is walked.
 #![tactic(auto)]
+
 ghost use Rattle.std.specs.Prelude.{◌≡◌, true, ◌+◌, ◌-◌, ◌*◌, ◌^◌, ◌≤◌, ◌<◌};
 ghost use Rattle.number.specs.Number.{rounded};
 ghost use Rattle.rowset.specs.Mask.{mask_count, mask_moves};

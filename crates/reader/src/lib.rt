@@ -1,6 +1,7 @@
 // Reads a matrix from bytes (document 01, "Bytes" and "Turned down for the input"): n, then its factors row by row, each an exponent code and,
 // unless that is 0, the rest of a mantissa. Also the part of a bundle behind its first matrix.
 #![tactic(auto)]
+
 ghost use Rattle.std.specs.Prelude.{◌≡◌, [], suc, ◌*◌, ◌/◌, ◌%◌, ◌^◌, ◌≤◌, ◌<◌, length, take};
 ghost use Rattle.table.specs.Table.{square_of};
 ghost use Rattle.reader.specs.Matrix.{Reading, item_at, ItemInside, mantissa_at, before_in_line, judged_code, factor_at, FactorInside, factors_from};

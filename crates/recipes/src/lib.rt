@@ -1,6 +1,7 @@
 // Recipes (document 02, (f)): steps, each a place number together with the way it is taken. Two to six of them make a recipe; the operations that document 01
 // names have one step or two.
 #![tactic(auto)]
+
 ghost use Rattle.std.specs.Prelude.{◌≡◌};
 ghost use Rattle.recipes.specs.Recipe.{one_step, two_steps};
 

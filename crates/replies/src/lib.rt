@@ -1,5 +1,6 @@
 // The console's words: the answer to a line, on one shelf.
 #![tactic(auto)]
+
 mod answer; // answer.rt: the answer to a line
 mod calls; // calls.rt: the calls, with their answers
 mod items; // items.rt: list items, as they are lent

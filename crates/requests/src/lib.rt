@@ -1,5 +1,6 @@
 // Requests: what a line asks of the console.
 #![tactic(auto)]
+
 mod commands; // commands.rt: the words of the console, and what follows each
 mod items; // items.rt: list items
 mod lists; // lists.rt: what is read of a list

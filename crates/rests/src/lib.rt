@@ -1,6 +1,7 @@
 // Add, multiply and divide of positive numbers, with what rounding took away: the rounded result, and the exact rest beside it.
 // Each works its rest from the result that the number's own add, mul or div gives, by whole numbers and with no further rounding.
 #![tactic(auto)]
+
 ghost use Rattle.std.specs.Prelude.{◌≡◌, ◌^◌, ◌≤◌, ◌<◌};
 ghost use Rattle.rests.specs.Rest.{odd_part, rest_of, sum_rounded, product_rounded, quotient_rounded, worked_by, PositivePair};
 ghost use Rattle.rests.specs.Rest.{rest_integer, rest_exponent, Small};

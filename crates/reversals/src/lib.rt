@@ -1,5 +1,6 @@
 // Reversals of a list of items: nonzero items of opposite sign with only zeros between, counted in one pass.
 #![tactic(auto)]
+
 ghost use Rattle.std.specs.Prelude.{◌≡◌, ◌≤◌, take};
 ghost use Rattle.reversals.specs.Reversals.{turn, latest, reversals};
 

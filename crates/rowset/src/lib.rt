@@ -1,5 +1,6 @@
 // Row sets as masks of eight bits, bit 0 for row 1, by shifts and masks.
 #![tactic(auto)]
+
 pub mod lent; // lent.rt: the tables, held once by a caller and lent
 pub mod sets; // sets.rt: how many sets of k rows there are, and sets put apart for two rows
 mod set_table; // set_table.rt: the sets of k rows, one after the other, and their counts

@@ -1,6 +1,7 @@
 // New factors (document 01, "The rounded rule"; with zeros, document 02, (e)): each from minors of a joined word, worked afresh, by the formulas; and `work`,
 // which every operation calls. The steps of the minors are added up (document 02, (k)).
 #![tactic(auto)]
+
 ghost use Rattle.std.specs.Prelude.{◌≡◌, true, false, ◌+◌, ◌-◌, ◌^◌, ◌≤◌, ◌<◌};
 ghost use Rattle.number.specs.Number.{rounded, Ranged};
 ghost use Rattle.rowset.specs.Mask.{mask_count};

@@ -1,5 +1,6 @@
 // Refusals in words: the sentence of a refusal's number, its offset and places, for a panel to show.
 #![tactic(auto)]
+
 ghost use Rattle.std.specs.Prelude.{◌≡◌, ◌≤◌, length};
 ghost use Rattle.lines.specs.Text.{Puts, decimal, spaced};
 ghost use Rattle.writer.specs.Encoding.{writing_report, bytes_after_writing, written_report};

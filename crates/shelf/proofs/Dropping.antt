@@ -27,7 +27,7 @@ module _ (s : Shelf) (p : ℕ) where
   module _ (good : Good s) where
     pub drop-good : Good (drop_call s p).shelf
     unfolding drop_call
-    drop-good = after-good s (without s p) good (first_of (source_tests s p)) (λ e. good-put s good p 0 0 _ (source-accepted s p e).small (fits-none _))
+    drop-good = after-good s (without s p) good (first_of (source_tests s p)) (λ e. good-put s good p 0 _ (source-accepted s p e).small (fits-none _))
 
     pub drop-answered : (x : Changed) → changed_outcome x ≡ drop_call s p → (changed_outcome x ≡ drop_call s p) × Good x.shelf
     drop-answered x e = (e, subst Good (sym (ap (λ (o : Outcome). o.shelf) e)) drop-good)

@@ -1,9 +1,5 @@
-<<<<<<< HEAD
 -- P1 TO P12 HOLD (marked-examples), and the examples with zeros (banded-examples), of recipes (recipe-examples) and of clamped rows (schur-examples): both
 -- sides of each row compute to the same.
-=======
--- P1 TO P12 HOLD (marked-examples), and the examples with zeros (banded-examples), of recipes (recipe-examples), of Schur complements (schur-examples) and of counts (counted-examples): both sides of each row compute to the same.
->>>>>>> 172a746 (i)
 use mathlib.Core.Path.{refl}
 use mathlib.Core.Bool.{xor}
 use lib.Ieee.{size}
@@ -22,31 +18,22 @@ use Rattle.verdict.specs.Verdict.{first_behind}
 use Rattle.items.specs.Items.{storable, signed_item, list_of, list_numbers}
 use Rattle.lists.specs.Lists.{carried_vector, any_outside}
 use Rattle.table.specs.Table.{factors_of, table_of, square_of, outside}
-<<<<<<< HEAD
 use Rattle.places.specs.Shelf.{rows_at, table_at, with_table, empty_shelf}
 use Rattle.operations.specs.Operations.{operation_call, minor_at, minor_call}
-=======
-use Rattle.places.specs.Shelf.{rows_at, count_at, table_at, with_table, empty_shelf}
-use Rattle.places.specs.Tests.{each_tested}
-use Rattle.operations.specs.Operations.{sum_of, operation_call, transpose_call, build_call, minor_at, minor_call, slot_at}
-use Rattle.powers.specs.Stamps.{product_from, stamp_factor}
-use Rattle.stamps.specs.Stamps.{some_stamp, not_increasing, mistimed}
-use Rattle.operations.specs.Codes.{step_by, recipe_by}
->>>>>>> 172a746 (i)
 use Rattle.operations.specs.Forecast.{forecast_call, recipe_forecast}
 use Rattle.group.specs.Group.{group_in, bytes_in}
 use Rattle.writer.specs.Encoding.{factor_bytes, factors_bytes, encoding}
 use Rattle.reader.specs.Matrix.{item_at, mantissa_at, judged_code, factor_at, factors_from, matrix_of}
-use Rattle.shelf.specs.Calls.{load_call, bytes_at, write_call, length_call, carry_call, count_call}
+use Rattle.shelf.specs.Calls.{load_call, bytes_at, write_call, length_call, carry_call}
 use Rattle.shelf.specs.Run.{run}
-use Rattle.shelf.specs.Examples.{marked_table, banded_table, recipe_table, schur_table, counted_table}
+use Rattle.shelf.specs.Examples.{marked_table, banded_table, recipe_table, schur_table}
 
 pub marked-examples : AllHold marked_table
 unfolding marked_table has put count equal rows of_mask among ascending descending word inverse_word converse_word joined_word one_at moved scaled act walk minor
     carry carry_letter some latest all_before latest_before on_diagonal below_diagonal banded_below factors_by value result row_by_row
     round_by renormalised sum_by product_by quotient_by in_range
     signed_round signed_sum signed_product with_sign size lib.Ieee.span lib.Ieee.climb xor mask_has count_to mask_count mask_beyond
-    factors_of table_of outside rows_at count_at table_at with_table empty_shelf first_behind sum_of
+    factors_of table_of outside rows_at table_at with_table empty_shelf first_behind
     storable signed_item list_of list_numbers carried_vector any_outside operation_call minor_at minor_call carry_call run
     sets_with updated total sum_over factor_steps steps_made choose quotient_steps forecast_call bytes_in factor_bytes factors_bytes encoding bytes_at length_call
 marked-examples = (
@@ -86,7 +73,7 @@ unfolding banded_table has put count equal rows of_mask among ascending descendi
     carry carry_letter some latest all_before latest_before on_diagonal below_diagonal banded_below factors_by value result row_by_row
     round_by renormalised sum_by product_by quotient_by in_range
     signed_round signed_sum signed_product with_sign size lib.Ieee.span lib.Ieee.climb xor mask_has count_to mask_count mask_beyond
-    factors_of table_of square_of outside rows_at count_at table_at with_table empty_shelf first_behind sum_of
+    factors_of table_of square_of outside rows_at table_at with_table empty_shelf first_behind
     group_in bytes_in factor_bytes factors_bytes encoding item_at mantissa_at judged_code factor_at factors_from matrix_of load_call bytes_at write_call
     storable signed_item list_of list_numbers carried_vector any_outside operation_call minor_at minor_call carry_call run
     sets_with updated total sum_over factor_steps steps_made choose quotient_steps forecast_call
@@ -97,35 +84,14 @@ pub recipe-examples : AllHold recipe_table
 unfolding recipe_table has put count equal rows ascending descending word inverse_word converse_word transposed_word joined_word one_at moved scaled act walk minor
     some latest all_before latest_before on_diagonal below_diagonal banded_below factors_by result row_by_row
     round_by renormalised sum_by product_by quotient_by in_range size lib.Ieee.span lib.Ieee.climb xor
-<<<<<<< HEAD
     factors_of table_of outside rows_at table_at with_table empty_shelf first_behind operation_call run
     sets_with updated total sum_over factor_steps steps_made choose quotient_steps recipe_forecast
 recipe-examples = (refl, (refl, (refl, (refl, (refl, (refl, (refl, tt)))))))
-=======
-    factors_of table_of outside rows_at count_at table_at with_table empty_shelf first_behind sum_of each_tested slot_at step_by recipe_by operation_call run
-    sets_with updated total sum_over factor_steps steps_made choose factor_foretold recipe_forecast
-recipe-examples = (refl, (refl, (refl, (refl, (refl, (refl, (refl, (refl, (refl, (refl, (refl, (refl, (refl, tt)))))))))))))
->>>>>>> 172a746 (i)
 
 pub schur-examples : AllHold schur_table
 unfolding schur_table has put count equal rows ascending descending word joined_word one_at moved scaled act walk minor
     some latest all_before latest_before on_diagonal below_diagonal banded_below factors_by result row_by_row
     round_by renormalised sum_by product_by quotient_by in_range size lib.Ieee.span lib.Ieee.climb xor
-<<<<<<< HEAD
     factors_of table_of outside rows_at table_at with_table empty_shelf first_behind operation_call run
     sets_with updated total sum_over factor_steps steps_made choose quotient_steps forecast_call
 schur-examples = (refl, (refl, (refl, (refl, (refl, tt)))))
-=======
-    factors_of table_of outside rows_at count_at table_at with_table empty_shelf first_behind sum_of operation_call run
-    sets_with updated total sum_over factor_steps steps_made choose factor_foretold forecast_call
-schur-examples = (refl, (refl, (refl, (refl, (refl, (refl, (refl, (refl, tt))))))))
-
-pub counted-examples : AllHold counted_table
-unfolding counted_table has put count equal rows of_mask among ascending descending word inverse_word joined_word one_at moved scaled act walk minor
-    some latest all_before latest_before on_diagonal below_diagonal banded_below factors_by value result row_by_row
-    round_by renormalised sum_by product_by quotient_by in_range size lib.Ieee.span lib.Ieee.climb mask_has count_to mask_count mask_beyond
-    factors_of table_of outside rows_at count_at table_at with_table empty_shelf first_behind sum_of
-    some_stamp not_increasing mistimed product_from stamp_factor operation_call transpose_call build_call count_call run
-    sets_with updated total sum_over factor_steps steps_made slot_at step_by recipe_by each_tested transposed_word xor
-counted-examples = (refl, (refl, (refl, (refl, (refl, (refl, (refl, (refl, (refl, (refl, (refl, (refl, tt))))))))))))
->>>>>>> 172a746 (i)

@@ -77,10 +77,10 @@ square-taken n numbers =
     (λ i j x y. sym (get_or-take (n * n) numbers ((i - 1) * n + (j - 1)) zero_number (square-below n (i - 1) (j - 1) (omega arith) (omega arith))))
 
 -- what was read fits a place
-pub read_fits : (s : List ℕ) → Bytes s → (n : ℕ) (L : List Number) (q : ℕ) → matrix_of s ≡ matrix n L q → Fits n 0 (table_of n (square_of n L))
+pub read_fits : (s : List ℕ) → Bytes s → (n : ℕ) (L : List Number) (q : ℕ) → matrix_of s ≡ matrix n L q → Fits n (table_of n (square_of n L))
 read_fits s bs n L q e =
     let w = (matrix-read s bs n L q e).storable in
-    fits-table n 0 (square_of n L) w.few (omega arith) w.banded
+    fits-table n (square_of n L) w.few w.banded
 
 -- THE RESULT, by what was found
 module _ (s : Shelf) (p : ℕ) (bytes : List ℕ) where
@@ -106,18 +106,18 @@ module _ (s : Shelf) (p : ℕ) (bytes : List ℕ) where
 
     module _ (n : ℕ) (L : List Number) (q : ℕ) (f : matrix_of bytes ≡ matrix n L q) where
       abbrev by : Bool → Outcome
-      by t = changing (cond t (refused_at 7 q) Accepted) s (holding s p n 0 (square_of n L))
+      by t = changing (cond t (refused_at 7 q) Accepted) s (holding s p n (square_of n L))
 
       pub load-behind : q < length bytes → changing (refused_at 7 q) s s ≡ load_call s p bytes
       load-behind h = ap by (sym (lt-ltb q (length bytes) h)) ∙ load_read (matrix n L q) e f
 
-      pub load-done : length bytes ≤ q → changing Accepted s (holding s p n 0 (square_of n L)) ≡ load_call s p bytes
+      pub load-done : length bytes ≤ q → changing Accepted s (holding s p n (square_of n L)) ≡ load_call s p bytes
       load-done h = ap by (sym (le-ltb q (length bytes) h)) ∙ load_read (matrix n L q) e f
 
   -- THE SHELF STAYS GOOD
   module _ (good : Good s) (bs : Bytes bytes) where
     read-good : p < 8 → (w : Reading) → matrix_of bytes ≡ w → Good (read_to s p w)
-    read-good small (matrix n L q) e = good-put s good p n 0 _ small (read_fits bytes bs n L q e)
+    read-good small (matrix n L q) e = good-put s good p n _ small (read_fits bytes bs n L q e)
     read-good small (fault k o) e = good
 
     pub load-good : Good (load_call s p bytes).shelf

@@ -1,9 +1,9 @@
 -- DEMAND 2 of the shelf: bytes written for a matrix read back as that matrix (`write-load`), at most 449 of them (`write-short`), and accepted bytes are the
 -- ones that the writer makes (`load-write`).
--- A matrix that is loaded and dropped, or put with any count and dropped, leaves the shelf as it was (`load-drop`).
+-- A matrix that is loaded and dropped leaves the shelf as it was (`load-drop`).
 use Prim.Native.Nat.{ℕ, ◌≤◌, ◌<◌}
 use native.Mathlib.Omega.{arith}
-use mathlib.Core.Path.{◌≡◌, refl, sym, ap, ap₂, subst, ◌∙◌}
+use mathlib.Core.Path.{◌≡◌, refl, sym, ap, ◌∙◌}
 use mathlib.Core.Bool.{Bool, true, false, cond}
 use mathlib.Core.List.{List, [], append-nil}
 use lib.Dec.{ltb}
@@ -23,7 +23,7 @@ use Rattle.reader.proofs.RoundTrip.{matrix-written, matrix-read}
 use Rattle.places.specs.declared.Shelf.{Shelf}
 use Rattle.verdict.specs.declared.Verdict.TheVariants.{Accepted}
 use Rattle.table.specs.Table.{square_of}
-use Rattle.places.specs.Shelf.{rows_at, count_at, factors_at, with_table, holding, without, count_limit, Good}
+use Rattle.places.specs.Shelf.{rows_at, factors_at, with_table, holding, without, Good}
 use Rattle.verdict.specs.Verdict.{first_of, refused_at}
 use Rattle.places.specs.Tests.{target_tests}
 use Rattle.table.proofs.RowByRow.{row-by-row-same}
@@ -50,10 +50,10 @@ module _ (s : Shelf) (good : Good s) (q : ℕ) (held : Source (rows_at s) q) whe
   write-short = encoding-short (rows_at s q) (row_by_row (rows_at s q) (factors_at s q)) storable
 
   pub write-load : (t : Shelf) (p : ℕ) → first_of (target_tests t p) ≡ Accepted
-      → changing Accepted t (holding t p (rows_at s q) 0 (factors_at s q)) ≡ load_call t p (bytes_at s q)
+      → changing Accepted t (holding t p (rows_at s q) (factors_at s q)) ≡ load_call t p (bytes_at s q)
   write-load t p e =
       let n = rows_at s q in
-      ap (λ (u : List Number). changing Accepted t (with_table t p n 0 u))
+      ap (λ (u : List Number). changing Accepted t (with_table t p n u))
       (sym (table_same n (square_of n (row_by_row n (factors_at s q))) (factors_at s q) (square-factors n (factors_at s q))))
       ∙ load-done t p (bytes_at s q) e n (row_by_row n (factors_at s q)) (length (bytes_at s q)) read_back (omega arith)
 
@@ -74,11 +74,11 @@ module _ (s : Shelf) (good : Good s) (p : ℕ) (bytes : List ℕ) (bs : Bytes by
       let l : length bytes ≤ q = whole (ltb q (length bytes)) q (length bytes) refl f in
       let small : p < 8 = (target-accepted (rows_at s) p passed.0).small in
       let fits = read_fits bytes bs n L q e in
-      let new : load_call s p bytes ≡ changing Accepted s (holding s p n 0 (square_of n L)) = sym (load-done s p bytes passed.0 n L q e l) in
-      let r : rows_at (holding s p n 0 (square_of n L)) p ≡ n = rows-held s good p n 0 (table_of n (square_of n L)) small fits in
+      let new : load_call s p bytes ≡ changing Accepted s (holding s p n (square_of n L)) = sym (load-done s p bytes passed.0 n L q e l) in
+      let r : rows_at (holding s p n (square_of n L)) p ≡ n = rows-held s good p n (table_of n (square_of n L)) small fits in
       rw (new, r)
       (ap (encoding n)
-      (row-by-row-same zero_number n _ (square_of n L) (factors-held s good p n 0 (square_of n L) small fits) ∙ square-list n L m.storable.square)
+      (row-by-row-same zero_number n _ (square_of n L) (factors-held s good p n (square_of n L) small fits) ∙ square-list n L m.storable.square)
       ∙ sym m.taken ∙ take_all q bytes l)
   written-by (fault k o) e f = absurd (let z : ◌≡◌ {A = ℕ} 0 1 = cc in omega arith)
 
@@ -86,12 +86,9 @@ module _ (s : Shelf) (good : Good s) (p : ℕ) (bytes : List ℕ) (bs : Bytes by
   load-write = written-by (matrix_of bytes) refl passed.1
 
 -- LOADED AND DROPPED
-pub load-drop : (s : Shelf) → Good s → (p n c : ℕ) (b : Factors Number) → p < 8 → rows_at s p ≡ 0 → without (holding s p n c b) p ≡ s
-load-drop s good p n c b small none =
-    let z : count_at s p ≤ count_limit 0 = subst (λ (m : ℕ). count_at s p ≤ count_limit m) none (good.held p small).counted in
-    let d : 0 ≡ count_at s p = omega (arith, z) in
-    put-put s p 0 0 (table_of 0 (λ i j. zero_number)) small good.places good.numbers good.counts (table-length 0 (λ i j. zero_number)) n c (table_of n b)
-    (table-length n b)
-    ∙ ap (with_table s p 0 0) (table_same 0 (λ i j. zero_number) (factors_at s p) (λ i j x y. absurd (omega arith)))
-    ∙ ap₂ (λ (m c : ℕ). holding s p m c (factors_at s p)) (sym none) d
+pub load-drop : (s : Shelf) → Good s → (p n : ℕ) (b : Factors Number) → p < 8 → rows_at s p ≡ 0 → without (holding s p n b) p ≡ s
+load-drop s good p n b small none =
+    put-put s p 0 (table_of 0 (λ i j. zero_number)) small good.places good.numbers (table-length 0 (λ i j. zero_number)) n (table_of n b) (table-length n b)
+    ∙ ap (with_table s p 0) (table_same 0 (λ i j. zero_number) (factors_at s p) (λ i j x y. absurd (omega arith)))
+    ∙ ap (λ (m : ℕ). holding s p m (factors_at s p)) (sym none)
     ∙ put-held s good p small

@@ -7,27 +7,18 @@ use Rattle.places.specs.Shelf.{rows_at, empty_shelf, Good}
 use Rattle.places.specs.Tests.{one_source, two_sources}
 use Rattle.places.specs.Outcome.{Outcome}
 use Rattle.places.proofs.Holding.{good-empty}
-<<<<<<< HEAD
 use Rattle.operations.specs.declared.Task.{Task}
 use Rattle.operations.specs.declared.Task.TheVariants.{Product, Inverse, Converse, Transpose, Submatrix, Schur}
 use Rattle.operations.specs.Forecast.{task_call}
 use Rattle.operations.specs.Operations.{product_at, inverse_at, converse_at, submatrix_at, submatrix_tests, schur_at, clamped_tests}
 use Rattle.operations.specs.Operations.{joined_rows, joined_at, recipe_tests}
-=======
-use Rattle.operations.specs.Operations.{product_at, inverse_at, converse_at, submatrix_at, submatrix_tests, schur_at, recipe_rows, recipe_at, recipe_tests, recipe_count, two_counts, one_count}
->>>>>>> 172a746 (i)
 use Rattle.operations.proofs.Proposals.{transpose-good}
 use Rattle.operations.proofs.Building.{build-good}
 use Rattle.operations.proofs.Results.{submatrix-ready, schur-ready, operation-good}
 use Rattle.operations.proofs.Recipes.{product-ready, whole_ready, recipe-ready}
 use Rattle.shelf.specs.Calls.{write_call, carry_call}
-<<<<<<< HEAD
 use Rattle.shelf.specs.Run.{Call, load, write, byte_length, drop, operate, forecast, recipe, forecast_recipe, build, minor}
 use Rattle.shelf.specs.Run.{carry, reversals, arithmetic, rest, sentence, rows, factor}
-=======
-use Rattle.shelf.specs.Run.{Call, load, write, drop, product, inverse, converse, submatrix, schur, transpose, build, recipe, minor, byte_length, forecast, forecast_recipe}
-use Rattle.shelf.specs.Run.{carry, reversals, arithmetic, rest, sentence, count, rows, factor}
->>>>>>> 172a746 (i)
 use Rattle.shelf.specs.Run.{Given, AllGiven, run, after_each, after_calls}
 use Rattle.shelf.proofs.Loading.{load-good}
 use Rattle.shelf.proofs.Dropping.{drop-good}
@@ -44,20 +35,6 @@ pub run-good : (s : Shelf) → Good s → (c : Call) → Given c → Good (run s
 unfolding run write_call carry_call
 run-good s g (load p bytes) h = load-good s p bytes g h
 run-good s g (write p out) h = g
-<<<<<<< HEAD
-=======
-run-good s g (drop p) h = drop-good s p g
-run-good s g (product l r t) h = operation-good (two_sources s l r t) t (rows_at s l) (two_counts s l r (product_at s l r)) (product_at s l r) (product-ready s g l r t) s g
-run-good s g (inverse p t) h = operation-good (one_source s p t) t (rows_at s p) (one_count s p (inverse_at s p)) (inverse_at s p) (whole_ready s g inverted p t) s g
-run-good s g (converse p t) h = operation-good (one_source s p t) t (rows_at s p) (one_count s p (converse_at s p)) (converse_at s p) (whole_ready s g conversed p t) s g
-run-good s g (submatrix p I J t) h = operation-good (submatrix_tests s p I J t) t (rows_at s p) (one_count s p (submatrix_at s p I J)) (submatrix_at s p I J) (submatrix-ready s g p I J t) s g
-run-good s g (schur p k t) h = operation-good (clamped_tests s p k t) t (rows_at s p) (one_count s p (schur_at s p k)) (schur_at s p k) (schur-ready s g p k t) s g
-run-good s g (transpose p t) h = transpose-good s p t g
-run-good s g (build t stamps) h = build-good s t stamps g
-run-good s g (recipe r t) h =
-    operation-good (recipe_tests s r t) t (recipe_rows s r) (recipe_count s r) (recipe_at s r) (λ e. recipe-ready s r t h e g) s g
-run-good s g (minor p I J) h = g
->>>>>>> 172a746 (i)
 run-good s g (byte_length p) h = g
 run-good s g (drop p) h = drop-good s p g
 run-good s g (operate o t) h = task-good s g o t
@@ -71,7 +48,6 @@ run-good s g (reversals items) h = g
 run-good s g (arithmetic o items) h = g
 run-good s g (rest bytes) h = g
 run-good s g (sentence a out) h = g
-run-good s g (count p) h = g
 run-good s g (rows p) h = g
 run-good s g (factor p i j) h = g
 

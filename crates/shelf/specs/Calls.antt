@@ -1,12 +1,6 @@
 -- Load, drop, write and carry (document 01, "Shelf calls"): what each leaves and returns, refused calls included. The bytes that writing takes (`length_call`).
-<<<<<<< HEAD
 -- Reading a place: its rows (`rows_call`) and factors (`factor_call`).
-use Rattle.std.specs.Prelude.{ℕ, ◌≤◌, ◌<◌, ◌≡◌}
-=======
--- Reading a place: its rows (`rows_call`) and factors (`factor_call`). The count of a place (document 02, (i)): `count_call`.
-use Rattle.std.specs.Prelude.{ℕ}
->>>>>>> 172a746 (i)
-use Rattle.std.specs.Prelude.{cond, ◌&&◌, List, [], ◌∷◌, ◌++◌, ltb, leb, ℤ, pos, length}
+use Rattle.std.specs.Prelude.{ℕ, ◌≤◌, ◌<◌, ◌≡◌, cond, ◌&&◌, List, [], ◌∷◌, ◌++◌, ltb, leb, ℤ, pos, length}
 use Rattle.std.proofs.lemmas.List.Edits.{sets}
 use Rattle.number.specs.declared.Number.{Number}
 use Rattle.number.specs.Number.{zero_number, exponent_of}
@@ -21,7 +15,7 @@ use Rattle.verdict.specs.Verdict.{first_of, after, when, refused_at}
 use Rattle.verdict.specs.Report.{Report, accepted, refused, report_of, verdict_report}
 use Rattle.places.specs.declared.Shelf.{Shelf}
 use Rattle.table.specs.Table.{square_of}
-use Rattle.places.specs.Shelf.{rows_at, count_at, factors_at, holding, without}
+use Rattle.places.specs.Shelf.{rows_at, factors_at, holding, without}
 use Rattle.places.specs.Outcome.{Outcome, outcome}
 use Rattle.places.specs.Tests.{source_tests, target_tests}
 
@@ -29,7 +23,7 @@ use Rattle.places.specs.Tests.{source_tests, target_tests}
 abbrev pub changing : Verdict → Shelf → Shelf → Outcome
 changing v old new = outcome (after v old new) (verdict_report v)
 
--- LOAD: what is loaded has the count 0
+-- LOAD
 -- 2 to 6, or 16: a fault in the matrix, at its offset; 7: bytes behind it
 abbrev pub of_reading : List ℕ → Reading → Verdict
 of_reading bytes (matrix n L q) = cond (ltb q (length bytes)) (refused_at 7 q) Accepted
@@ -39,7 +33,7 @@ abbrev pub load_tests : Shelf → ℕ → List ℕ → List Verdict
 load_tests s p bytes = target_tests s p ++ (of_reading bytes (matrix_of bytes) ∷ [])
 
 abbrev pub read_to : Shelf → ℕ → Reading → Shelf
-read_to s p (matrix n L q) = holding s p n 0 (square_of n L)
+read_to s p (matrix n L q) = holding s p n (square_of n L)
 read_to s p (fault k o) = s
 
 unfoldable pub load_call : Shelf → ℕ → List ℕ → Outcome
@@ -88,10 +82,6 @@ carrying s p items out v = record { shelf = s; report = verdict_report v; bytes 
 
 unfoldable pub carry_call : Shelf → ℕ → (items out : List ℤ) → Outcome
 carry_call s p items out = carrying s p items out (first_of (place_carry_tests s p items out))
-
--- THE COUNT of a place
-unfoldable pub count_call : Shelf → ℕ → Report
-count_call s p = report_of (first_of (source_tests s p)) (pos (count_at s p) ∷ [])
 
 -- THE ROWS of a place, 0 where it is empty or above 7
 abbrev pub rows_call : Shelf → ℕ → Report

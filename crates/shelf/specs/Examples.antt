@@ -1,11 +1,6 @@
 -- Document 01's marked examples, P1 to P12, as rows of one table (`marked_table`): P1 to P4 of the arithmetic beneath the calls, the others as calls on a shelf,
-<<<<<<< HEAD
 -- with what is returned and what is then held. Worked examples of places with zeros (`banded_table`), of recipes (`recipe_table`),
 -- and of clamped rows (`schur_table`).
-=======
--- with what is returned and what is then held. Worked examples of places with zeros (`banded_table`), of recipes (`recipe_table`), of Schur complements (`schur_table`),
--- and of counts (`counted_table`).
->>>>>>> 172a746 (i)
 use Rattle.std.specs.Prelude.{ℕ, ◌+◌, ◌-◌, ◌^◌, true, cond, ◌&&◌, List, [], ◌∷◌, ◌++◌, ltb, eqb, pos, negsuc, length}
 use Rattle.number.specs.declared.Number.{Number}
 use Rattle.number.specs.Number.{zero_number, one_number, sum_of, product_of}
@@ -15,39 +10,30 @@ use Rattle.words.specs.Operation.{row_by_row}
 use Rattle.words.specs.Examples.{ones, higher, half, three_halves, two, five_halves, three, large}
 use Rattle.items.specs.Examples.{plus_one_item, minus_one_item, zero_item}
 use Rattle.lists.specs.Examples.{lent_seven}
-<<<<<<< HEAD
 use Rattle.verdict.specs.Verdict.{refused_at}
 use Rattle.verdict.specs.Report.{accepted, refused}
 use Rattle.walk.specs.declared.Way.TheVariants.{Plain, Inverted, Conversed, Transposed}
 use Rattle.recipes.specs.declared.RecipeStep.{RecipeStep}
 use Rattle.recipes.specs.declared.Recipe.{Recipe}
 use Rattle.recipes.specs.Recipe.{taken}
-=======
-use Rattle.verdict.specs.Report.{Report, accepted, refused}
->>>>>>> 172a746 (i)
 use Rattle.places.specs.declared.Shelf.{Shelf}
 use Rattle.places.specs.Shelf.{factors_at, holding, empty_shelf}
 use Rattle.places.specs.Outcome.{Outcome}
 use Rattle.operations.specs.declared.Task.TheVariants as Task
-<<<<<<< HEAD
 use Rattle.operations.specs.Operations.{factor_test, submatrix_at, singular}
 use Rattle.shelf.specs.Run.{load, write, product, inverse, converse, submatrix, schur, minor, byte_length, forecast, recipe, forecast_recipe, carry, run}
-=======
-use Rattle.operations.specs.Codes.{recipe_by}
-use Rattle.shelf.specs.Run.{load, write, product, inverse, converse, submatrix, schur, transpose, build, recipe, minor, byte_length, forecast, forecast_recipe, carry, count, run}
->>>>>>> 172a746 (i)
 
 -- place 0 holds n rows with all factors one
 abbrev ones_of : ℕ → Shelf
-ones_of n = holding empty_shelf 0 n 0 ones
+ones_of n = holding empty_shelf 0 n ones
 
 -- and place 1 the source with two above the diagonal
 abbrev unlike : Shelf
-unlike = holding (ones_of 2) 1 2 0 higher
+unlike = holding (ones_of 2) 1 2 higher
 
 -- one row: a number at place 0, one at place 1, two at place 2
 abbrev singles : Number → Shelf
-singles a = holding (holding (holding empty_shelf 0 1 0 (λ i j. a)) 1 1 0 ones) 2 1 0 (λ i j. two)
+singles a = holding (holding (holding empty_shelf 0 1 (λ i j. a)) 1 1 ones) 2 1 (λ i j. two)
 
 -- the factors that place 7 holds after a call, k rows
 abbrev held : ℕ → Outcome → List Number
@@ -83,7 +69,7 @@ beside i j = cond (ltb 1 (i - j + (j - i))) zero_number one_number
 
 -- three rows of these at place 0
 abbrev banded : Shelf
-banded = holding empty_shelf 0 3 0 beside
+banded = holding empty_shelf 0 3 beside
 
 -- three rows at place 0, whose matrix is a 0 0, a² 1 0, 0 0 1 with a = 2 ^ 1031
 abbrev steep : Shelf
@@ -130,26 +116,12 @@ recipe_table =
     row (run unlike (recipe (steps (taken Plain 0 ∷ taken Plain 1 ∷ [])) 7)) (run unlike (product 0 1 7))  -- two plain steps: the product call
     ∷ row (held 2 (run unlike (recipe (steps (taken Plain 0 ∷ taken Transposed 1 ∷ [])) 7)))
     (three ∷ down 2863311531 31 ∷ down 3579139413 31 ∷ down 2863311531 33 ∷ [])  -- times the transpose: 3 4, 5 7, so 3, 4/3, 5/3, 1/3
-<<<<<<< HEAD
     ∷ row (held 2 (run unlike (recipe (steps (taken Inverted 1 ∷ taken Conversed 0 ∷ [])) 7)))
     (down (2 ^ 31) 28 ∷ down 2684354560 32 ∷ down 3221225472 33 ∷ down (2 ^ 31) 34 ∷ [])  -- 3 2, 1 1 times 2 1, 1 1: 8 5, 3 2, so 8, 5/8, 3/8, 1/8
     ∷ row (run unlike (recipe three_steps 7)).report (accepted (pos 75 ∷ pos 36 ∷ []))  -- 4 × 3 × 6 + 3
     ∷ row (run unlike (forecast_recipe three_steps)).report (accepted (pos 36 ∷ []))
     ∷ row (run unlike (recipe (steps (taken Plain 0 ∷ [])) 9)).report (refused 18 0)  -- 18 before 1
     ∷ row (run unlike (forecast_recipe (steps (taken Plain 9 ∷ [])))).report (refused 18 0)
-=======
-    ∷ row (run unlike (recipe (recipe_by (0 ∷ 7 ∷ 1 ∷ [])) 7)).report (accepted (pos 75 ∷ pos 36 ∷ []))  -- three steps of two rows: 4 × 3 × 6 + 3
-    ∷ row (run unlike (forecast_recipe (recipe_by (0 ∷ 7 ∷ 1 ∷ [])))).report (accepted (pos 36 ∷ []))  -- its steps foretold
-    ∷ row (bound_of 6 8) 2883
-    ∷ row (run unlike (recipe (recipe_by (0 ∷ [])) 9)).report (refused 18 0)  -- 18 before 1
-    ∷ row (run unlike (recipe (recipe_by (0 ∷ 0 ∷ 0 ∷ 0 ∷ 0 ∷ 0 ∷ 0 ∷ [])) 7)).report (refused 18 0)
-    ∷ row (run unlike (recipe (recipe_by (0 ∷ 8 ∷ [])) 9)).report (refused 1 0)  -- the target above 7 before the empty place 2
-    ∷ row (run unlike (recipe (recipe_by (0 ∷ 8 ∷ [])) 1)).report (refused 11 0)
-    ∷ row (run unlike (recipe (recipe_by (0 ∷ 4 ∷ [])) 1)).report (refused 12 0)
-    ∷ row (run (holding unlike 2 3 0 ones) (recipe (recipe_by (0 ∷ 8 ∷ [])) 7)).report (refused 13 0)
-    ∷ row (run unlike (forecast_recipe (recipe_by (0 ∷ [])))).report (refused 18 0)
-    ∷ row (run (holding unlike 2 3 0 ones) (forecast_recipe (recipe_by (0 ∷ 8 ∷ [])))).report (refused 13 0)
->>>>>>> 172a746 (i)
     ∷ []
 
 -- three rows of ones multiply out to 1 2 1, 2 5 3, 1 3 3; behind row and column 1 there remains 5 3, 3 3 minus 4 2, 2 1, which is 1 1, 1 2
@@ -160,28 +132,4 @@ schur_table =
     ∷ row (run (ones_of 3) (forecast (Task.Schur 0 1))).report (accepted (pos 66 ∷ []))
     ∷ row (run (ones_of 3) (schur 0 3 7)).report (refused 8 0)
     ∷ row (run (ones_of 3) (forecast (Task.Schur 0 0))).report (refused 8 0)
-    ∷ []
-
--- COUNTS (document 02, (i)): at place 0 n rows with all factors one, and with the count c
-abbrev counted : ℕ → ℕ → Shelf
-counted n c = holding empty_shelf 0 n c ones
-
--- the count of place 7 after a call
-abbrev count_after : Outcome → Report
-count_after x = (run x.shelf (count 7)).report
-
-unfoldable pub counted_table : List Row
-counted_table =
-    row (count_after (run (counted 2 0) (product 0 0 7))) (accepted (pos 51 ∷ []))  -- of loaded sources: the bound
-    ∷ row (count_after (run (counted 2 51) (product 0 0 7))) (accepted (pos 1683 ∷ []))  -- a place used twice counts twice: 51 + 16 × 102
-    ∷ row (count_after (run (counted 3 51) (submatrix 0 6 3 7))) (accepted (pos 1899 ∷ []))  -- by the source's rows: 63 + 36 × 51
-    ∷ row (count_after (run (counted 3 51) (schur 0 1 7))) (accepted (pos 1899 ∷ []))
-    ∷ row (count_after (run (counted 2 51) (recipe (recipe_by (0 ∷ 3 ∷ 1 ∷ [])) 7))) (accepted (pos 2523 ∷ []))  -- one for each step: 75 + 16 × 153
-    ∷ row (count_after (run (counted 2 51) (transpose 0 7))) (accepted (pos 51 ∷ []))  -- a transpose keeps it
-    ∷ row (count_after (run (counted 2 51) (build 7 (3 ∷ [])))) (accepted (pos 11 ∷ []))
-    ∷ row (count_after (run (counted 1 4194302) (inverse 0 7))) (accepted (pos 16777215 ∷ []))  -- 7 + 4 × 4194302, the largest
-    ∷ row (run (counted 1 4194303) (inverse 0 7)).report (refused 20 0)
-    ∷ row (run (holding empty_shelf 0 1 4194303 (λ i j. large)) (inverse 0 7)).report (refused 20 0)  -- before 14
-    ∷ row (run empty_shelf (count 8)).report (refused 1 0)
-    ∷ row (run empty_shelf (count 7)).report (refused 11 0)
     ∷ []

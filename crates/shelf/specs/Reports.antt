@@ -1,19 +1,12 @@
--- What the answers of the shelf's own calls report: a shelf with a verdict (`changed_outcome`), a count (`counted_report`), a factor's mantissa and
--- exponent (`factor_report`).
+-- What the answers of the shelf's own calls report: a shelf with a verdict (`changed_outcome`), a factor's mantissa and exponent (`factor_report`).
 use Rattle.std.specs.Prelude.{[], ◌∷◌, pos}
-use Rattle.verdict.specs.Report.{Report, accepted, refused, verdict_report}
+use Rattle.verdict.specs.Report.{Report, accepted, verdict_report}
 use Rattle.places.specs.Outcome.{Outcome, outcome}
 use Rattle.shelf.specs.declared.Changed.{Changed}
-use Rattle.shelf.specs.declared.Counted.{Counted}
-use Rattle.shelf.specs.declared.Counted.TheVariants as counted
 use Rattle.shelf.specs.declared.Factor.{Factor}
 
 abbrev pub changed_outcome : Changed → Outcome
 changed_outcome x = outcome x.shelf (verdict_report x.verdict)
-
-abbrev pub counted_report : Counted → Report
-counted_report (counted.Count c) = accepted (pos c ∷ [])
-counted_report (counted.Refused w) = refused w.number w.offset
 
 abbrev pub factor_report : Factor → Report
 factor_report a = accepted (pos a.mantissa ∷ a.exponent ∷ [])

@@ -13,15 +13,10 @@ use Rattle.recipes.specs.declared.Recipe.{Recipe}
 use Rattle.places.specs.declared.Shelf.{Shelf}
 use Rattle.places.specs.Outcome.{Outcome, outcome}
 use Rattle.operations.specs.declared.Task.{Task}
-<<<<<<< HEAD
 use Rattle.operations.specs.declared.Task.TheVariants.{Product, Inverse, Converse, Transpose, Submatrix, Schur}
 use Rattle.operations.specs.Operations.{build_call, recipe_call, minor_call}
 use Rattle.operations.specs.Forecast.{task_call, forecast_call, recipe_forecast}
 use Rattle.shelf.specs.Calls.{load_call, drop_call, write_call, length_call, carry_call, rows_call, factor_call}
-=======
-use Rattle.operations.specs.Forecast.{forecast_call, recipe_forecast}
-use Rattle.shelf.specs.Calls.{load_call, drop_call, write_call, length_call, carry_call, count_call, rows_call, factor_call}
->>>>>>> 172a746 (i)
 
 -- a call with what it is given: places, an operation with its places and masks, a recipe, bytes, time stamps, an operator, items, what a sentence tells, and
 -- last the bytes or items that it is lent to write to. An operation and a recipe have their target behind them; a forecast has none
@@ -41,7 +36,6 @@ pub data Call : Type 0 where
   arithmetic : Operator → List ℤ → Call
   rest : List ℕ → Call
   sentence : Notice → List ℕ → Call
-  count : ℕ → Call
   rows : ℕ → Call
   factor : ℕ → ℕ → ℕ → Call
 
@@ -81,7 +75,6 @@ run s (reversals items) = outcome s (reversals_call items)
 run s (arithmetic o items) = outcome s (arithmetic_call o items)
 run s (rest bytes) = record { shelf = s; report = accepted []; bytes = behind_of bytes; items = [] }
 run s (sentence a out) = record { shelf = s; report = sentence_report a out; bytes = bytes_after_sentence a out; items = [] }
-run s (count p) = outcome s (count_call s p)
 run s (rows p) = outcome s (rows_call s p)
 run s (factor p i j) = outcome s (factor_call s p i j)
 
@@ -102,7 +95,6 @@ Given (reversals items) = Unit {0}
 Given (arithmetic o items) = Unit {0}
 Given (rest bytes) = Unit {0}
 Given (sentence a out) = Unit {0}
-Given (count p) = Unit {0}
 Given (rows p) = Unit {0}
 Given (factor p i j) = Unit {0}
 

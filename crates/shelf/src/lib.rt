@@ -1,52 +1,26 @@
 // The shelf of eight matrices, and its calls. A shelf goes in by value and comes back; a refused call hands it back as it was.
 #![tactic(auto)]
+
 ghost use Rattle.std.specs.Prelude.{◌≡◌};
 ghost use Rattle.places.specs.Shelf.{Good};
 ghost use Rattle.verdict.specs.Report.{verdict_report};
 ghost use Rattle.writer.specs.Encoding.{written_report};
 ghost use Rattle.lists.specs.Promise.{Steady};
-<<<<<<< HEAD
 ghost use Rattle.shelf.specs.Calls.{changing, load_call, drop_call, write_call, length_call, Measuring, carry_call, factor_call};
 ghost use Rattle.shelf.specs.Reports.{changed_outcome, factor_report};
-=======
-ghost use Rattle.shelf.specs.Calls.{changing, load_call, drop_call, write_call, length_call, carry_call, count_call, factor_call};
-ghost use Rattle.shelf.specs.Reports.{changed_outcome, counted_report, factor_report};
->>>>>>> 172a746 (i)
-pub use arithmetic::Operator;
-pub use arithmetic::Worked;
-pub use arithmetic::arithmetic;
-pub use lists::Reversals;
-pub use lists::count_reversals;
-pub use operations::Bounded;
-pub use operations::Filled;
-pub use operations::Foretold;
-pub use operations::Operated;
-pub use operations::Performed;
-pub use operations::Task;
-pub use operations::Valued;
-pub use operations::build;
-pub use operations::converse;
-pub use operations::forecast;
-pub use operations::forecast_recipe;
-pub use operations::inverse;
-pub use operations::minor;
-pub use operations::perform;
-pub use operations::perform_recipe;
-pub use operations::product;
-pub use operations::schur;
-pub use operations::submatrix;
-pub use operations::transpose;
-pub use places::Shelf;
+
+pub use arithmetic::{Operator, Worked, arithmetic};
+pub use lists::{Reversals, count_reversals};
+pub use operations::{
+    Bounded, Filled, Foretold, Operated, Performed, Task, Valued, build, converse, forecast,
+    forecast_recipe, inverse, minor, perform, perform_recipe, product, schur, submatrix, transpose,
+};
 use places::judge;
-pub use places::new;
-pub use places::rows_at;
+pub use places::{Shelf, new, rows_at};
 pub use reader::behind;
-pub use recipes::Recipe;
-pub use recipes::RecipeStep;
-pub use recipes::Way;
+pub use recipes::{Recipe, RecipeStep, Way};
 pub use sentences::sentence;
-pub use verdict::Refusal;
-pub use verdict::Verdict;
+pub use verdict::{Refusal, Verdict};
 pub use writer::Written;
 
 // The shelf after a call that only changes it.
@@ -54,13 +28,6 @@ pub use writer::Written;
 pub struct Changed {
     pub shelf: Shelf,
     pub verdict: Verdict,
-}
-
-#[derive(Drop)]
-pub enum Counted {
-    // The matrix at a place is within so many unit roundings of the drawing.
-    Count(u32),
-    Refused(Refusal),
 }
 
 // A mantissa times 2 to the power of an exponent.
@@ -105,7 +72,7 @@ pub fn load(shelf: Shelf, place: usize, bytes: &[u8]) -> Changed
             }
             let numbers = read.numbers;
             Changed {
-                shelf: places::with_table(shelf, place, rows, 0, table::spread(numbers, rows)),
+                shelf: places::with_table(shelf, place, rows, table::spread(numbers, rows)),
                 verdict: Verdict::Accepted,
             }
         }
@@ -127,7 +94,7 @@ pub fn drop_place(shelf: Shelf, place: usize) -> Changed
         return unchanged(shelf, why);
     }
     Changed {
-        shelf: places::with_table(shelf, place, 0, 0, table::blank()),
+        shelf: places::with_table(shelf, place, 0, table::blank()),
         verdict: Verdict::Accepted,
     }
 }
@@ -176,17 +143,6 @@ pub fn carry(shelf: Shelf, place: usize, items: &[i64], out: &mut [i64]) -> Verd
     }
     let n = places::rows_at(shelf, place);
     lists::carry(places::table_at(shelf, place), n, items, out)
-}
-
-// The count of a place: its factors are within so many unit roundings of those that its history gives exactly.
-pub fn count(shelf: Shelf, place: usize) -> Counted
-    ensures { counted_report result ≡ count_call shelf place }
-{
-    let first = judge::source(shelf, place);
-    if let Verdict::Refused(why) = first {
-        return Counted::Refused(why);
-    }
-    Counted::Count(places::count_at(shelf, place))
 }
 
 // The factor of row i and column j of a place, zero where the place holds none.

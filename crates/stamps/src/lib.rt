@@ -1,5 +1,6 @@
 // Weights from time stamps: the factors of the matrix whose row i holds the powers of stamp i, and the test of the stamps.
 #![tactic(auto)]
+
 ghost use Rattle.std.specs.Prelude.{◌≡◌, false, ◌+◌, ◌-◌, ◌≤◌, ◌<◌, length};
 ghost use Rattle.number.specs.Number.{rounded};
 ghost use Rattle.powers.specs.Stamps.{product_from};

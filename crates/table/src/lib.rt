@@ -1,6 +1,7 @@
 // A table: the factors of a matrix as 64 numbers in rows of eight. The factor of row i and column j stands at (i - 1) * 8 + (j - 1); a number that is no
 // factor is zero.
 #![tactic(auto)]
+
 ghost use Rattle.std.specs.Prelude.{◌≡◌, ◌≤◌, replicate};
 ghost use Rattle.number.specs.Number.{zero_number};
 ghost use Rattle.words.specs.Word.{exchanged};

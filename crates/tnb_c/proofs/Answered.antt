@@ -5,12 +5,7 @@ use Prim.Native.Nat.{ℕ, suc}
 use native.Mathlib.Omega.{arith}
 use mathlib.Core.Path.{◌≡◌, refl, sym, ap, ◌∙◌, subst}
 use mathlib.Core.Bool.{Bool}
-<<<<<<< HEAD
 use mathlib.Core.List.{List, [], ◌∷◌, ◌++◌}
-=======
-use mathlib.Core.List.{List, [], ◌∷◌, ◌++◌, map}
-use lib.Dec.{ltb}
->>>>>>> 172a746 (i)
 use lib.IntN.{ℤ, pos, nat_abs}
 use lib.ListN.{length, get_or}
 use Rattle.words.specs.Effort.{steps_made}
@@ -25,7 +20,6 @@ use Rattle.table.specs.Table.{outside}
 use Rattle.stamps.specs.Stamps.{mistimed, built_factors, stamp_bound}
 use Rattle.places.specs.declared.Shelf.{Shelf}
 use Rattle.places.specs.Outcome.{Outcome}
-<<<<<<< HEAD
 use Rattle.places.specs.Shelf.{rows_at, holding, Good}
 use Rattle.places.specs.Tests.{unfit, target_tests, one_source, two_sources}
 use Rattle.conditions.specs.Conditions.{miscounted, misclamped, above, each_tested, empty, full, differ, alike_tests, sources_to, choice_to}
@@ -35,15 +29,6 @@ use Rattle.recipes.specs.Recipe.{places_in}
 use Rattle.places.proofs.Checking.{good-tested}
 use Rattle.operations.specs.Operations.{resulting, done, factor_test, operation_verdict, operation_call, product_at, inverse_at, converse_at, submatrix_at}
 use Rattle.operations.specs.Operations.{singular, chosen_tests, submatrix_tests, schur_at, clamped_tests, joined_rows, joined_at, recipe_tests}
-=======
-use Rattle.places.specs.Shelf.{rows_at, holding, most_count, Good}
-use Rattle.places.specs.Tests.{above, empty, full, differ, unfit, misclamped, target_tests, one_source, two_sources, clamped_tests}
-use Rattle.places.specs.Tests.{miscounted, each_tested, alike_tests, many_sources, recipe_sources}
-use Rattle.places.proofs.Checking.{good-tested}
-use Rattle.operations.specs.Operations.{resulting, done, count_test, factor_test, operation_verdict, operation_call, product_at, inverse_at, converse_at, submatrix_at, schur_at}
-use Rattle.operations.specs.Operations.{singular, chosen_tests, submatrix_tests, steps_in, place_of, recipe_rows, recipe_at, recipe_tests}
-use Rattle.operations.specs.declared.RecipeSteps.{RecipeSteps}
->>>>>>> 172a746 (i)
 use Rattle.operations.specs.Operations.{build_tests, build_call}
 use Rattle.operations.specs.Promise.{Met, Built}
 use Rattle.operations.proofs.Results.{Ready, submatrix-ready, schur-ready, operation-met}
@@ -79,11 +64,11 @@ choice-numbered s p wrong t = one_more_lem (sources_to (rows_at s) (p ∷ []) t)
 -- A PROMISE P of the shelf, the bound and the steps
 module _ (P : Shelf → ℕ → ℕ → Type 0) where
   -- the shelf's own answer to a call whose tests have numbers: where it was accepted, P of what is held and returned
-  resulting-promises : (s : Shelf) (t k : ℕ) (values : List ℤ) (c : ℕ) (b : Factors Number) (v : Verdict) → Numbered v
-      → (v ≡ Accepted → P (holding s t k c b) (nat_abs (get_or values 0 (pos 0))) (nat_abs (get_or values 1 (pos 0))))
-      → Promising P (answer_of (resulting s t v k values c b))
-  resulting-promises s t k values c b Accepted z h g = h refl
-  resulting-promises s t k values c b (Refused w) z h g = absurd (omega (arith, z, g))
+  resulting-promises : (s : Shelf) (t k : ℕ) (values : List ℤ) (b : Factors Number) (v : Verdict) → Numbered v
+      → (v ≡ Accepted → P (holding s t k b) (nat_abs (get_or values 0 (pos 0))) (nat_abs (get_or values 1 (pos 0))))
+      → Promising P (answer_of (resulting s t v k values b))
+  resulting-promises s t k values b Accepted z h g = h refl
+  resulting-promises s t k values b (Refused w) z h g = absurd (omega (arith, z, g))
 
   -- on a good shelf the call is run
   own-promises : (s : Shelf) → Good s → (c : Call) → Promising P (answer_of (run s c)) → Promising P (answer_of (checked s c))
@@ -106,22 +91,19 @@ module _ (a : Answer) (t n : ℕ) (o : Operation Number) where
   away-answered = away-promising (λ s k e. Met s t n o k e) a
 
 -- behind the tests L
-operation-answered : (L : List Verdict) (t n d : ℕ) (o : Operation Number) → (first_of L ≡ Accepted → Ready t n o) → AllNumbered L → (s : Shelf) → Good s
-    → (c : Call) → run s c ≡ operation_call s L t n d o → Answered (answer_of (checked s c)) t n o
+operation-answered : (L : List Verdict) (t n : ℕ) (o : Operation Number) → (first_of L ≡ Accepted → Ready t n o) → AllNumbered L → (s : Shelf) → Good s
+    → (c : Call) → run s c ≡ operation_call s L t n o → Answered (answer_of (checked s c)) t n o
 unfolding operation_call
-operation-answered L t n d o ready numbers s good c e =
+operation-answered L t n o ready numbers s good c e =
     own-promises (λ s k e. Met s t n o k e) s good c
     (subst (λ (x : Outcome). Answered (answer_of x) t n o) (sym e)
-    (resulting-promises (λ s k e. Met s t n o k e) s t (size n o) (done (bound n o) (steps_made rounded n o)) d (result rounded n o) (operation_verdict L n d o)
-    (behind-numbered Accepted (L ++ (count_test d ∷ factor_test n o ∷ [])) tt
-    (all-numbered L (count_test d ∷ factor_test n o ∷ []) numbers
-    (numbered (ltb most_count d) 19, (numbered (outside (row_by_row (size n o) (result rounded n o))) 13, tt))))
-    (operation-met L t n d o ready s good)))
+    (resulting-promises (λ s k e. Met s t n o k e) s t (size n o) (done (bound n o) (steps_made rounded n o)) (result rounded n o) (operation_verdict L n o)
+    (behind-numbered Accepted (L ++ (factor_test n o ∷ [])) tt (one_more_lem L (outside (row_by_row (size n o) (result rounded n o))) 13 numbers))
+    (operation-met L t n o ready s good)))
 
 module _ (s : Shelf) (good : Good s) where
   pub product-answered : (l r t : ℕ) → Answered (answer_of (checked s (product l r t))) t (rows_at s l) (product_at s l r)
   unfolding run
-<<<<<<< HEAD
   product-answered l r t =
       operation-answered (two_sources s l r t) t _ _ (product-ready s good l r t) (sources-numbered s (l ∷ r ∷ []) t) s good (product l r t) refl
 
@@ -134,39 +116,17 @@ module _ (s : Shelf) (good : Good s) where
   unfolding run
   converse-answered p t =
       operation-answered (one_source s p t) t _ _ (whole_ready s good Conversed p t) (sources-numbered s (p ∷ []) t) s good (converse p t) refl
-=======
-  product-answered l r t = operation-answered (two_sources s l r t) t _ _ _ (product-ready s good l r t) (two-Numbered s l r t) s good (product l r t) refl
-
-  pub inverse-answered : (p t : ℕ) → Answered (answer_of (checked s (inverse p t))) t (rows_at s p) (inverse_at s p)
-  unfolding run
-  inverse-answered p t = operation-answered (one_source s p t) t _ _ _ (whole_ready s good inverted p t) (one-numbered s p t) s good (inverse p t) refl
-
-  pub converse-answered : (p t : ℕ) → Answered (answer_of (checked s (converse p t))) t (rows_at s p) (converse_at s p)
-  unfolding run
-  converse-answered p t = operation-answered (one_source s p t) t _ _ _ (whole_ready s good conversed p t) (one-numbered s p t) s good (converse p t) refl
->>>>>>> 172a746 (i)
 
   pub submatrix-answered : (p I J t : ℕ) → Answered (answer_of (checked s (submatrix p I J t))) t (rows_at s p) (submatrix_at s p I J)
   unfolding run
   submatrix-answered p I J t =
-      operation-answered (submatrix_tests s p I J t) t _ _ _ (submatrix-ready s good p I J t)
+      operation-answered (submatrix_tests s p I J t) t _ _ (submatrix-ready s good p I J t)
       (one_more_lem (chosen_tests s p I J t) (singular (rows_at s p) (submatrix_at s p I J)) 16
-<<<<<<< HEAD
       (choice-numbered s p (unfit (rows_at s p) I J) t)) s good (submatrix p I J t) refl
-=======
-      (one_more_lem (one_source s p t) (unfit (rows_at s p) I J) 7 (one-numbered s p t))) s good (submatrix p I J t) refl
-
-  pub recipe-answered : (r : RecipeSteps) (t : ℕ) → length r.steps ≡ 6 → Answered (answer_of (checked s (recipe r t))) t (recipe_rows s r) (recipe_at s r)
-  unfolding run
-  recipe-answered r t long =
-      operation-answered (recipe_tests s r t) t _ _ _ (λ e. recipe-ready s r t long e good) (recipe-numbered s r.count (map place_of (steps_in r)) t) s good (recipe r t)
-      refl
->>>>>>> 172a746 (i)
 
   pub schur-answered : (p k t : ℕ) → Answered (answer_of (checked s (schur p k t))) t (rows_at s p) (schur_at s p k)
   unfolding run
   schur-answered p k t =
-<<<<<<< HEAD
       operation-answered (clamped_tests s p k t) t _ _ (schur-ready s good p k t) (choice-numbered s p (misclamped (rows_at s p) k) t) s good (schur p k t) refl
 
   pub recipe-answered : (r : Recipe) (t : ℕ) → length r.steps ≡ 6 → Answered (answer_of (checked s (recipe r t))) t (joined_rows s r) (joined_at s r)
@@ -174,16 +134,12 @@ module _ (s : Shelf) (good : Good s) where
   recipe-answered r t long =
       operation-answered (recipe_tests s r t) t _ _ (recipe-ready s good r t long)
       (numbered (miscounted r.count) 17, sources-numbered s (places_in r) t) s good (recipe r t) refl
-=======
-      operation-answered (clamped_tests s p k t) t _ _ _ (schur-ready s good p k t) (one_more_lem (one_source s p t) (misclamped (rows_at s p) k) 7 (one-numbered s p t))
-      s good (schur p k t) refl
->>>>>>> 172a746 (i)
 
   -- THE PROMISE OF A BUILD
   pub build-answered : (t : ℕ) (stamps : List ℕ) → BuiltAnswer (answer_of (checked s (build t stamps))) t stamps
   unfolding run build_call
   build-answered t stamps =
       own-promises (λ s k e. Built s t stamps k) s good (build t stamps)
-      (resulting-promises (λ s k e. Built s t stamps k) s t (length stamps) (pos stamp_bound ∷ []) stamp_bound (built_factors stamps) (first_of (build_tests s t stamps))
+      (resulting-promises (λ s k e. Built s t stamps k) s t (length stamps) (pos stamp_bound ∷ []) (built_factors stamps) (first_of (build_tests s t stamps))
       (behind-numbered Accepted (build_tests s t stamps) tt (one_more_lem (target_tests s t) (mistimed stamps) 14 (target-numbered s t)))
       (build-met s t stamps good))

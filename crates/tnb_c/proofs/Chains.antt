@@ -11,8 +11,6 @@ use Rattle.places.proofs.Checking.{good-tested}
 use Rattle.places.proofs.Holding.{good-empty}
 use Rattle.shelf.specs.Run.{Call, Given, AllGiven, run, after_each, after_calls}
 use Rattle.shelf.proofs.Sequences.{run-good, each-good}
-use Rattle.history.specs.Drawing.{AsDrawn, drawn_all, blank_drawing}
-use Rattle.history.proofs.History.{history}
 use Rattle.tnb_c.specs.Answers.{checked, after_answers}
 use Rattle.tnb_c.proofs.Checked.{run-checked}
 
@@ -34,7 +32,3 @@ answers-calls L h = after-answers L h empty_shelf good-empty
 
 pub answers-good : (L : List Call) → AllGiven L → is_good (after_answers empty_shelf L) ≡ true
 answers-good L h = good-tested (after_answers empty_shelf L) (each-good checked checked-good L h empty_shelf good-empty)
-
--- HOW FAR FROM THE DRAWING (document 02, (i)), of what C holds after any calls
-pub answers-history : (L : List Call) → AllGiven L → AsDrawn (after_answers empty_shelf L) (drawn_all empty_shelf blank_drawing L)
-answers-history L h = subst (λ (s : Shelf). AsDrawn s (drawn_all empty_shelf blank_drawing L)) (sym (answers-calls L h)) (history L h)

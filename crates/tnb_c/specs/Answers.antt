@@ -19,13 +19,8 @@ use Rattle.walk.specs.declared.Way.{Way}
 use Rattle.recipes.specs.Recipe.{taken}
 use Rattle.recipes.specs.Codes.{step_code, step_by}
 use Rattle.operations.specs.Promise.{Met, Built}
-<<<<<<< HEAD
 use Rattle.shelf.specs.Run.{Call, load, write, byte_length, drop, operate, forecast, recipe, forecast_recipe, build, minor, run, after_each}
 use Rattle.shelf.specs.Run.{carry, reversals, arithmetic, rest, sentence, rows, factor}
-=======
-use Rattle.shelf.specs.Run.{Call, load, write, drop, product, inverse, converse, submatrix, schur, transpose, build, recipe, minor, byte_length, forecast, forecast_recipe, run, after_each}
-use Rattle.shelf.specs.Run.{carry, reversals, arithmetic, rest, sentence, count, rows, factor}
->>>>>>> 172a746 (i)
 use Rattle.tnb_c.specs.declared.Answer.{Answer}
 use Rattle.tnb_c.specs.declared.Length.{Length}
 use Rattle.tnb_c.specs.declared.Status.{Status}
@@ -54,7 +49,6 @@ foreign s (reversals items) = turned_away s [] []
 foreign s (arithmetic o items) = turned_away s [] []
 foreign s (rest bytes) = turned_away s [] []
 foreign s (sentence a out) = turned_away s out []
-foreign s (count p) = turned_away s [] []
 foreign s (rows p) = turned_away s [] []
 foreign s (factor p i j) = turned_away s [] []
 

@@ -6,30 +6,14 @@ ghost use Rattle.lists.specs.Lists.{reversals_report};
 ghost use Rattle.arithmetic.specs.Arithmetic.{worked_report};
 ghost use Rattle.operations.specs.Reports.{filled_outcome, operated_outcome, valued_report};
 ghost use Rattle.operations.specs.Forecast.{foretold_report};
-<<<<<<< HEAD
 ghost use Rattle.shelf.specs.Reports.{changed_outcome, factor_report};
 ghost use Rattle.tnb_c.specs.Answers.{turned_away, answer_of, length_of, value_of, worked_of, status_of, steps_of};
-=======
-ghost use Rattle.shelf.specs.Reports.{changed_outcome, counted_report, factor_report};
-ghost use Rattle.tnb_c.specs.Answers.{turned_away, answer_of, length_of, value_of, worked_of, status_of};
->>>>>>> 172a746 (i)
-use crate::Answer;
-use crate::Length;
-use crate::Status;
-use crate::Steps;
-use crate::Value;
-use crate::Worked;
+
+use crate::{Answer, Length, Status, Steps, Value, Worked};
 use lists::Reversals;
-use operations::Bounded;
-use operations::Filled;
-use operations::Foretold;
-use operations::Operated;
-use operations::Performed;
-use operations::Valued;
+use operations::{Bounded, Filled, Foretold, Operated, Performed, Valued};
 use places::Shelf;
-use shelf::Changed;
-use shelf::Counted;
-use shelf::Factor;
+use shelf::{Changed, Factor};
 use verdict::Verdict;
 use writer::Written;
 
@@ -197,15 +181,6 @@ pub fn factor(x: Factor) -> Value
         offset: 0,
         mantissa: x.mantissa,
         exponent: x.exponent,
-    }
-}
-
-pub fn count(x: Counted) -> Length
-    ensures { result ≡ length_of (counted_report x) }
-{
-    match x {
-        Counted::Count(k) => length(k as usize),
-        Counted::Refused(why) => no_length(why.number, why.offset),
     }
 }
 

@@ -1,27 +1,20 @@
 // The shelf's calls for programs in C and Rust. Nothing proves what such a caller hands over, so each call that takes a shelf tests it first:
 // one that these calls cannot have made is answered with 255 and handed back.
 #![tactic(auto)]
+
 ghost use Rattle.std.specs.Prelude.{◌≡◌, length};
 ghost use Rattle.reader.specs.Matrix.{behind_of};
 ghost use Rattle.places.specs.Shelf.{empty_shelf, rows_at};
 ghost use Rattle.lists.specs.Lists.{reversals_call};
 ghost use Rattle.arithmetic.specs.Arithmetic.{arithmetic_call};
-<<<<<<< HEAD
 ghost use Rattle.notices.specs.Sentence.{notice, sentence_report, bytes_after_sentence};
 ghost use Rattle.operations.specs.Operations.{product_at, inverse_at, converse_at, submatrix_at, schur_at};
 ghost use Rattle.shelf.specs.Run.{load, drop, write, byte_length, product, inverse, converse, submatrix, schur, transpose, build, minor, carry, rows, factor};
-=======
-ghost use Rattle.sentences.specs.Sentence.{notice, sentence_report, bytes_after_sentence};
-ghost use Rattle.operations.specs.Codes.{recipe_by};
-ghost use Rattle.operations.specs.Operations.{product_at, inverse_at, converse_at, submatrix_at, schur_at, recipe_rows, recipe_at};
-ghost use Rattle.shelf.specs.Run.{load, drop, write, byte_length, product, inverse, converse, submatrix, schur, transpose, build, recipe, minor, forecast, forecast_recipe};
-ghost use Rattle.shelf.specs.Run.{carry, count, rows, factor};
->>>>>>> 172a746 (i)
 ghost use Rattle.tnb_c.specs.Answers.{checked, answer_of, length_of, value_of, worked_of, status_of};
 ghost use Rattle.tnb_c.specs.Answers.{Answered, BuiltAnswer, MeasuredAnswer, SteadyStatus, LoggedAnswer, SentenceAnswer};
+
 use arithmetic::Operator;
-use places::Shelf;
-use places::check;
+use places::{Shelf, check};
 
 mod answers; // answers.rt: the shelf's answers as structs
 mod forecasts; // forecasts.rt: steps told without working them
@@ -239,17 +232,6 @@ pub extern "C" fn tnb_minor(shelf: Shelf, place: usize, rows: u8, columns: u8) -
         return answers::valued(operations::minor(shelf, place, rows, columns));
     }
     answers::no_value(255, 0)
-}
-
-// How many unit roundings the factors of a place are, at most, from those that its history gives exactly.
-#[unsafe(no_mangle)]
-pub extern "C" fn tnb_count(shelf: Shelf, place: usize) -> Length
-    ensures { result ≡ length_of (checked shelf (count place)).report }
-{
-    if check::is_good(shelf) {
-        return answers::count(shelf::count(shelf, place));
-    }
-    answers::no_length(255, 0)
 }
 
 // The rows of the matrix at a place, 0 where the place is empty or above 7.

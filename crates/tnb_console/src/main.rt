@@ -1,6 +1,7 @@
 // A console for one shelf: requests on standard input, one to a line, and one line for each on standard output. What is promised here is of bytes that were
 // read and of answers that wait to be written; reading and writing are run.
 #![tactic(auto)]
+
 ghost use Rattle.std.specs.Prelude.{◌≡◌, cond, List, [], ℕ, ◌+◌, ◌≤◌, ◌<◌, length, take, drop};
 ghost use Rattle.lines.specs.Words.{before};
 ghost use Rattle.tnb_console.specs.Session.{after_line, after_end, emptied};

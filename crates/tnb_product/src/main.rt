@@ -1,6 +1,7 @@
 // Loads left.tnb and right.tnb to places 0 and 1, multiplies them into place 2, and prints n, then row, column, mantissa and exponent of
 // each factor; at the first refusal only that.
 #![tactic(auto)]
+
 ghost use Rattle.std.specs.Prelude.{◌≡◌, ℕ, ◌≤◌, length, take};
 ghost use Rattle.lines.specs.Text.{Puts};
 ghost use Rattle.verdict.specs.Report.{verdict_report};

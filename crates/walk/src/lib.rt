@@ -2,6 +2,7 @@
 // The sets that letters update are counted. The numbers are held in words, changed in place; the tables of row sets, the letters and the factors are lent by
 // the caller, who made them once.
 #![tactic(auto)]
+
 ghost use Rattle.std.specs.Prelude.{◌≡◌, cond, ◌+◌, ◌-◌, ◌*◌, ◌^◌, ◌≤◌, ◌<◌, length};
 ghost use Rattle.number.specs.Number.{rounded, Ranged, Stored};
 ghost use Rattle.rowset.specs.Mask.{mask_count, count_below};

@@ -1,5 +1,5 @@
--- The worked examples hold (rule-examples, zero-examples, steps-examples), and so do the tables of bounds and counts (bound-examples, count-examples), by
--- computing; the bounds are the paper's formulas (product-bound, source-bound).
+-- The worked examples hold (rule-examples, zero-examples, steps-examples), and so do the tables of bounds (bound-examples), by computing; the bounds are the
+-- paper's formulas (product-bound, source-bound).
 use mathlib.Core.Path.{◌≡◌, refl}
 use Prim.Native.Nat.{ℕ, ◌+◌, ◌-◌, ◌*◌}
 use native.Mathlib.Omega.{arith}
@@ -14,7 +14,7 @@ use Rattle.words.specs.Walk.{one_at, moved, scaled, act, walk, minor, carry_lett
 use Rattle.words.specs.Formula.{latest_before, on_diagonal, below_diagonal, banded_below, factors_by}
 use Rattle.words.specs.Operation.{joined_word, bound_of, row_by_row, result}
 use Rattle.words.specs.Effort.{sets_with, updated, sum_over, factor_steps, steps_made, choose, quotient_steps}
-use Rattle.words.specs.Examples.{rule_table, two_zeros_table, bound_table, count_table, steps_table}
+use Rattle.words.specs.Examples.{rule_table, two_zeros_table, bound_table, steps_table}
 
 pub rule-examples : AllHold rule_table
 unfolding rule_table has put count all_before equal rows of_mask among ascending descending word inverse_word converse_word transposed_word joined_word
@@ -30,10 +30,6 @@ zero-examples = (refl, (refl, (refl, tt)))
 pub bound-examples : AllHold bound_table
 unfolding bound_table ascending
 bound-examples = (refl, (refl, (refl, (refl, (refl, (refl, tt))))))
-
-pub count-examples : AllHold count_table
-unfolding count_table
-count-examples = (refl, (refl, (refl, (refl, (refl, (refl, tt))))))
 
 pub steps-examples : AllHold steps_table
 unfolding steps_table sets_with updated total sum_over factor_steps steps_made choose quotient_steps has put count all_before equal rows of_mask among ascending

@@ -1,5 +1,5 @@
--- Worked examples of words, walks and formulas (rule_table), of a source with zeros (two_zeros_table), of steps made and foretold (steps_table), document 01's two
--- tables of bounds (bound_table), and counts (count_table). Its marked examples P1 to P12 are one table of calls in crate shelf; the rows here hold the definitions of this
+-- Worked examples of words, walks and formulas (rule_table), of a source with zeros (two_zeros_table), of steps made and foretold (steps_table), and document
+-- 01's two tables of bounds (bound_table). Its marked examples P1 to P12 are one table of calls in crate shelf; the rows here hold the definitions of this
 -- crate to the same values.
 use Rattle.std.specs.Prelude.{true, false, cond, ◌&&◌, List, [], ◌∷◌, ℕ, ◌-◌, ◌*◌, ◌^◌, eqb, ltb}
 use Rattle.number.specs.declared.Number.{Number}
@@ -12,7 +12,7 @@ use Rattle.words.specs.Word.{Factors, word, for_up}
 use Rattle.words.specs.Walk.{minor, carry}
 use Rattle.words.specs.Formula.{latest_before, new_factor}
 use Rattle.words.specs.Operation as words
-use Rattle.words.specs.Operation.{transposed, step, Operation, joined, product, inverse, converse, submatrix, schur, size, bound_of, bound, count_of}
+use Rattle.words.specs.Operation.{transposed, step, Operation, joined, product, inverse, converse, submatrix, schur, size, bound_of, bound}
 use Rattle.words.specs.Operation.{row_by_row, result}
 use Rattle.words.specs.Effort.{steps_made, steps_foretold}
 
@@ -108,17 +108,6 @@ bound_table =
     ∷ row (bound 2 (joined (step words.plain ones ∷ step transposed ones ∷ []))) 51  -- a transposed step counts like any other
     ∷ row (bound 3 (corner_of ones)) 63  -- which goes by the source's rows
     ∷ row (bound 3 (schur ones 1)) 63  -- and so does this
-    ∷ []
-
--- counts of results, by the sum of the sources' counts: none; two sources with 51 each; one with 51, of which two rows are chosen or left: n is the source's
-unfoldable pub count_table : List Row
-count_table =
-    row (count_of 2 (product ones ones) 0) 51
-    ∷ row (count_of 2 (product ones ones) (51 + 51)) 1683  -- 51 + 16 × 102
-    ∷ row (count_of 3 (inverse ones) 51) 1899  -- 63 + 36 × 51
-    ∷ row (count_of 3 (corner_of ones) 51) 1899
-    ∷ row (count_of 3 (schur ones 1) 51) 1899
-    ∷ row (count_of 8 (product ones ones) 65533) 16777411  -- 963 + 256 × 65533
     ∷ []
 
 -- steps: of the paper's product, of a submatrix, of a source with zeros and of a Schur complement as they are made; of products, of one source, of a submatrix

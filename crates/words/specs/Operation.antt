@@ -81,10 +81,6 @@ module _ {A : Type 0} where
   abbrev pub bound : ℕ → Operation A → ℕ
   bound n o = bound_of (length (steps o)) n
 
-  -- THE COUNT of its result (document 02, (i)): the bound, and 4n² times the sum of the sources' counts, n being the sources' size
-  abbrev pub count_of : ℕ → Operation A → ℕ → ℕ
-  count_of n o sum = bound n o + 4 * (n * n) * sum
-
 -- the factors of k rows, row by row
 unfoldable pub row_by_row : {A : Type 0} → ℕ → Factors A → List A
 row_by_row k b = for_up 1 k (λ i. for_up 1 k (λ j. b i j ∷ []))

@@ -16,10 +16,10 @@ pub data Letter (A : Type 0) : Type 0 where
 abbrev pub Word : Type 0 → Type 0
 Word A = List (Letter A)
 
--- the sum of f over a list, as over the letters of a word
-unfoldable pub total : {A : Type 0} → (A → ℕ) → List A → ℕ
+-- the sum of f over the letters of a word
+unfoldable pub total : {A : Type 0} → (Letter A → ℕ) → Word A → ℕ
 total f [] = 0
-total f (x ∷ L) = f x + total f L
+total f (l ∷ W) = f l + total f W
 
 module _ {A : Type 0} where
   -- f a, f (a + 1), .. : c of them; f a, f (a - 1), .. : c of them

@@ -1,5 +1,6 @@
 // Writes a matrix as bytes (document 01, "Bytes"): n, then its factors row by row. The factors are the first n times n of 64 numbers.
 #![tactic(auto)]
+
 ghost use Rattle.std.specs.Prelude.{◌≡◌, ◌-◌, ◌*◌, ◌≤◌, min, length};
 ghost use Rattle.std.proofs.lemmas.List.Edits.{sets};
 ghost use Rattle.writer.specs.Encoding.{factor_bytes, square_factors, encoding, encoded_length, writing_report, bytes_after_writing, written_report};

@@ -21,13 +21,8 @@ returns c =
     let made = c.before.before in
     let begin = made.before in
     let a = begin.args in
-<<<<<<< HEAD
     operation-done _ a.target _ _ (whole_ready a.shelf begin.requires Conversed a.source a.target) a.shelf begin.requires _ _
     (rw made.one.ensures at c.before.joined.ensures.0) c.keep.ensures
-=======
-    operation-done _ a.target _ _ _ (whole_ready a.shelf begin.requires conversed a.source a.target) a.shelf begin.requires _ _
-    c.before.of-whole.ensures.0 c.keep.ensures
->>>>>>> 172a746 (i)
 
 pub converse-spec : {M : Type 1} → statement M
 converse-spec = tie.close (tie.spec one-requires joined-requires keep-requires returns)

@@ -21,13 +21,8 @@ returns c =
     let made = c.before.before in
     let begin = made.before in
     let a = begin.args in
-<<<<<<< HEAD
     operation-done _ a.target _ _ (whole_ready a.shelf begin.requires Inverted a.source a.target) a.shelf begin.requires _ _
     (rw made.one.ensures at c.before.joined.ensures.0) c.keep.ensures
-=======
-    operation-done _ a.target _ _ _ (whole_ready a.shelf begin.requires inverted a.source a.target) a.shelf begin.requires _ _
-    c.before.of-whole.ensures.0 c.keep.ensures
->>>>>>> 172a746 (i)
 
 pub inverse-spec : {M : Type 1} → statement M
 inverse-spec = tie.close (tie.spec one-requires joined-requires keep-requires returns)

@@ -20,13 +20,8 @@ returns c =
     let made = c.before.before in
     let begin = made.before in
     let a = begin.args in
-<<<<<<< HEAD
     operation-done _ a.target _ _ (product-ready a.shelf begin.requires a.left a.right a.target) a.shelf begin.requires _ _
     (rw made.two.ensures at c.before.joined.ensures.0) c.keep.ensures
-=======
-    operation-done _ a.target _ _ _ (product-ready a.shelf begin.requires a.left a.right a.target) a.shelf begin.requires _ _
-    c.before.product.ensures.0 c.keep.ensures
->>>>>>> 172a746 (i)
 
 pub product-spec : {M : Type 1} → statement M
 product-spec = tie.close (tie.spec two-requires joined-requires keep-requires returns)

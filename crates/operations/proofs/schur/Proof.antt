@@ -13,7 +13,7 @@ returns : tie.Need-returns
 returns c =
     let begin = c.before.before in
     let a = begin.args in
-    operation-done _ a.target _ _ _ (schur-ready a.shelf begin.requires a.source a.k a.target) a.shelf begin.requires _ _
+    operation-done _ a.target _ _ (schur-ready a.shelf begin.requires a.source a.k a.target) a.shelf begin.requires _ _
     c.before.schur.ensures.0 c.keep.ensures
 
 pub schur-spec : {M : Type 1} → statement M

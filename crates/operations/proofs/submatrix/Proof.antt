@@ -20,7 +20,7 @@ returns : tie.Need-returns
 returns c =
     let begin = c.before.before.before.before in
     let a = begin.args in
-    operation-done _ a.target _ _ _ (submatrix-ready a.shelf begin.requires a.source a.rows a.columns a.target) a.shelf begin.requires _ _
+    operation-done _ a.target _ _ (submatrix-ready a.shelf begin.requires a.source a.rows a.columns a.target) a.shelf begin.requires _ _
     (rw (c.before.before.before.wide.ensures.0, c.before.before.wide2.ensures.0) at c.before.submatrix.ensures.0) c.keep.ensures
 
 pub submatrix-spec : {M : Type 1} → statement M

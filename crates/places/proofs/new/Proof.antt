@@ -12,7 +12,7 @@ use Rattle.places.proofs.new.Tie as tie
 
 -- eight empty places, and one number everywhere
 abbrev filled : Number → Shelf
-filled z = record { numbers = replicate 512 z; sizes = replicate 8 0; counts = replicate 8 0 }
+filled z = record { numbers = replicate 512 z; sizes = replicate 8 0 }
 
 zero-requires : tie.Need-zero-requires
 zero-requires c κs = search rules

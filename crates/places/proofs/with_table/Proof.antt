@@ -1,4 +1,4 @@
--- `with_table` meets its contract. The invariant: the first k numbers of the table are put, and the sizes and counts are as they were.
+-- `with_table` meets its contract. The invariant: the first k numbers of the table are put, and the sizes are as they were.
 use Prim.Native.Nat.{ℕ, ◌+◌, ◌*◌, ◌-◌, ◌≤◌}
 use native.Mathlib.Omega.{arith}
 use mathlib.Core.Path.{◌≡◌, refl, sym, ap, subst, ◌∙◌}
@@ -16,15 +16,14 @@ use Rattle.places.proofs.with_table.Statement.{statement}
 use Rattle.places.proofs.with_table.Tie as tie
 
 abbrev invariant-loop : tie.invariant-loop
-invariant-loop place n count t left₀ k₀ left k =
-    (k ≤ 64) × (left.numbers ≡ sets left₀.numbers (place * 64) (take k t)) × (left.sizes ≡ left₀.sizes) × (left.counts ≡ left₀.counts)
-    × (length left₀.numbers ≡ 512)
+invariant-loop place n t left₀ k₀ left k =
+    (k ≤ 64) × (left.numbers ≡ sets left₀.numbers (place * 64) (take k t)) × (left.sizes ≡ left₀.sizes) × (length left₀.numbers ≡ 512)
 
 abbrev decreases-loop : tie.decreases-loop
-decreases-loop place n count t left₀ k₀ left k = 64 - k
+decreases-loop place n t left₀ k₀ left k = 64 - k
 
 loop-holds : tie.Need-loop-init invariant-loop decreases-loop
-loop-holds c = (search rules, refl, refl, refl, search (rules, length-mapped))
+loop-holds c = (search rules, refl, refl, search (rules, length-mapped))
 
 mul_at : tie.Need-overflow-mul-at invariant-loop decreases-loop
 mul_at c = search rules
@@ -56,11 +55,10 @@ loop-again c =
     let l = c.before.before.loop in
     let k = l.k in (
       omega arith,
-      ap (λ (x : List Number). set x (a.place * 64 + k) (get_or a.t5 k absent)) l.invariant.1
-          ∙ sets-next absent a.shelf.numbers a.t5 (a.place * 64) k (search rules),
+      ap (λ (x : List Number). set x (a.place * 64 + k) (get_or a.t4 k absent)) l.invariant.1
+          ∙ sets-next absent a.shelf.numbers a.t4 (a.place * 64) k (search rules),
       l.invariant.2,
       l.invariant.3,
-      l.invariant.4,
     )
 
 cast-left : tie.Need-overflow-cast-left invariant-loop decreases-loop
@@ -69,24 +67,17 @@ cast-left c = search rules
 element-write-left : tie.Need-element-write-left invariant-loop decreases-loop
 element-write-left c = search rules
 
-mul_left : tie.Need-overflow-mul-left invariant-loop decreases-loop
-mul_left c = search rules
-
-element-write-left-2 : tie.Need-element-write-left-2 invariant-loop decreases-loop
-element-write-left-2 c = search rules
-
 returns : tie.Need-returns invariant-loop decreases-loop
 unfolding with_table
 returns c =
     let a = c.before.before.args in
     let l = c.before.loop in
     let e : l.k ≡ 64 = omega arith in
-    let t : take l.k a.t5 ≡ a.t5 = take_all l.k a.t5 (search rules) in
-    let same : _ ≡ with_table a.shelf a.place a.n a.count a.t5 =
-    shelf-fields _ _ (l.invariant.1 ∙ ap (sets a.shelf.numbers (a.place * 64)) t) (ap (λ (x : List ℕ). set x a.place a.n) l.invariant.2)
-    (ap (λ (x : List ℕ). set x a.place a.count) l.invariant.3) in
+    let t : take l.k a.t4 ≡ a.t4 = take_all l.k a.t4 (search rules) in
+    let same : _ ≡ with_table a.shelf a.place a.n a.t4 =
+    shelf-fields _ _ (l.invariant.1 ∙ ap (sets a.shelf.numbers (a.place * 64)) t) (ap (λ (x : List ℕ). set x a.place a.n) l.invariant.2) in
     let p = c.before.before.requires in
-    (same, subst Good (sym same) (good-put a.shelf p.0 a.place a.n a.count a.t5 p.1 p.2))
+    (same, subst Good (sym same) (good-put a.shelf p.0 a.place a.n a.t4 p.1 p.2))
 
 pub with-table-spec : {M : Type 1} → statement M
 with-table-spec =
@@ -106,6 +97,4 @@ with-table-spec =
     loop-again
     cast-left
     element-write-left
-    mul_left
-    element-write-left-2
     returns)

@@ -58,7 +58,7 @@ returns-2 c =
     let entry = told.before.before.before in
     let a = entry.args in
     drop-answered _ _ entry.requires (record { shelf = c.with-table.result; verdict = Accepted })
-    (ap (changing Accepted a.shelf) (c.with-table.ensures.0 ∙ ap (with_table a.shelf a.place 0 0) (c.before.blank.ensures ∙ sym (table_none _)))
+    (ap (changing Accepted a.shelf) (c.with-table.ensures.0 ∙ ap (with_table a.shelf a.place 0) (c.before.blank.ensures ∙ sym (table_none _)))
     ∙ drop-done _ _ (accepted told))
 
 pub drop-place-spec : {M : Type 1} → statement M

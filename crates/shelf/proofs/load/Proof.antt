@@ -101,7 +101,7 @@ returns-3 c =
     let a = entry.before.args in
     let t = c.before.spread.ensures ∙ square-taken _ _ in
     load-answered a.shelf a.place a.bytes.now entry.before.requires (bytes-in entry) (record { shelf = c.with-table.result; verdict = Accepted })
-    (ap (changing Accepted a.shelf) (c.with-table.ensures.0 ∙ ap (with_table a.shelf a.place _ 0) t)
+    (ap (changing Accepted a.shelf) (c.with-table.ensures.0 ∙ ap (with_table a.shelf a.place _) t)
     ∙ load-done a.shelf a.place a.bytes.now (accepted read.before) _ _ _ (found o) c.before.before.before.if1.false)
 
 returns-4 : tie.Need-returns-4

@@ -11,13 +11,8 @@ use Rattle.places.specs.Tests.{one_source}
 use Rattle.places.proofs.Verdicts.{one-accepted}
 use Rattle.walk.specs.Steps.{step_of}
 use Rattle.walk.specs.declared.Way.TheVariants.{Plain}
-<<<<<<< HEAD
 use Rattle.operations.specs.Operations.{schur_at, clamped_tests}
 use Rattle.operations.proofs.Results.{Ready, schur-clamped, schur-ready, answered-turned, answered-ranged}
-=======
-use Rattle.operations.specs.Operations.{schur_at}
-use Rattle.operations.proofs.Results.{Ready, schur-ready, answered-turned, answered-ranged, count-one}
->>>>>>> 172a746 (i)
 use Rattle.operations.proofs.Made.{made_none, made-ready, made-next}
 use Rattle.operations.proofs.Worked.{Sets, schur-sets, run-proper, run-result}
 use borrow.Author.Rules.{rules}
@@ -80,17 +75,9 @@ turned-down-requires c κs = search rules
 
 returns : tie.Need-returns
 returns c =
-<<<<<<< HEAD
     let known = c.before.before in
     let t = known.before.before in
     answered-turned _ (entry t).args.target _ _ (ready-where (entry t)) _ _ (sym (tested t) ∙ known.v.given.1) c.turned_down.ensures
-=======
-    let first = c.before.before in
-    let begin = first.before.before.before in
-    let a = begin.args in
-    answered-turned _ a.target _ _ _ (schur-ready a.shelf begin.requires a.source a.k a.target) _ _
-    (sym first.before.before.clamped.ensures ∙ first.first.given.1) c.turned_down.ensures
->>>>>>> 172a746 (i)
 
 enum_told : tie.Need-enum-told
 enum_told c = search rules
@@ -129,18 +116,12 @@ work-requires c κs =
     run-proper a.target (rows_at a.shelf a.source) (schur_at a.shelf a.source a.k)
     (rw ((rows told).0, table.table_at.ensures) at made) (sets run) (ready told)
 
-count-at-requires : tie.Need-count-at-requires
-count-at-requires c κs = search rules
-
-cast-sum : tie.Need-overflow-cast-sum
-cast-sum c = search rules
-
 ranged-requires : tie.Need-ranged-requires
-ranged-requires c κs = ((size c.before.before.before.before.before.before.before.before.before.before).1, search rules)
+ranged-requires c κs = search rules
 
 returns-2 : tie.Need-returns-2
 returns-2 c =
-    let worked = c.before.before in
+    let worked = c.before in
     let run = worked.before.before.before in
     let put = run.before in
     let empty = put.before.before.before in
@@ -148,18 +129,9 @@ returns-2 c =
     let told = table.before in
     let a = (entry told.before.before).args in
     let made = made-next (step_of Plain table.table_at.result) (made_none empty.no_steps.ensures) put.put_step.ensures in
-<<<<<<< HEAD
     answered-ranged _ a.target _ _ (ready-where (entry told.before.before)) _ _ (accepted told)
     (worked.work.ensures ∙ run-result a.target (rows_at a.shelf a.source) (schur_at a.shelf a.source a.k)
     (rw ((rows told).0, table.table_at.ensures) at made) (sets run) (ready told)) c.ranged.ensures
-=======
-    let n = rows_at a.shelf a.source in
-    let o = schur_at a.shelf a.source a.k in
-    let same = worked.work.ensures ∙ run-result a.target n o (rw (sized.rows_at.ensures, table.table_at.ensures) at made)
-    (schur-sets _ _ _ _ (ready sized.before).few (fewer sized.before) (rw sized.rows_at.ensures at run.run.ensures.0)) (ready sized.before) in
-    answered-ranged _ a.target _ _ _ (schur-ready a.shelf (entry sized.before).requires a.source a.k a.target) _ _ _
-    (accepted sized.before) same c.ranged.ensures (count-one n _ _ _ o _ same sized.rows_at.ensures c.before.count_at.ensures)
->>>>>>> 172a746 (i)
 
 pub schur-spec : {M : Type 1} → statement M
 schur-spec =
@@ -178,7 +150,5 @@ schur-spec =
     put-step-requires
     run-requires
     work-requires
-    count-at-requires
-    cast-sum
     ranged-requires
     returns-2)

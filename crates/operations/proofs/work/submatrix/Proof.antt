@@ -10,7 +10,7 @@ use Rattle.places.specs.Shelf.{rows_at}
 use Rattle.operations.specs.Operations.{submatrix_tests, submatrix_at}
 use Rattle.walk.specs.Steps.{step_of}
 use Rattle.walk.specs.declared.Way.TheVariants.{Plain}
-use Rattle.operations.proofs.Results.{Ready, submatrix-ready, submatrix-fit, answered-turned, answered-ranged, count-one}
+use Rattle.operations.proofs.Results.{Ready, submatrix-ready, submatrix-fit, answered-turned, answered-ranged}
 use Rattle.operations.proofs.Made.{made_none, made-ready, made-next}
 use Rattle.operations.proofs.Worked.{Sets, chosen-sets, run-proper, run-result}
 use borrow.Author.Rules.{rules}
@@ -45,7 +45,7 @@ returns c =
     let first = c.before.before in
     let begin = first.before.before.before in
     let a = begin.args in
-    answered-turned _ a.target _ _ _ (submatrix-ready a.shelf begin.requires.0 a.source a.rows a.columns a.target) _ _
+    answered-turned _ a.target _ _ (submatrix-ready a.shelf begin.requires.0 a.source a.rows a.columns a.target) _ _
     (sym first.before.before.submatrix-tests.ensures ∙ first.first.given.1) c.turned_down.ensures
 
 enum_told : tie.Need-enum-told
@@ -86,33 +86,22 @@ work-requires c κs =
     run-proper a.target (rows_at a.shelf a.source) (submatrix_at a.shelf a.source a.rows a.columns)
     (rw (sized.rows_at.ensures, table.table_at.ensures) at made) (sets sized.before) (ready sized.before)
 
-count-at-requires : tie.Need-count-at-requires
-count-at-requires c κs = search rules
-
-cast-sum : tie.Need-overflow-cast-sum
-cast-sum c = search rules
-
 ranged-requires : tie.Need-ranged-requires
-ranged-requires c κs =
-    let put = c.before.before.before.before in
-    let empty = put.before.before.before in
-    ((size empty.before.before).1, search rules)
+ranged-requires c κs = search rules
 
 returns-2 : tie.Need-returns-2
 returns-2 c =
-    let worked = c.before.before in
+    let worked = c.before in
     let put = worked.before.before.before in
     let empty = put.before.before.before in
     let table = empty.before in
     let sized = table.before in
     let a = (entry sized.before).args in
     let made = made-next (step_of Plain table.table_at.result) (made_none empty.no_steps.ensures) put.put_step.ensures in
-    let n = rows_at a.shelf a.source in
-    let o = submatrix_at a.shelf a.source a.rows a.columns in
-    let same = worked.work.ensures ∙ run-result a.target n o
-    (rw (sized.rows_at.ensures, table.table_at.ensures) at made) (sets sized.before) (ready sized.before) in
-    answered-ranged _ a.target _ _ _ (submatrix-ready a.shelf (entry sized.before).requires.0 a.source a.rows a.columns a.target) _ _ _
-    (accepted sized.before) same c.ranged.ensures (count-one n _ _ _ o _ same sized.rows_at.ensures c.before.count_at.ensures)
+    answered-ranged _ a.target _ _ (submatrix-ready a.shelf (entry sized.before).requires.0 a.source a.rows a.columns a.target) _ _
+    (accepted sized.before)
+    (worked.work.ensures ∙ run-result a.target (rows_at a.shelf a.source) (submatrix_at a.shelf a.source a.rows a.columns)
+    (rw (sized.rows_at.ensures, table.table_at.ensures) at made) (sets sized.before) (ready sized.before)) c.ranged.ensures
 
 pub submatrix-spec : {M : Type 1} → statement M
 submatrix-spec =
@@ -128,7 +117,5 @@ submatrix-spec =
     no-steps-requires
     put-step-requires
     work-requires
-    count-at-requires
-    cast-sum
     ranged-requires
     returns-2)

@@ -42,23 +42,19 @@ enum_told c = search rules
 rows-at-requires : tie.Need-rows-at-requires
 rows-at-requires c κs = search rules
 
-count-at-requires : tie.Need-count-at-requires
-count-at-requires c κs = search rules
-
 table-at-requires : tie.Need-table-at-requires
-table-at-requires c κs = source-small c.before.before
+table-at-requires c κs = source-small c.before
 
 exchanged-requires : tie.Need-exchanged-requires
 exchanged-requires c κs = search rules
 
 returns-2 : tie.Need-returns-2
 returns-2 c =
-    let told = c.before.before.before.before in
+    let told = c.before.before.before in
     let entry = told.before.before.before in
     let a = entry.args in
     transpose-answered a.shelf a.source a.target entry.requires _
-    (transpose-done a.shelf a.source a.target entry.requires _ _ _ _ (accepted told) c.before.before.before.rows_at.ensures
-    c.before.before.count_at.ensures c.before.table_at.ensures
+    (transpose-done a.shelf a.source a.target entry.requires _ _ _ (accepted told) c.before.before.rows_at.ensures c.before.table_at.ensures
     c.exchanged.ensures)
 
 pub transposed-spec : {M : Type 1} → statement M
@@ -71,7 +67,6 @@ transposed-spec =
     returns
     enum_told
     rows-at-requires
-    count-at-requires
     table-at-requires
     exchanged-requires
     returns-2)

@@ -13,7 +13,7 @@ blank-requires c κs = search rules
 
 returns : tie.Need-returns
 returns c =
-    ap (λ (l : List Number). let r : Proposed = record { answer = Refused c.before.args.why; rows = 0; count = 0; factors = l } in r) c.blank.ensures
+    ap (λ (l : List Number). let r : Proposed = record { answer = Refused c.before.args.why; rows = 0; factors = l } in r) c.blank.ensures
 
 pub turned-down-spec : {M : Type 1} → statement M
 turned-down-spec = tie.close (tie.spec blank-requires returns)

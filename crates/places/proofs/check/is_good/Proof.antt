@@ -6,31 +6,31 @@ use mathlib.Core.Path.{sym, subst, ◌∙◌}
 use mathlib.Core.Bool.{false≢true}
 use borrow.Author.Tests.{not-true, not-false}
 use Rattle.arrays.proofs.Structs.{length-mapped}
-use Rattle.places.specs.Shelf.{rows_at, count_at}
+use Rattle.places.specs.Shelf.{rows_at}
 use Rattle.places.proofs.Checking.{tested-good}
-use Rattle.places.proofs.Passing.{seen_none, Passed, Gathered, all-passed, rows-failed, count-failed, place-passed, number-failed, number_passed, gathered_none}
+use Rattle.places.proofs.Passing.{seen_none, Passed, Gathered, all-passed, rows-failed, place-passed, number-failed, number_passed, gathered_none}
 use Rattle.places.proofs.Passing.{gathered-more}
 use borrow.Author.Rules.{rules}
 use Rattle.places.proofs.check.is_good.Statement.{statement}
 use Rattle.places.proofs.check.is_good.Tie as tie
 
 abbrev invariant-loop2 : tie.invariant-loop2
-invariant-loop2 shelf sizes counts p n count k₀ k-end k = (k ≤ n * 8) × Passed shelf p k
+invariant-loop2 shelf sizes p n k₀ k-end k = (k ≤ n * 8) × Passed shelf p k
 
 abbrev decreases-loop2 : tie.decreases-loop2
-decreases-loop2 shelf sizes counts p n count k₀ k-end k = n * 8 - k
+decreases-loop2 shelf sizes p n k₀ k-end k = n * 8 - k
 
 abbrev invariant-loop3 : tie.invariant-loop3
-invariant-loop3 shelf sizes counts p n count faults₀ k₀ faults k = (n * 8 ≤ k) × (k ≤ 64) × Gathered shelf p k faults
+invariant-loop3 shelf sizes p n faults₀ k₀ faults k = (n * 8 ≤ k) × (k ≤ 64) × Gathered shelf p k faults
 
 abbrev decreases-loop3 : tie.decreases-loop3
-decreases-loop3 shelf sizes counts p n count faults₀ k₀ faults k = 64 - k
+decreases-loop3 shelf sizes p n faults₀ k₀ faults k = 64 - k
 
 abbrev invariant-loop : tie.invariant-loop
-invariant-loop shelf sizes counts p₀ p = Passed shelf p 0
+invariant-loop shelf sizes p₀ p = Passed shelf p 0
 
 abbrev decreases-loop : tie.decreases-loop
-decreases-loop shelf sizes counts p₀ p = 8 - p
+decreases-loop shelf sizes p₀ p = 8 - p
 
 loop-holds : tie.Need-loop-init invariant-loop2 decreases-loop2 invariant-loop3 decreases-loop3 invariant-loop decreases-loop
 loop-holds c = record { rows = seen_none _ 8; numbers = seen_none _ 512 }
@@ -45,26 +45,11 @@ returns : tie.Need-returns invariant-loop2 decreases-loop2 invariant-loop3 decre
 unfolding rows_at
 returns c = (sym (rows-failed _ c.before.before.loop.p (search rules) c.if1.true), λ h. absurd (false≢true h))
 
-mul-count : tie.Need-overflow-mul-count invariant-loop2 decreases-loop2 invariant-loop3 decreases-loop3 invariant-loop decreases-loop
-mul-count c = search rules
-
-array-read-count : tie.Need-array-read-count invariant-loop2 decreases-loop2 invariant-loop3 decreases-loop3 invariant-loop decreases-loop
-array-read-count c = search rules
-
-limit-requires : tie.Need-limit-requires invariant-loop2 decreases-loop2 invariant-loop3 decreases-loop3 invariant-loop decreases-loop
-limit-requires c κs = search rules
-
-returns-2 : tie.Need-returns-2 invariant-loop2 decreases-loop2 invariant-loop3 decreases-loop3 invariant-loop decreases-loop
-unfolding rows_at count_at
-returns-2 c =
-    let b = c.before.before.before.before in
-    (sym (count-failed _ b.loop.p (search rules) _ c.before.limit.ensures c.if2.true), λ h. absurd (false≢true h))
-
 mul-k-end : tie.Need-overflow-mul-k-end invariant-loop2 decreases-loop2 invariant-loop3 decreases-loop3 invariant-loop decreases-loop
 mul-k-end c = search rules
 
 loop2-holds : tie.Need-loop2-init invariant-loop2 decreases-loop2 invariant-loop3 decreases-loop3 invariant-loop decreases-loop
-loop2-holds c = (search rules, c.before.before.before.before.loop.invariant)
+loop2-holds c = (search rules, c.before.before.loop.invariant)
 
 mul_at : tie.Need-overflow-mul-at invariant-loop2 decreases-loop2 invariant-loop3 decreases-loop3 invariant-loop decreases-loop
 mul_at c = search rules
@@ -95,13 +80,13 @@ element-copy-out-a c = search rules
 sound-requires : tie.Need-sound-requires invariant-loop2 decreases-loop2 invariant-loop3 decreases-loop3 invariant-loop decreases-loop
 sound-requires c κs = search rules
 
-returns-3 : tie.Need-returns-3 invariant-loop2 decreases-loop2 invariant-loop3 decreases-loop3 invariant-loop decreases-loop
+returns-2 : tie.Need-returns-2 invariant-loop2 decreases-loop2 invariant-loop3 decreases-loop3 invariant-loop decreases-loop
 unfolding rows_at
-returns-3 c =
+returns-2 c =
     let b = c.before.before.before.before in
-    let p = b.before.before.before.before.before.before.before.loop.p in
+    let p = b.before.before.before.before.before.loop.p in
     let k = b.before.before.loop2.k in
-    let failed = sym c.before.sound.ensures ∙ not-true _ c.if3.true in
+    let failed = sym c.before.sound.ensures ∙ not-true _ c.if2.true in
     (sym (number-failed _ p (search rules) k (search rules) _ b.back.ensures.0 failed), λ h. absurd (false≢true h))
 
 add-k : tie.Need-overflow-add-k invariant-loop2 decreases-loop2 invariant-loop3 decreases-loop3 invariant-loop decreases-loop
@@ -115,7 +100,7 @@ unfolding rows_at
 loop2-again c =
     let b = c.before.before.before.before in
     let w = b.before.before.loop2.invariant.1 in
-    let passed = sym c.before.sound.ensures ∙ not-false _ c.if3.false in
+    let passed = sym c.before.sound.ensures ∙ not-false _ c.if2.false in
     (search rules, number_passed _ _ (search rules) _ (search rules) _ b.back.ensures.0 w passed)
 
 mul-k : tie.Need-overflow-mul-k invariant-loop2 decreases-loop2 invariant-loop3 decreases-loop3 invariant-loop decreases-loop
@@ -152,8 +137,8 @@ loop3-again c =
     let l = c.before.before.before.loop3 in
     (search rules, search rules, gathered-more _ l.invariant.2 (search rules) l.invariant.0 (search rules) _ c.fault.ensures)
 
-returns-4 : tie.Need-returns-4 invariant-loop2 decreases-loop2 invariant-loop3 decreases-loop3 invariant-loop decreases-loop
-returns-4 c = (sym (c.before.before.loop3.invariant.2.some c.if4.true), λ h. absurd (false≢true h))
+returns-3 : tie.Need-returns-3 invariant-loop2 decreases-loop2 invariant-loop3 decreases-loop3 invariant-loop decreases-loop
+returns-3 c = (sym (c.before.before.loop3.invariant.2.some c.if3.true), λ h. absurd (false≢true h))
 
 add-p : tie.Need-overflow-add-p invariant-loop2 decreases-loop2 invariant-loop3 decreases-loop3 invariant-loop decreases-loop
 add-p c = search rules
@@ -162,17 +147,15 @@ loop-less : tie.Need-loop-smaller invariant-loop2 decreases-loop2 invariant-loop
 loop-less c = search rules
 
 loop-again : tie.Need-loop-preserved invariant-loop2 decreases-loop2 invariant-loop3 decreases-loop3 invariant-loop decreases-loop
-unfolding rows_at count_at
+unfolding rows_at
 loop-again c =
-    let w = c.before.before.loop3.invariant.2.none c.if4.false in
-    let b = c.before.before.before.before.before in
-    place-passed _ _ (search rules) (subst (Passed _ _) (omega arith) w) b.before.before.if1.false
-    _ b.before.limit.ensures b.if2.false
+    let w = c.before.before.loop3.invariant.2.none c.if3.false in
+    place-passed _ _ (search rules) (subst (Passed _ _) (omega arith) w) c.before.before.before.before.before.if1.false
 
-returns-5 : tie.Need-returns-5 invariant-loop2 decreases-loop2 invariant-loop3 decreases-loop3 invariant-loop decreases-loop
-returns-5 c =
+returns-4 : tie.Need-returns-4 invariant-loop2 decreases-loop2 invariant-loop3 decreases-loop3 invariant-loop decreases-loop
+returns-4 c =
     let e = all-passed _ _ c.before.loop.invariant (search rules) in
-    (sym e, λ h. tested-good _ (search (rules, length-mapped)) (search (rules, length-mapped)) (search (rules, length-mapped)) e)
+    (sym e, λ h. tested-good _ (search (rules, length-mapped)) (search (rules, length-mapped)) e)
 
 pub is-good-spec : {M : Type 1} → statement M
 is-good-spec =
@@ -188,10 +171,6 @@ is-good-spec =
     array-read-n
     cast-n
     returns
-    mul-count
-    array-read-count
-    limit-requires
-    returns-2
     mul-k-end
     loop2-holds
     mul_at
@@ -203,7 +182,7 @@ is-good-spec =
     mul-a
     element-copy-out-a
     sound-requires
-    returns-3
+    returns-2
     add-k
     loop2-less
     loop2-again
@@ -217,8 +196,8 @@ is-good-spec =
     add-k-2
     loop3-less
     loop3-again
-    returns-4
+    returns-3
     add-p
     loop-less
     loop-again
-    returns-5)
+    returns-4)
