@@ -11,7 +11,7 @@ pub use rests::Operator;
 use rests::Rounded;
 use verdict::{Refusal, Verdict, test};
 
-#[derive(Drop)]
+#[derive(Clone, Copy)]
 pub enum Worked {
     // A working number, and its rest: an odd whole number with a sign and an exponent, or 0 with exponent 0.
     Result {

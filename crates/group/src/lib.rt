@@ -6,7 +6,7 @@ ghost use Rattle.std.proofs.lemmas.List.Edits.{sets};
 ghost use Rattle.group.specs.Group.{group_of, bytes_of, Inside};
 
 // What stands at the start of a run of bytes.
-#[derive(Drop)]
+#[derive(Clone, Copy)]
 pub enum Group {
     // A group number, and how many bytes hold it.
     Value { value: u64, bytes: usize },

@@ -13,14 +13,14 @@ use number::signed::Signed;
 use number::{BIAS, Number, integer};
 
 // What three whole numbers are.
-#[derive(Drop)]
+#[derive(Clone, Copy)]
 pub enum ListItem {
     Value(Signed),
     Malformed,
 }
 
 // The items of a list, at the start of eight, if it is a proper one.
-#[derive(Drop)]
+#[derive(Clone, Copy)]
 pub struct ItemList {
     pub proper: bool,
     pub count: usize,

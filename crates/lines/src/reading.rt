@@ -5,21 +5,21 @@ ghost use Rattle.lines.specs.Words.{before, word_at, next_word};
 ghost use Rattle.lines.specs.Decimal.{is_numeral, spelled_whole, plus, minus, spelled_signed, WholeUpTo, SignedFits};
 ghost use Rattle.lines.specs.Hexadecimal.{is_letter, nibble_of, byte_of, all_digits, hexadecimal, spelled_bytes, bytes_read, bytes_into};
 
-#[derive(Drop)]
+#[derive(Clone, Copy)]
 pub enum ReadWhole {
     Value(u64),
     Malformed,
 }
 
 // A number with a sign, as its size.
-#[derive(Drop)]
+#[derive(Clone, Copy)]
 pub enum ReadSigned {
     Plus(u64),
     Minus(u64),
     Malformed,
 }
 
-#[derive(Drop)]
+#[derive(Clone, Copy)]
 pub enum ReadBytes {
     // So many bytes were read.
     Count(usize),

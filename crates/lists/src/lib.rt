@@ -16,7 +16,7 @@ use verdict::{Refusal, Verdict, test};
 mod carrying; // carrying.rt: items through a word
 
 // How many reversals, or a refusal.
-#[derive(Drop)]
+#[derive(Clone, Copy)]
 pub enum Reversals {
     Count(u64),
     Refused(Refusal),

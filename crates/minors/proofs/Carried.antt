@@ -45,6 +45,8 @@ module _ (K : CRing) (O : Ordered K) where
   unfolding act
   act-linear (E j w) m c ω η S = moved-linear j (j - 1) w c ω η S
   act-linear (Et j w) m c ω η S = moved-linear (j - 1) j w c ω η S
+  act-linear (D _) m c ω η S = elim m [ ]
+  act-linear (Dinv _) m c ω η S = elim m [ ]
 
   -- at the two highest rows: the wedge of a vector u and a form η that are v and ω but for what the letter adds
   module _ (w : R) (v u : ℕ → R) (ω η : RowSet → R) (S : RowSet) (same : SameEntries (length S) u v) where
@@ -93,6 +95,8 @@ module _ (K : CRing) (O : Ordered K) where
   unfolding carry_letter
   carry-above (E j w) m v n i h g = rw (ne_eqb i j (λ e. omega (arith, h.1)))
   carry-above (Et j w) m v n i h g = rw (ne_eqb i (j - 1) (λ e. omega (arith, h.1)))
+  carry-above (D _) m v n i h g = elim m [ ]
+  carry-above (Dinv _) m v n i h g = elim m [ ]
 
   top-wedge : (l : Letter R) → Move F l → (v : ℕ → R) (ω : RowSet → R) (x y : Bool) (S : RowSet) → high_row l ≡ suc (suc (length S))
       → act F l (wedge K v ω) (x ∷ y ∷ S) ≡ wedge K (carry_letter F l v) (act F l ω) (x ∷ y ∷ S)
@@ -113,6 +117,8 @@ module _ (K : CRing) (O : Ordered K) where
       (rw (ne_eqb (suc (suc (length S))) (j - 1) (λ g. omega arith)))
       (rw (eq-eqb (suc (length S)) (j - 1) (sym f), e))
       (λ p q T t. lower-top F j w ω p q T (omega arith)) x y
+  top-wedge (D _) m v ω x y S e = elim m [ ]
+  top-wedge (Dinv _) m v ω x y S e = elim m [ ]
 
   under-wedge : (l : Letter R) (m : Move F l) (v : ℕ → R) (ω : RowSet → R) (x : Bool) (S : RowSet) → Rows (length S) l
       → ((η : RowSet → R) → act F l (wedge K v η) S ≡ wedge K (carry_letter F l v) (act F l η) S)
@@ -138,10 +144,14 @@ module _ (K : CRing) (O : Ordered K) where
   move-rows : (l : Letter R) → Move F l → (n : ℕ) → Rows n l → 2 ≤ n
   move-rows (E j w) m n h = omega (arith, h.0, h.1)
   move-rows (Et j w) m n h = omega (arith, h.0, h.1)
+  move-rows (D _) m n h = elim m [ ]
+  move-rows (Dinv _) m n h = elim m [ ]
 
   rows_under : (l : Letter R) → Move F l → (n : ℕ) → Rows (suc n) l → (high_row l ≡ suc n → ⊥) → Rows n l
   rows_under (E j w) m n h g = (h.0, omega (arith, h.1))
   rows_under (Et j w) m n h g = (h.0, omega (arith, h.1))
+  rows_under (D _) m n h g = elim m [ ]
+  rows_under (Dinv _) m n h g = elim m [ ]
 
   move-wedge : (l : Letter R) → Move F l → (v : ℕ → R) (ω : RowSet → R) (S : RowSet) → Rows (length S) l
       → act F l (wedge K v ω) S ≡ wedge K (carry_letter F l v) (act F l ω) S

@@ -71,6 +71,18 @@ module _ (K : CRing) (O : Ordered K) where
   letter-equal n (Et j w) (Et i v) h r c x y = ap₂ (λ k u. letter_matrix K O (Et k u) r c) h.0 h.1
   letter-equal n (D e) (D f) h r c x y = ap (λ u. cond (eqb r c) u K.𝟘) (h r x.0 x.1)
   letter-equal n (Dinv e) (Dinv f) h r c x y = ap (λ u. cond (eqb r c) (O.inv u) K.𝟘) (h r x.0 x.1)
+  letter-equal n (E j w) (Et i v) h r c x y = elim h [ ]
+  letter-equal n (E j w) (D f) h r c x y = elim h [ ]
+  letter-equal n (E j w) (Dinv f) h r c x y = elim h [ ]
+  letter-equal n (Et j w) (E i v) h r c x y = elim h [ ]
+  letter-equal n (Et j w) (D f) h r c x y = elim h [ ]
+  letter-equal n (Et j w) (Dinv f) h r c x y = elim h [ ]
+  letter-equal n (D e) (E i v) h r c x y = elim h [ ]
+  letter-equal n (D e) (Et i v) h r c x y = elim h [ ]
+  letter-equal n (D e) (Dinv f) h r c x y = elim h [ ]
+  letter-equal n (Dinv e) (E i v) h r c x y = elim h [ ]
+  letter-equal n (Dinv e) (Et i v) h r c x y = elim h [ ]
+  letter-equal n (Dinv e) (D f) h r c x y = elim h [ ]
 
   word_matrix-equal : (n : ℕ) (W X : Word R) → Matched (Letters ◌≡◌ ◌≡◌ n) W X → Equal K n (word_matrix K O n W) (word_matrix K O n X)
   unfolding word_matrix
@@ -78,6 +90,8 @@ module _ (K : CRing) (O : Ordered K) where
   word_matrix-equal n (l ∷ W) (m ∷ X) h =
       times-equal K n (letter_matrix K O l) (letter_matrix K O m) (word_matrix K O n W) (word_matrix K O n X) (letter-equal n l m h.0)
       (word_matrix-equal n W X h.1)
+  word_matrix-equal n [] (m ∷ X) h = elim h [ ]
+  word_matrix-equal n (l ∷ W) [] h = elim h [ ]
 
   -- equal factors multiply out to equal matrices
   pub multiplied-equal : (n : ℕ) (b c : Factors R) → ((i j : ℕ) → In n i → In n j → b i j ≡ c i j) → Equal K n (multiplied K O n b) (multiplied K O n c)

@@ -24,7 +24,7 @@ held-is f e = to_z-of_z f ∙ e
 
 -- a number of a row of numbers, read
 pub read_is : (xs : List ℤ) (i : ℕ) → mag (get_or xs i (pos 0)) < 2 ^ 63 → to_z w64 (of_z w64 (get_or xs i (pos 0))) ≡ get_or xs i (pos 0)
-read_is xs i h = to_z-of_z (record { sfits = h })
+read_is xs i h = to_z-of_z {w = w64} (record { sfits = h })
 
 pub below-zero : (x : ℤ) → lt_z x (pos 0) ≡ is_negative x
 below-zero (pos n) = le-ltb n 0 (omega arith)

@@ -22,14 +22,14 @@ pub const BIAS: u64 = 4194304;
 
 // m times 2 to the power x - BIAS. Zero has m 0 and x BIAS.
 #[repr(C)]
-#[derive(Drop)]
+#[derive(Clone, Copy)]
 pub struct Number {
     pub m: u64,
     pub x: u64,
 }
 
 // Which way a result is rounded: IEEE 754's round_ties_to_even, its round_toward_zero, and the upward partner of that.
-#[derive(Drop)]
+#[derive(Clone, Copy)]
 pub enum Direction {
     Nearest,
     Down,

@@ -21,14 +21,14 @@ mod effort; // effort.rt: steps by sizes
 mod value; // value.rt: a minor
 mod work; // work.rt: results, and how they are kept
 
-#[derive(Drop)]
+#[derive(Clone, Copy)]
 pub enum Bounded {
     // The factors are within so many unit roundings.
     Bound(u32),
     Refused(Refusal),
 }
 
-#[derive(Drop)]
+#[derive(Clone, Copy)]
 pub enum Performed {
     // The result's factors are within so many unit roundings, and took so many steps.
     Done { bound: u32, steps: usize },
@@ -36,7 +36,7 @@ pub enum Performed {
 }
 
 // The result of an operation before it is kept.
-#[derive(Drop)]
+#[derive(Clone, Copy)]
 pub struct Proposed {
     answer: Performed,
     rows: usize,
@@ -44,7 +44,7 @@ pub struct Proposed {
 }
 
 // An operation on places, without its target.
-#[derive(Drop)]
+#[derive(Clone, Copy)]
 pub enum Task {
     Product {
         left: usize,
@@ -64,14 +64,14 @@ pub enum Task {
     },
 }
 
-#[derive(Drop)]
+#[derive(Clone, Copy)]
 pub enum Foretold {
     // The operation will make so many steps.
     Steps(usize),
     Refused(Refusal),
 }
 
-#[derive(Drop)]
+#[derive(Clone, Copy)]
 pub enum Valued {
     // A mantissa times 2 to the power of an exponent.
     Value { mantissa: u64, exponent: i64 },
@@ -79,14 +79,14 @@ pub enum Valued {
 }
 
 // The shelf after an operation.
-#[derive(Drop)]
+#[derive(Clone, Copy)]
 pub struct Operated {
     pub shelf: Shelf,
     pub answer: Performed,
 }
 
 // The shelf after a place was filled from time stamps.
-#[derive(Drop)]
+#[derive(Clone, Copy)]
 pub struct Filled {
     pub shelf: Shelf,
     pub answer: Bounded,

@@ -48,7 +48,7 @@ pub fn one_source(shelf: Shelf, source: usize, target: usize) -> Verdict
 }
 
 // What may be wrong with some place of a recipe.
-#[derive(Drop)]
+#[derive(Clone, Copy)]
 struct Faults {
     above: bool,
     empty: bool,

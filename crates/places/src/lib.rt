@@ -11,7 +11,7 @@ pub mod judge; // judge.rt: the tests of the calls
 
 // Eight places of 64 numbers each, and the rows of the matrix at each, 0 where the place is empty.
 #[repr(C)]
-#[derive(Drop)]
+#[derive(Clone, Copy)]
 pub struct Shelf {
     numbers: [Number; 512],
     sizes: [u8; 8],

@@ -11,27 +11,27 @@ use number::{BIAS, Number};
 use writer::CODE_ZERO;
 
 // A group number of the input, with the offset behind it.
-#[derive(Drop)]
+#[derive(Clone, Copy)]
 enum ByteItem {
     Value { value: u64, next: usize },
     Fault { number: u8, offset: usize },
 }
 
 // What a test of an exponent code says.
-#[derive(Drop)]
+#[derive(Clone, Copy)]
 enum CodeVerdict {
     Accepted,
     Refused { number: u8 },
 }
 
 // A factor of the input, with the offset behind it.
-#[derive(Drop)]
+#[derive(Clone, Copy)]
 enum ByteFactor {
     At { factor: Number, next: usize },
     Fault { number: u8, offset: usize },
 }
 
-#[derive(Drop)]
+#[derive(Clone, Copy)]
 pub enum ReadOutcome {
     // A matrix of so many rows, and the offset behind it.
     Matrix { rows: usize, next: usize },
@@ -41,7 +41,7 @@ pub enum ReadOutcome {
 
 // What was read, in as many numbers as a place of the shelf has. The factors of a matrix stand first, row by row: factor (i, j) of n rows is number
 // (i - 1) * n + j - 1, counted from 0. The numbers past them, and all of them beside a fault, are zero.
-#[derive(Drop)]
+#[derive(Clone, Copy)]
 pub struct Parsed {
     pub outcome: ReadOutcome,
     pub numbers: [Number; 64],

@@ -10,14 +10,14 @@ pub use walk::Way;
 pub mod codes; // codes.rt: steps as numbers
 
 // A step: a place number together with the way it is taken.
-#[derive(Drop)]
+#[derive(Clone, Copy)]
 pub struct RecipeStep {
     pub place: usize,
     pub way: Way,
 }
 
 // The first `count` of six steps. The other slots are not looked at.
-#[derive(Drop)]
+#[derive(Clone, Copy)]
 pub struct Recipe {
     pub steps: [RecipeStep; 6],
     pub count: usize,

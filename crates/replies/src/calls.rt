@@ -16,7 +16,7 @@ use crate::items;
 use shelf::{Changed, Filled, Operator, Refusal, Shelf, Written};
 
 // The shelf after a request, and the index of the output behind the answer.
-#[derive(Drop)]
+#[derive(Clone, Copy)]
 pub struct Answered {
     pub shelf: Shelf,
     pub at: usize,

@@ -5,7 +5,7 @@ ghost use Rattle.requests.specs.Commands.{operation_forms, first_forms, second_f
 use crate::wholes::Member;
 
 // The kinds of operations.
-#[derive(Drop)]
+#[derive(Clone, Copy)]
 pub enum Kind {
     Product,
     Inverse,
@@ -16,14 +16,14 @@ pub enum Kind {
 }
 
 // How an operation is asked for: directly, or with a word in front of its own.
-#[derive(Drop)]
+#[derive(Clone, Copy)]
 pub enum Mode {
     Direct,
     // `forecast`.
     Foretold,
 }
 
-#[derive(Drop)]
+#[derive(Clone, Copy)]
 pub enum Command {
     Load,
     Write,
@@ -47,7 +47,7 @@ pub enum Command {
 }
 
 // What stands behind the numbers of a request.
-#[derive(Drop)]
+#[derive(Clone, Copy)]
 pub enum Tail {
     None,
     Bytes,
@@ -59,7 +59,7 @@ pub enum Tail {
 }
 
 // A command, the letters of its numbers (P a place or another number of 32 bits, M a mask, C a length to lend, - no number), and what stands behind them.
-#[derive(Drop)]
+#[derive(Clone, Copy)]
 pub struct Form {
     pub command: Command,
     pub letters: [u8; 4],

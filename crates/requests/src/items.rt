@@ -8,13 +8,13 @@ use crate::lists::{LONGEST, ReadList};
 use lines::ReadSigned;
 use number::integer;
 
-#[derive(Drop)]
+#[derive(Clone, Copy)]
 pub enum ReadNumber {
     Value(i64),
     Malformed,
 }
 
-#[derive(Drop)]
+#[derive(Clone, Copy)]
 pub enum ReadItem {
     Value {
         sign: i64,

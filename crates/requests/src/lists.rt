@@ -3,7 +3,7 @@
 // How many words a list has at most.
 pub const LONGEST: usize = 16;
 
-#[derive(Drop)]
+#[derive(Clone, Copy)]
 pub enum ReadList {
     // So many words were read.
     Count(usize),

@@ -12,7 +12,7 @@ use crate::{commands, items, wholes};
 use lines::{ReadBytes, ReadWhole};
 
 // The numbers of a line, if all were read, and where the next word starts.
-#[derive(Drop)]
+#[derive(Clone, Copy)]
 pub struct Numbers {
     pub well: bool,
     pub values: [usize; 4],
@@ -20,7 +20,7 @@ pub struct Numbers {
 }
 
 // A command, its numbers, and how many bytes, items and whole numbers follow.
-#[derive(Drop)]
+#[derive(Clone, Copy)]
 pub struct Request {
     pub command: Command,
     pub values: [usize; 4],

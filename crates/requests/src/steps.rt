@@ -6,7 +6,7 @@ use crate::items;
 use lines::ReadWhole;
 use recipes::{Way, codes};
 
-#[derive(Drop)]
+#[derive(Clone, Copy)]
 pub enum ReadWay {
     Value(Way),
     Malformed,

@@ -9,7 +9,7 @@ use crate::steps;
 use lines::ReadWhole;
 
 // What the words of a list are: numbers of 64 bits, of 32, or the steps of a recipe.
-#[derive(Drop)]
+#[derive(Clone, Copy)]
 pub enum Member {
     Stamp,
     Place,

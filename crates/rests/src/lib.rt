@@ -8,7 +8,7 @@ ghost use Rattle.rests.specs.Rest.{rest_integer, rest_exponent, Small};
 
 use number::{BIAS, Direction, Number, integer, power, unbiased};
 
-#[derive(Drop)]
+#[derive(Clone, Copy)]
 pub enum Operator {
     Add,
     Multiply,
@@ -16,7 +16,7 @@ pub enum Operator {
 }
 
 // An odd whole number times 2 to the power x - BIAS, with a sign. No rest is 0 with x BIAS, and not negative.
-#[derive(Drop)]
+#[derive(Clone, Copy)]
 pub struct Rest {
     pub negative: bool,
     pub odd: u64,
@@ -24,7 +24,7 @@ pub struct Rest {
 }
 
 // A rounded result, and its rest.
-#[derive(Drop)]
+#[derive(Clone, Copy)]
 pub struct Rounded {
     pub number: Number,
     pub rest: Rest,

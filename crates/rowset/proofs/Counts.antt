@@ -57,6 +57,7 @@ run-count-right a b = eqb (mask_count (mask_run (suc a) b)) (b - a)
 pub run-count : (a b : ℕ) → 1 ≤ a → a ≤ 9 → b ≤ 8 → mask_count (mask_run a b) ≡ suc b - a
 unfolding run-count-right mask_run mask_count count_to mask_has
 run-count (suc a) b h la lb = eqb→eq _ _ (all₂-at 9 9 run-count-right tt a b (omega arith) (omega arith)) ∙ omega arith
+run-count zero b h la lb = elim h [ ]
 
 pub run-below : (n a b : ℕ) → b ≤ n → mask_run a b < 2 ^ n
 unfolding mask_run

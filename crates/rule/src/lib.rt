@@ -21,7 +21,7 @@ use walk::{Counted, Joined};
 mod bounds; // bounds.rt: the bounds by size
 
 // A joined word with the chosen rows and columns of its matrix. The first ones, so many of both as are clamped, are joined to every set of the others.
-#[derive(Drop)]
+#[derive(Clone, Copy)]
 pub struct Chosen {
     pub word: Joined,
     pub rows: usize,
@@ -30,7 +30,7 @@ pub struct Chosen {
 }
 
 // The new factors, in rows of eight, how many rows they have, their bound, and the steps that were made.
-#[derive(Drop)]
+#[derive(Clone, Copy)]
 pub struct Refactored {
     pub factors: [Number; 64],
     pub rows: usize,
@@ -39,7 +39,7 @@ pub struct Refactored {
 }
 
 // New factors in rows of eight, and the steps that they took.
-#[derive(Drop)]
+#[derive(Clone, Copy)]
 struct Table {
     factors: [Number; 64],
     steps: usize,

@@ -24,14 +24,14 @@ pub use verdict::{Refusal, Verdict};
 pub use writer::Written;
 
 // The shelf after a call that only changes it.
-#[derive(Drop)]
+#[derive(Clone, Copy)]
 pub struct Changed {
     pub shelf: Shelf,
     pub verdict: Verdict,
 }
 
 // A mantissa times 2 to the power of an exponent.
-#[derive(Drop)]
+#[derive(Clone, Copy)]
 pub struct Factor {
     pub mantissa: u64,
     pub exponent: i64,

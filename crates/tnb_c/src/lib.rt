@@ -23,7 +23,7 @@ mod recipe; // recipe.rt: recipes and their steps
 // What a call answers that may change the shelf: 0, or the number of the refusal with its offset; the bound of an operation or a build and the steps of an
 // operation, else 0; and the shelf after it.
 #[repr(C)]
-#[derive(Drop)]
+#[derive(Clone, Copy)]
 pub struct Answer {
     pub number: u8,
     pub bound: u32,
@@ -34,7 +34,7 @@ pub struct Answer {
 
 // Whether a call was accepted that answers nothing else.
 #[repr(C)]
-#[derive(Drop)]
+#[derive(Clone, Copy)]
 pub struct Status {
     pub number: u8,
     pub offset: usize,
@@ -42,7 +42,7 @@ pub struct Status {
 
 // How many bytes were written or will be, reversals counted, or rows a place has.
 #[repr(C)]
-#[derive(Drop)]
+#[derive(Clone, Copy)]
 pub struct Length {
     pub number: u8,
     pub offset: usize,
@@ -51,7 +51,7 @@ pub struct Length {
 
 // How many steps an operation will make.
 #[repr(C)]
-#[derive(Drop)]
+#[derive(Clone, Copy)]
 pub struct Steps {
     pub number: u8,
     pub offset: usize,
@@ -60,7 +60,7 @@ pub struct Steps {
 
 // The mantissa and the exponent of a minor or a factor.
 #[repr(C)]
-#[derive(Drop)]
+#[derive(Clone, Copy)]
 pub struct Value {
     pub number: u8,
     pub offset: usize,
@@ -70,7 +70,7 @@ pub struct Value {
 
 // A number worked from two others, and its rest: an odd whole number with a sign and an exponent, or 0 with exponent 0.
 #[repr(C)]
-#[derive(Drop)]
+#[derive(Clone, Copy)]
 pub struct Worked {
     pub number: u8,
     pub offset: usize,

@@ -13,7 +13,7 @@ use recipes::{Way, codes};
 
 // A step of a recipe.
 #[repr(C)]
-#[derive(Drop)]
+#[derive(Clone, Copy)]
 pub struct Step {
     pub code: u64,
 }

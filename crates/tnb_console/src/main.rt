@@ -16,7 +16,7 @@ const ENOUGH: usize = 16384;
 
 // What is kept from line to line: the shelf, where the next line starts, how many bytes of answers wait, whether that line is too
 // long and its start thrown away, and whether all answers before those could be written.
-#[derive(Drop)]
+#[derive(Clone, Copy)]
 struct State {
     shelf: Shelf,
     start: usize,
@@ -45,7 +45,7 @@ fn flush(output: &[u8], waiting: usize) -> bool
 }
 
 // Where an answer goes, and whether those before it could be written.
-#[derive(Drop)]
+#[derive(Clone, Copy)]
 struct Opening {
     at: usize,
     written: bool,
@@ -161,7 +161,7 @@ fn hold(input: &mut [u8], start: usize, n: usize, long: bool) -> usize
 }
 
 // What is left when a piece of the input was answered: the first `held` bytes of the input start the next line.
-#[derive(Drop)]
+#[derive(Clone, Copy)]
 struct Piece {
     state: State,
     held: usize,

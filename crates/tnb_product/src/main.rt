@@ -14,7 +14,7 @@ use libc::{STDERR_FILENO, STDOUT_FILENO};
 use shelf::{Factor, Operated, Performed, Refusal, Shelf, Verdict};
 
 // What a read gave.
-#[derive(Drop)]
+#[derive(Clone, Copy)]
 enum Got {
     // So many bytes are read by now.
     More(usize),

@@ -29,12 +29,16 @@ use Rattle.walk.proofs.Spelling.{IsMove, EntriesAt, IsDiagonal, word-length, let
 pub each-length : {A B : Type 0} (P : Letter A → Letter B → Type 0) (U : Word A) (X : Word B) → Matched P U X → length U ≡ length X
 each-length P [] [] h = refl
 each-length P (x ∷ U) (y ∷ X) h = ap suc (each-length P U X h.1)
+each-length {A = A} {B = B} P [] (y ∷ X) h = elim h [ ]
+each-length {A = A} {B = B} P (x ∷ U) [] h = elim h [ ]
 
 pub each_at : {A B : Type 0} (P : Letter A → Letter B → Type 0) (U : Word A) (X : Word B) → Matched P U X → (t : ℕ) → t < length X
     → (d : Letter A) (e : Letter B) → P (get_or U t d) (get_or X t e)
 each_at P [] [] h t l d e = absurd (not-suc-le-zero l)
 each_at P (x ∷ U) (y ∷ X) h zero l d e = h.0
 each_at P (x ∷ U) (y ∷ X) h (suc t) l d e = each_at P U X h.1 t (omega arith) d e
+each_at {A = A} {B = B} P [] (y ∷ X) h t l d e = elim h [ ]
+each_at {A = A} {B = B} P (x ∷ U) [] h t l d e = elim h [ ]
 
 -- a factor and the place where it stands: the weight of a letter E or Et, and an entry of D
 abbrev pub At : List Number → Number → ℕ → Type 0
@@ -67,6 +71,14 @@ module _ (n : ℕ) (b : List Number) (ω : State rounded) where
   unfolding act
   act-move (E i p) (E j w) h m = ap₂ (λ (k : ℕ) (v : Number). moved rounded k (k - 1) v ω) h.0 h.1.0
   act-move (Et i p) (Et j w) h m = ap₂ (λ (k : ℕ) (v : Number). moved rounded (k - 1) k v ω) h.0 h.1.0
+  act-move (E i p) (Et j w) h m = elim h [ ]
+  act-move (E i p) (D _) h m = elim h [ ]
+  act-move (E i p) (Dinv _) h m = elim h [ ]
+  act-move (Et i p) (E j w) h m = elim h [ ]
+  act-move (Et i p) (D _) h m = elim h [ ]
+  act-move (Et i p) (Dinv _) h m = elim h [ ]
+  act-move (D _) _ h m = elim m [ ]
+  act-move (Dinv _) _ h m = elim m [ ]
 
   -- D
   module _ (way : Way) where
@@ -86,12 +98,28 @@ module _ (n : ℕ) (b : List Number) (ω : State rounded) where
     act-diagonal (Dinv f) (Dinv e) h g S z =
         scaled-entries quotient_of e entries S (ω S) (λ i l u. entry-is e f h g.1 i l (omega (arith, z)))
         ∙ ap (λ (c : Bool). scaled rounded (scaling c) entries S (ω S)) (sym g.0)
+    act-diagonal (E _ _) _ h g S z = elim g [ ]
+    act-diagonal (Et _ _) _ h g S z = elim g [ ]
+    act-diagonal (D f) (E _ _) h g S z = elim h [ ]
+    act-diagonal (D f) (Et _ _) h g S z = elim h [ ]
+    act-diagonal (D f) (Dinv e) h g S z = elim h [ ]
+    act-diagonal (Dinv f) (E _ _) h g S z = elim h [ ]
+    act-diagonal (Dinv f) (Et _ _) h g S z = elim h [ ]
+    act-diagonal (Dinv f) (D e) h g S z = elim h [ ]
 
 -- the factor of a move is stored or zero
 pub move-ranged : (n : ℕ) (b : List Number) (y : Letter ℕ) (x : Letter Number) → Letters (At b) (On b) n x y → IsMove y
     → Ranged 1000 (get_or b (move_of y).at zero_number)
 move-ranged n b (E i p) (E j w) h m = subst (Ranged 1000) h.1.0 h.1.1
 move-ranged n b (Et i p) (Et j w) h m = subst (Ranged 1000) h.1.0 h.1.1
+move-ranged n b (E i p) (Et j w) h m = elim h [ ]
+move-ranged n b (E i p) (D _) h m = elim h [ ]
+move-ranged n b (E i p) (Dinv _) h m = elim h [ ]
+move-ranged n b (Et i p) (E j w) h m = elim h [ ]
+move-ranged n b (Et i p) (D _) h m = elim h [ ]
+move-ranged n b (Et i p) (Dinv _) h m = elim h [ ]
+move-ranged n b (D _) _ h m = elim m [ ]
+move-ranged n b (Dinv _) _ h m = elim m [ ]
 
 -- LETTER t OF A STEP
 module _ (n : ℕ) (way : Way) (b : List Number) (walkable : Source (Walkable n) (step_of way b)) (ln : 1 ≤ n) (hn : n ≤ 8) (t : ℕ)

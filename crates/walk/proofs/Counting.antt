@@ -37,11 +37,27 @@ all-letter P (x ∷ W) h (suc t) l d = all-letter P W h.1 t (omega arith) d
 move-cost : (n c : ℕ) (b : List Number) (y : Letter ℕ) (x : Letter Number) → Letters (At b) (On b) n x y → IsMove y → letter_cost c 0 x ≡ c
 move-cost n c b (E i p) (E j w) h m = refl
 move-cost n c b (Et i p) (Et j w) h m = refl
+move-cost n c b (E i p) (Et j w) h m = elim h [ ]
+move-cost n c b (E i p) (D _) h m = elim h [ ]
+move-cost n c b (E i p) (Dinv _) h m = elim h [ ]
+move-cost n c b (Et i p) (E j w) h m = elim h [ ]
+move-cost n c b (Et i p) (D _) h m = elim h [ ]
+move-cost n c b (Et i p) (Dinv _) h m = elim h [ ]
+move-cost n c b (D _) _ h m = elim m [ ]
+move-cost n c b (Dinv _) _ h m = elim m [ ]
 
 diagonal-cost : (n c : ℕ) (way : Way) (b : List Number) (y : Letter ℕ) (x : Letter Number) → Letters (At b) (On b) n x y → IsDiagonal n way y
     → letter_cost c 0 x ≡ 0
 diagonal-cost n c way b (D f) (D e) h m = refl
 diagonal-cost n c way b (Dinv f) (Dinv e) h m = refl
+diagonal-cost n c way b (E _ _) _ h m = elim m [ ]
+diagonal-cost n c way b (Et _ _) _ h m = elim m [ ]
+diagonal-cost n c way b (D f) (E _ _) h m = elim h [ ]
+diagonal-cost n c way b (D f) (Et _ _) h m = elim h [ ]
+diagonal-cost n c way b (D f) (Dinv e) h m = elim h [ ]
+diagonal-cost n c way b (Dinv f) (E _ _) h m = elim h [ ]
+diagonal-cost n c way b (Dinv f) (Et _ _) h m = elim h [ ]
+diagonal-cost n c way b (Dinv f) (D e) h m = elim h [ ]
 
 -- how many sets of k out of n rows a letter updates, as the table has it
 many-foretold : (n k : ℕ) → n ≤ 8 → 1 ≤ k → k ≤ n → letter_foretold n k ≡ count_below (k - 1) (2 ^ (n - 2))

@@ -25,7 +25,7 @@ pub mod letters; // letters.rt: the letters of a word by their numbers
 pub mod source; // source.rt: factors and letters as they are lent
 
 // The way that a source's word is taken.
-#[derive(Drop)]
+#[derive(Clone, Copy)]
 pub enum Way {
     Plain,
     Inverted,
@@ -34,13 +34,13 @@ pub enum Way {
 }
 
 // A step of a joined word. The factor of row i and column j of step c stands at c * 64 + (i - 1) * 8 + (j - 1) of the lent factors.
-#[derive(Drop)]
+#[derive(Clone, Copy)]
 pub struct Step {
     pub way: Way,
 }
 
 // The first `count` of six steps, each of n rows: their words are joined in this order.
-#[derive(Drop)]
+#[derive(Clone, Copy)]
 pub struct Joined {
     pub steps: [Step; 6],
     pub count: usize,
@@ -49,7 +49,7 @@ pub struct Joined {
 
 // A number, and the steps that it took: how many row sets letters E and Et were applied to for it (document 02, (k)), those among them whose number a zero
 // left as it was. (`steps` of `Joined` are sources, each with its way.)
-#[derive(Drop)]
+#[derive(Clone, Copy)]
 pub struct Counted {
     pub number: Number,
     pub steps: usize,

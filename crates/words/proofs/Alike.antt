@@ -17,6 +17,8 @@ module _ {A B : Type 0} (P : Letter A → Letter B → Type 0) where
   pub matched-append : (U : Word A) (X : Word B) (U' : Word A) (X' : Word B) → Matched P U X → Matched P U' X' → Matched P (U ++ U') (X ++ X')
   matched-append [] [] U' X' h g = g
   matched-append (x ∷ U) (y ∷ X) U' X' h g = (h.0, matched-append U X U' X' h.1 g)
+  matched-append [] (y ∷ X) U' X' h g = elim h [ ]
+  matched-append (x ∷ U) [] U' X' h g = elim h [ ]
 
   matched-ascending : (a c : ℕ) (f : ℕ → Word A) (g : ℕ → Word B) → ((i : ℕ) → a ≤ i → i < a + c → Matched P (f i) (g i))
       → Matched P (ascending a c f) (ascending a c g)
@@ -58,6 +60,8 @@ module _ {A B : Type 0} (P : Letter A → Letter B → Type 0) where
   unfolding inverse_word
   matched-inverse h [] [] g = tt
   matched-inverse h (x ∷ U) (y ∷ X) g = matched-append (inverse_word U) (inverse_word X) _ _ (matched-inverse h U X g.1) (h x y g.0, tt)
+  matched-inverse h [] (y ∷ X) g = elim g [ ]
+  matched-inverse h (x ∷ U) [] g = elim g [ ]
 
   pub matched-converse : (n : ℕ) → ((x : Letter A) (y : Letter B) → P x y → P (converse_letter n x) (converse_letter n y)) → (U : Word A) (X : Word B)
       → Matched P U X
@@ -65,12 +69,16 @@ module _ {A B : Type 0} (P : Letter A → Letter B → Type 0) where
   unfolding converse_word
   matched-converse n h [] [] g = tt
   matched-converse n h (x ∷ U) (y ∷ X) g = (h x y g.0, matched-converse n h U X g.1)
+  matched-converse n h [] (y ∷ X) g = elim g [ ]
+  matched-converse n h (x ∷ U) [] g = elim g [ ]
 
   pub matched-transposed : ((x : Letter A) (y : Letter B) → P x y → P (transposed_letter x) (transposed_letter y)) → (U : Word A) (X : Word B) → Matched P U X
       → Matched P (transposed_word U) (transposed_word X)
   unfolding transposed_word
   matched-transposed h [] [] g = tt
   matched-transposed h (x ∷ U) (y ∷ X) g = matched-append (transposed_word U) (transposed_word X) _ _ (matched-transposed h U X g.1) (h x y g.0, tt)
+  matched-transposed h [] (y ∷ X) g = elim g [ ]
+  matched-transposed h (x ∷ U) [] g = elim g [ ]
 
 -- A WORD AND ITSELF, where only the weights and entries of one side are looked at
 pub letters-self : {A : Type 0} (P Q : A → Type 0) (n : ℕ) (W : Word A) → All (Weights P Q n) W → Matched (Letters (λ w v. P w) (λ e f. Q e) n) W W
@@ -98,18 +106,54 @@ module _ {A B : Type 0} (P Q : A → B → Type 0) (n : ℕ) where
   letters-inverse (Et j w) (Et i v) h = h
   letters-inverse (D e) (D f) h = h
   letters-inverse (Dinv e) (Dinv f) h = h
+  letters-inverse (E j w) (Et i v) h = elim h [ ]
+  letters-inverse (E j w) (D f) h = elim h [ ]
+  letters-inverse (E j w) (Dinv f) h = elim h [ ]
+  letters-inverse (Et j w) (E i v) h = elim h [ ]
+  letters-inverse (Et j w) (D f) h = elim h [ ]
+  letters-inverse (Et j w) (Dinv f) h = elim h [ ]
+  letters-inverse (D e) (E i v) h = elim h [ ]
+  letters-inverse (D e) (Et i v) h = elim h [ ]
+  letters-inverse (D e) (Dinv f) h = elim h [ ]
+  letters-inverse (Dinv e) (E i v) h = elim h [ ]
+  letters-inverse (Dinv e) (Et i v) h = elim h [ ]
+  letters-inverse (Dinv e) (D f) h = elim h [ ]
 
   letters-converse : (x : Letter A) (y : Letter B) → Letters P Q n x y → Letters P Q n (converse_letter n x) (converse_letter n y)
   letters-converse (E j w) (E i v) h = (ap (λ k. n + 2 - k) h.0, h.1)
   letters-converse (Et j w) (Et i v) h = (ap (λ k. n + 2 - k) h.0, h.1)
   letters-converse (D e) (D f) h = λ i x y. h (n + 1 - i) (omega arith) (omega arith)
   letters-converse (Dinv e) (Dinv f) h = λ i x y. h (n + 1 - i) (omega arith) (omega arith)
+  letters-converse (E j w) (Et i v) h = elim h [ ]
+  letters-converse (E j w) (D f) h = elim h [ ]
+  letters-converse (E j w) (Dinv f) h = elim h [ ]
+  letters-converse (Et j w) (E i v) h = elim h [ ]
+  letters-converse (Et j w) (D f) h = elim h [ ]
+  letters-converse (Et j w) (Dinv f) h = elim h [ ]
+  letters-converse (D e) (E i v) h = elim h [ ]
+  letters-converse (D e) (Et i v) h = elim h [ ]
+  letters-converse (D e) (Dinv f) h = elim h [ ]
+  letters-converse (Dinv e) (E i v) h = elim h [ ]
+  letters-converse (Dinv e) (Et i v) h = elim h [ ]
+  letters-converse (Dinv e) (D f) h = elim h [ ]
 
   letters-transposed : (x : Letter A) (y : Letter B) → Letters P Q n x y → Letters P Q n (transposed_letter x) (transposed_letter y)
   letters-transposed (E j w) (E i v) h = h
   letters-transposed (Et j w) (Et i v) h = h
   letters-transposed (D e) (D f) h = h
   letters-transposed (Dinv e) (Dinv f) h = h
+  letters-transposed (E j w) (Et i v) h = elim h [ ]
+  letters-transposed (E j w) (D f) h = elim h [ ]
+  letters-transposed (E j w) (Dinv f) h = elim h [ ]
+  letters-transposed (Et j w) (E i v) h = elim h [ ]
+  letters-transposed (Et j w) (D f) h = elim h [ ]
+  letters-transposed (Et j w) (Dinv f) h = elim h [ ]
+  letters-transposed (D e) (E i v) h = elim h [ ]
+  letters-transposed (D e) (Et i v) h = elim h [ ]
+  letters-transposed (D e) (Dinv f) h = elim h [ ]
+  letters-transposed (Dinv e) (E i v) h = elim h [ ]
+  letters-transposed (Dinv e) (Et i v) h = elim h [ ]
+  letters-transposed (Dinv e) (D f) h = elim h [ ]
 
   -- steps taken the same way, their sources alike
   pub data AlikeStep : Step A → Step B → Type 0 where
@@ -127,6 +171,18 @@ module _ {A B : Type 0} (P Q : A → B → Type 0) (n : ℕ) where
   letters-step (step conversed b) (step conversed c) (alike h) = matched-converse (Letters P Q n) n letters-converse (word n b) (word n c) (letters-word b c h)
   letters-step (step transposed b) (step transposed c) (alike h) =
       matched-transposed (Letters P Q n) letters-transposed (word n b) (word n c) (letters-word b c h)
+  letters-step (step plain b) (step inverted c) x6 = elim x6 [ ]
+  letters-step (step plain b) (step conversed c) x7 = elim x7 [ ]
+  letters-step (step plain b) (step transposed c) x8 = elim x8 [ ]
+  letters-step (step inverted b) (step plain c) x7 = elim x7 [ ]
+  letters-step (step inverted b) (step conversed c) x8 = elim x8 [ ]
+  letters-step (step inverted b) (step transposed c) x9 = elim x9 [ ]
+  letters-step (step conversed b) (step plain c) x8 = elim x8 [ ]
+  letters-step (step conversed b) (step inverted c) x9 = elim x9 [ ]
+  letters-step (step conversed b) (step transposed c) x10 = elim x10 [ ]
+  letters-step (step transposed b) (step plain c) x9 = elim x9 [ ]
+  letters-step (step transposed b) (step inverted c) x10 = elim x10 [ ]
+  letters-step (step transposed b) (step conversed c) x11 = elim x11 [ ]
 
   pub letters-joined : (L : List (Step A)) (M : List (Step B)) → AlikeSteps L M → Matched (Letters P Q n) (joined_word n L) (joined_word n M)
   unfolding joined_word
@@ -137,6 +193,9 @@ module _ {A B : Type 0} (P Q : A → B → Type 0) (n : ℕ) where
   letters-joined (s ∷ s' ∷ L) (t ∷ t' ∷ M) h =
       matched-append (Letters P Q n) (step_word n s) (step_word n t) (joined_word n (s' ∷ L)) (joined_word n (t' ∷ M)) (letters-step s t h.0)
       (letters-joined (s' ∷ L) (t' ∷ M) h.1)
+  letters-joined [] (t ∷ _) h = elim h [ ]
+  letters-joined (s ∷ []) [] h = elim h [ ]
+  letters-joined (s ∷ (s' ∷ L)) [] h = elim h [ ]
 
   -- sources whose factors are in R off the diagonal and in S on it, beside the same steps in other numbers
   pub alike-each : (R S : A → Type 0) (f : A → B) → ((x : A) → R x → P x (f x)) → ((x : A) → S x → Q x (f x))

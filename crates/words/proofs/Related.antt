@@ -120,12 +120,26 @@ module _ (A B : Arithmetic) (G : Type 0) (Rel : G → A.Num → B.Num → Type 0
       subst (λ (k : ℕ). Rel (after_move g) (moved A (j - 1) j w ω S) (moved B (k - 1) k v η S)) h.0 (moved-related (j - 1) j g w v h.1 ω η r S s)
   act-related (D e) (D f) h g ω η r S s = scaled-states A.mul B.mul rel-times e f h g ω η r S s
   act-related (Dinv e) (Dinv f) h g ω η r S s = scaled-states A.div B.div rel-over e f h g ω η r S s
+  act-related (E j w) (Et i v) h g ω η r S s = elim h [ ]
+  act-related (E j w) (D f) h g ω η r S s = elim h [ ]
+  act-related (E j w) (Dinv f) h g ω η r S s = elim h [ ]
+  act-related (Et j w) (E i v) h g ω η r S s = elim h [ ]
+  act-related (Et j w) (D f) h g ω η r S s = elim h [ ]
+  act-related (Et j w) (Dinv f) h g ω η r S s = elim h [ ]
+  act-related (D e) (E i v) h g ω η r S s = elim h [ ]
+  act-related (D e) (Et i v) h g ω η r S s = elim h [ ]
+  act-related (D e) (Dinv f) h g ω η r S s = elim h [ ]
+  act-related (Dinv e) (E i v) h g ω η r S s = elim h [ ]
+  act-related (Dinv e) (Et i v) h g ω η r S s = elim h [ ]
+  act-related (Dinv e) (D f) h g ω η r S s = elim h [ ]
 
   pub walk-related : (W : Word A.Num) (X : Word B.Num) → Matched (Letters Weight Entry n) W X → (g : G) (ω : State A) (η : State B) → States g ω η
       → States (after W g) (walk A W ω) (walk B X η)
   unfolding walk after
   walk-related [] [] h g ω η r S s = r S s
   walk-related (l ∷ W) (m ∷ X) h g ω η r S s = act-related l m h.0 (after W g) (walk A W ω) (walk B X η) (walk-related W X h.1 g ω η r) S s
+  walk-related [] (m ∷ X) h g ω η r S s = elim h [ ]
+  walk-related (l ∷ W) [] h g ω η r S s = elim h [ ]
 
   -- a minor of related words, from a grade that relates zero to zero and one to one
   pub minor-related : (W : Word A.Num) (X : Word B.Num) → Matched (Letters Weight Entry n) W X → (g : G) → Rel g A.zero B.zero

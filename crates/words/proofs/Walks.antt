@@ -113,6 +113,8 @@ module _ (K : Arithmetic) where
   unfolding act
   act-under (E j w) m ω x S h = moved-under j (j - 1) w ω x S h.1 (omega (arith, h.1))
   act-under (Et j w) m ω x S h = moved-under (j - 1) j w ω x S (omega (arith, h.1)) h.1
+  act-under (D _) m ω x S h = elim m [ ]
+  act-under (Dinv _) m ω x S h = elim m [ ]
 
   -- and, where the highest row is not in the set, every letter
   pub act-false : (l : Letter Num) (ω : State K) (S : RowSet) → Rows (length S) l → act K l ω (false ∷ S) ≡ act K l (under false ω) S

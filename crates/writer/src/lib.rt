@@ -11,7 +11,7 @@ use verdict::{Refusal, Verdict, test};
 // The exponent -1001, as it is kept: an exponent code counts from there.
 pub const CODE_ZERO: u64 = 4193303;
 
-#[derive(Drop)]
+#[derive(Clone, Copy)]
 pub enum Written {
     // So many bytes were written.
     Length(usize),
