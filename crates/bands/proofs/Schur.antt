@@ -113,14 +113,14 @@ module _ (K : CRing) where
     unfolding determinant columns
     schur-formula j y =
         ap₂ (λ I vs. wedges K vs I) one-row
-        (columns-above A (rows m j j) (rows k 1 k) ∙ ap (λ vs. vs ++ columns K A (rows k 1 k)) (columns-one _ m j y)
+        (columns-above A (rows m j j) (rows k 1 k) ∙ ap (λ vs. vs ++ columns K A (rows k 1 k)) (columns-one (λ r c. A r (length (rows k 1 k) +ℕ c)) m j y)
         ∙ ap (λ l. (λ r. A r (l +ℕ j)) ∷ columns K A (rows k 1 k)) (length-rows k 1 k))
         ∙ combined-minor K (k +ℕ m) combination (λ r. A r (k +ℕ j)) (columns K A (rows k 1 k)) S (k +ℕ i) (long-first k (rows m 1 0) (length-rows m 1 0))
         (omega (arith, x.0), omega (arith, x.1))
         before own outside (kills-first K (k +ℕ m) k A combination k (omega arith) kills)
         ∙ ap₂ ◌*◌ (combined-schur j)
         (ap (λ vs. wedges K vs S)
-        (sym (columns-above A (rows m 1 0) (rows k 1 k) ∙ ap (λ vs. vs ++ columns K A (rows k 1 k)) (rows_none (columns K _) (λ S. refl) m 1 0 (omega arith)))))
+        (sym (columns-above A (rows m 1 0) (rows k 1 k) ∙ ap (λ vs. vs ++ columns K A (rows k 1 k)) (rows_none (columns K (λ r c. A r (length (rows k 1 k) +ℕ c))) (λ S. refl) m 1 0 (omega arith)))))
       where
         one-row : with_first k (rows m i i) ≡ put (k +ℕ i) true S
         one-row =

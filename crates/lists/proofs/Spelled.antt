@@ -44,6 +44,14 @@ module _ (b : List Number) (n : ℕ) where
       → Ranged 1000 (get_or b (move_of y).at zero_number)
   move-ranged (E k p) (E j w) h m r = (subst (SignedRanged 1000) h.1 r.2).size
   move-ranged (Et k p) (Et j w) h m r = (subst (SignedRanged 1000) h.1 r.2).size
+  move-ranged (E k p) (Et j w) h m r = elim h [ ]
+  move-ranged (E k p) (D _) h m r = elim h [ ]
+  move-ranged (E k p) (Dinv _) h m r = elim h [ ]
+  move-ranged (Et k p) (E j w) h m r = elim h [ ]
+  move-ranged (Et k p) (D _) h m r = elim h [ ]
+  move-ranged (Et k p) (Dinv _) h m r = elim h [ ]
+  move-ranged (D _) _ h m r = elim m [ ]
+  move-ranged (Dinv _) _ h m r = elim m [ ]
 
   -- E and Et, and D
   module _ (v : ℕ → Signed) where
@@ -53,12 +61,28 @@ module _ (b : List Number) (n : ℕ) where
     unfolding carry_letter
     move-carried (E k p) (E j w) h m i = ap₂ (λ k x. cond (eqb i k) (signed_sum (v i) (signed_product x (v (k - 1)))) (v i)) h.0 h.1
     move-carried (Et k p) (Et j w) h m i = ap₂ (λ k x. cond (eqb i (k - 1)) (signed_sum (v i) (signed_product x (v k))) (v i)) h.0 h.1
+    move-carried (E k p) (Et j w) h m i = elim h [ ]
+    move-carried (E k p) (D _) h m i = elim h [ ]
+    move-carried (E k p) (Dinv _) h m i = elim h [ ]
+    move-carried (Et k p) (E j w) h m i = elim h [ ]
+    move-carried (Et k p) (D _) h m i = elim h [ ]
+    move-carried (Et k p) (Dinv _) h m i = elim h [ ]
+    move-carried (D _) _ h m i = elim m [ ]
+    move-carried (Dinv _) _ h m i = elim m [ ]
 
     diagonal-carried : (y : Letter ℕ) (x : Letter Signed) → Letters (At b) (At b) n x y → IsDiagonal n Plain y → (i : ℕ) → In n i
         → carry_letter signed_arithmetic x v i ≡ signed_product (v i) (plain (factors_of b i i))
     unfolding carry_letter factors_of
     diagonal-carried (D f) (D e) h g i p = ap (signed_product (v i)) (h i p.0 p.1 ∙ ap (λ k. plain (get_or b k zero_number)) (g.1 i p.0 p.1))
     diagonal-carried (Dinv f) (Dinv e) h g i p = absurd (false≢true g.0)
+    diagonal-carried (E _ _) _ h g i p = elim g [ ]
+    diagonal-carried (Et _ _) _ h g i p = elim g [ ]
+    diagonal-carried (D f) (E _ _) h g i p = elim h [ ]
+    diagonal-carried (D f) (Et _ _) h g i p = elim h [ ]
+    diagonal-carried (D f) (Dinv e) h g i p = elim h [ ]
+    diagonal-carried (Dinv f) (E _ _) h g i p = elim h [ ]
+    diagonal-carried (Dinv f) (Et _ _) h g i p = elim h [ ]
+    diagonal-carried (Dinv f) (D e) h g i p = elim h [ ]
 
   module _ (low : 1 ≤ n) (high : n ≤ 8) where
     pub signed-length : length (signed_word n (factors_of b)) ≡ 2 * middle n + 1

@@ -69,6 +69,22 @@ module _ (n : ℕ) (b : List Number) (ω : RowSet → Bool) where
   act-move false (Et i p) (Et j w) h m = ap₂ (λ (k : ℕ) (v : Bool). moved presence (k - 1) k v ω) h.0 h.1
   act-move true (E i p) (E j w) h m = ap₂ (λ (k : ℕ) (v : Bool). moved presence (k - 1) k v ω) h.0 h.1
   act-move true (Et i p) (Et j w) h m = ap₂ (λ (k : ℕ) (v : Bool). moved presence k (k - 1) v ω) h.0 h.1
+  act-move false (E i p) (Et j w) h m = elim h [ ]
+  act-move false (E i p) (D _) h m = elim h [ ]
+  act-move false (E i p) (Dinv _) h m = elim h [ ]
+  act-move false (Et i p) (E j w) h m = elim h [ ]
+  act-move false (Et i p) (D _) h m = elim h [ ]
+  act-move false (Et i p) (Dinv _) h m = elim h [ ]
+  act-move false (D _) _ h m = elim m [ ]
+  act-move false (Dinv _) _ h m = elim m [ ]
+  act-move true (E i p) (Et j w) h m = elim h [ ]
+  act-move true (E i p) (D _) h m = elim h [ ]
+  act-move true (E i p) (Dinv _) h m = elim h [ ]
+  act-move true (Et i p) (E j w) h m = elim h [ ]
+  act-move true (Et i p) (D _) h m = elim h [ ]
+  act-move true (Et i p) (Dinv _) h m = elim h [ ]
+  act-move true (D _) _ h m = elim m [ ]
+  act-move true (Dinv _) _ h m = elim m [ ]
 
   act-still : (u : Bool) (y : Letter ℕ) (x : Letter Bool) → Letters (Placed b) There n x y → (IsMove y → ⊥) → (S : RowSet) → length S ≡ n
       → act presence (letter_if u x) ω S ≡ ω S
@@ -79,6 +95,24 @@ module _ (n : ℕ) (b : List Number) (ω : RowSet → Bool) where
   act-still false (D f) (D e) h m S z = scaled-true n ◌&&◌ (unit n) e S (ω S) (omega (arith, z)) (λ i p. h i p.0 p.1)
   act-still true (Dinv f) (Dinv e) h m S z = scaled-true n ◌&&◌ (unit n) e S (ω S) (omega (arith, z)) (λ i p. h i p.0 p.1)
   act-still false (Dinv f) (Dinv e) h m S z = scaled-true n ◌&&◌ (unit n) e S (ω S) (omega (arith, z)) (λ i p. h i p.0 p.1)
+  act-still u (E i p) (Et j w) h m S z = elim h [ ]
+  act-still u (E i p) (D e) h m S z = elim h [ ]
+  act-still u (E i p) (Dinv e) h m S z = elim h [ ]
+  act-still u (Et i p) (E j w) h m S z = elim h [ ]
+  act-still u (Et i p) (D e) h m S z = elim h [ ]
+  act-still u (Et i p) (Dinv e) h m S z = elim h [ ]
+  act-still false (D f) (E j w) h m S z = elim h [ ]
+  act-still false (D f) (Et j w) h m S z = elim h [ ]
+  act-still false (D f) (Dinv e) h m S z = elim h [ ]
+  act-still true (D f) (E j w) h m S z = elim h [ ]
+  act-still true (D f) (Et j w) h m S z = elim h [ ]
+  act-still true (D f) (Dinv e) h m S z = elim h [ ]
+  act-still false (Dinv f) (E j w) h m S z = elim h [ ]
+  act-still false (Dinv f) (Et j w) h m S z = elim h [ ]
+  act-still false (Dinv f) (D e) h m S z = elim h [ ]
+  act-still true (Dinv f) (E j w) h m S z = elim h [ ]
+  act-still true (Dinv f) (Et j w) h m S z = elim h [ ]
+  act-still true (Dinv f) (D e) h m S z = elim h [ ]
 
 or-none : (x : Bool) → x || false ≡ x
 or-none true = refl
@@ -96,6 +130,8 @@ moved_none a o ω S = by (has a S && not (has o S))
 no_move : (n : ℕ) (way : Way) (y : Letter ℕ) → IsDiagonal n way y → IsMove y → ⊥
 no_move n way (D e) h m = m
 no_move n way (Dinv e) h m = m
+no_move n way (E _ _) h m = elim h [ ]
+no_move n way (Et _ _) h m = elim h [ ]
 
 module _ (n : ℕ) (way : Way) (b : List Number) (walkable : Source (Walkable n) (step_of way b)) (ln : 1 ≤ n) (hn : n ≤ 8) (t : ℕ) (l : t < 2 * middle n + 1)
     (u : Bool) (ω : RowSet → Bool) where

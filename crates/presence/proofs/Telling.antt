@@ -81,10 +81,24 @@ told-letter n (E j w) (E i v) h = tt
 told-letter n (Et j w) (Et i v) h = tt
 told-letter n (D e) (D f) h = λ i p. (h i p.0 p.1).0 ∙ nonzero-yes (e i) (omega (arith, (h i p.0 p.1).1.low))
 told-letter n (Dinv e) (Dinv f) h = λ i p. (h i p.0 p.1).0 ∙ nonzero-yes (e i) (omega (arith, (h i p.0 p.1).1.low))
+told-letter n (E j w) (Et i v) h = elim h [ ]
+told-letter n (E j w) (D f) h = elim h [ ]
+told-letter n (E j w) (Dinv f) h = elim h [ ]
+told-letter n (Et j w) (E i v) h = elim h [ ]
+told-letter n (Et j w) (D f) h = elim h [ ]
+told-letter n (Et j w) (Dinv f) h = elim h [ ]
+told-letter n (D e) (E i v) h = elim h [ ]
+told-letter n (D e) (Et i v) h = elim h [ ]
+told-letter n (D e) (Dinv f) h = elim h [ ]
+told-letter n (Dinv e) (E i v) h = elim h [ ]
+told-letter n (Dinv e) (Et i v) h = elim h [ ]
+told-letter n (Dinv e) (D f) h = elim h [ ]
 
 told-letters : (n : ℕ) (W : Word Number) (X : Word Bool) → Matched (Letters WeightTold EntryTold n) W X → All (Told n) X
 told-letters n [] [] h = tt
 told-letters n (l ∷ W) (m ∷ X) h = (told-letter n l m h.0, told-letters n W X h.1)
+told-letters n [] (m ∷ X) h = elim h [ ]
+told-letters n (l ∷ W) [] h = elim h [ ]
 
 -- THE START, at one count of rows
 module _ (n p : ℕ) (ln : n ≤ 8) (lp : p < 2 ^ n) (v : List Bool) (st : Starts p v) where
