@@ -9,7 +9,7 @@ definitions, lemmas, clauses, comments, must-fail edits and pages. A lemma whose
 import re
 from pathlib import Path
 
-LEMMAS = ["bytes_read", "words_left", "walk_steps", "held_by", "moved_at", "sum_over", "one_more"]
+LEMMAS = ["bytes_read", "words_left", "walk_steps", "held_by", "moved_at", "sum_over", "one_more", "kept_by"]
 WORD = re.compile(r"(?<![\w'·-])[a-z][\w']*(?:-[\w']+)*")
 CAMEL = re.compile(r"[a-z0-9'][A-Z]")
 

@@ -103,6 +103,14 @@ module _ (n : ℕ) (some : 1 ≤ n) where
   joined-states (c ∷ []) (s ∷ s' ∷ L) (t ∷ M) h ω η r S l room = absurd h.1
   joined-states (c ∷ d ∷ κ) (s ∷ []) (t ∷ M) h ω η r S l room = absurd h.1
   joined-states (c ∷ d ∷ κ) (s ∷ s' ∷ L) (t ∷ []) h ω η r S l room = absurd h.1
+  joined-states [] [] (t ∷ M) h ω η r S l room = elim h [ ]
+  joined-states [] (s ∷ _) M h ω η r S l room = elim h [ ]
+  joined-states (c ∷ []) [] M h ω η r S l room = elim h [ ]
+  joined-states (c ∷ []) (s ∷ []) [] h ω η r S l room = elim h [ ]
+  joined-states (c ∷ []) (s ∷ (s' ∷ L)) [] h ω η r S l room = elim h [ ]
+  joined-states (c ∷ (d ∷ κ)) [] M h ω η r S l room = elim h [ ]
+  joined-states (c ∷ (d ∷ κ)) (s ∷ []) [] h ω η r S l room = elim h [ ]
+  joined-states (c ∷ (d ∷ κ)) (s ∷ (s' ∷ L)) [] h ω η r S l room = elim h [ ]
 
   start-near : (J : RowSet) → NearStates (0, 31) (one_at rounded J) (one_at exact J)
   unfolding one_at
@@ -126,11 +134,23 @@ module _ (n : ℕ) (some : 1 ≤ n) where
         joined-near κ (step plain b ∷ []) (step plain c ∷ []) h (omega arith) _ _ (length-rows_of n (submatrix c P' Q') f I i)
     asked-near (schur b k) (schur c k') (by_first h) f I J i =
         joined-near κ (step plain b ∷ []) (step plain c ∷ []) h (omega arith) _ _ (length-rows_of n (schur c k') f I i)
+    asked-near (joined L) (submatrix c P' Q') x8 f I J i = elim x8 [ ]
+    asked-near (joined L) (schur c k') x9 f I J i = elim x9 [ ]
+    asked-near (submatrix b P Q) (joined M) x7 f I J i = elim x7 [ ]
+    asked-near (submatrix b P Q) (schur c k') x8 f I J i = elim x8 [ ]
+    asked-near (schur b k) (joined M) x8 f I J i = elim x8 [ ]
+    asked-near (schur b k) (submatrix c P' Q') x9 f I J i = elim x9 [ ]
 
     same_size : (o : Operation Number) (x : Operation Fraction) → Beside n κ o x → size n o ≡ size n x
     same_size (joined L) (joined M) (by-steps h) = refl
     same_size (submatrix b P Q) (submatrix c P' Q') (by-chosen h) = refl
     same_size (schur b k) (schur c k') (by_first h) = refl
+    same_size (joined L) (submatrix c P' Q') x4 = elim x4 [ ]
+    same_size (joined L) (schur c k') x5 = elim x5 [ ]
+    same_size (submatrix b P Q) (joined M) x5 = elim x5 [ ]
+    same_size (submatrix b P Q) (schur c k') x6 = elim x6 [ ]
+    same_size (schur b k) (joined M) x6 = elim x6 [ ]
+    same_size (schur b k) (submatrix c P' Q') x7 = elim x7 [ ]
 
     -- A NEW FACTOR
     module _ (o : Operation Number) (x : Operation Fraction) (b : Beside n κ o x) (fit : Fit n x)

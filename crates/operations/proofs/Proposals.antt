@@ -36,9 +36,9 @@ proposal-keepable t k e x b (Refused w) h = λ i j f. absurd (let z : ◌≡◌ 
 
 -- by the answer of a result
 module _ (s : Shelf) (t : ℕ) (x : Proposed) where
-  pub kept_by : (a : Performed) → x.answer ≡ a → (y : Operated) → y ≡ kept_by s t x a → y ≡ kept s t x
+  pub kept_by_lem : (a : Performed) → x.answer ≡ a → (y : Operated) → y ≡ kept_by s t x a → y ≡ kept s t x
   unfolding kept
-  kept_by a e y f = f ∙ ap (kept_by s t x) (sym e)
+  kept_by_lem a e y f = f ∙ ap (kept_by s t x) (sym e)
 
 -- a result by its verdict, kept: the outcome of the definition
 kept-outcome : (s : Shelf) (t k e d : ℕ) (b : Factors Number) (v : Verdict) → operated_outcome (kept s t (proposal v k e d b)) ≡ resulting s t v k (done e d) b

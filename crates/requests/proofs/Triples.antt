@@ -22,7 +22,7 @@ use Rattle.requests.proofs.Listed.{Counted, counted, Passed, passed-more}
 
 -- a number of 64 bits, as it is held
 pub held : {z : ℤ} → mag z < 2 ^ 63 → to_z w64 (of_z w64 z) ≡ z
-held h = to_z-of_z (record { sfits = h })
+held h = to_z-of_z {w = w64} (record { sfits = h })
 
 pub held-plus : {x : ℤ} {n : ℕ} → x ≡ pos n → n ≤ 2 ^ 63 - 1 → to_z w64 (of_z w64 x) ≡ pos n
 held-plus e h = rw e (held (omega arith))

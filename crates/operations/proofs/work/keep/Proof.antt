@@ -1,8 +1,8 @@
--- A result kept, by cases on its answer (`kept_by`); what can be kept fits its place.
+-- A result kept, by cases on its answer (`kept_by_lem`); what can be kept fits its place.
 use Rattle.operations.specs.declared.Operated.{Operated}
 use Rattle.places.specs.declared.Shelf.{Shelf}
 use Rattle.operations.specs.declared.Performed.TheVariants.{Done}
-use Rattle.operations.proofs.Proposals.{kept_by}
+use Rattle.operations.proofs.Proposals.{kept_by_lem}
 use mathlib.Core.Path.{refl, ap}
 use borrow.Author.Rules.{rules}
 use Rattle.operations.proofs.work.keep.Statement.{statement}
@@ -25,7 +25,7 @@ returns c =
     let known = c.before.before.before in
     let told = known.answer.given.0 in
     let a = known.before.before.args in (
-      kept_by a.shelf a.target a.result _ known.answer.given.1 _
+      kept_by_lem a.shelf a.target a.result _ known.answer.given.1 _
           (ap (λ (s : Shelf). let r : Operated = record { shelf = s; answer = Done told.0 told.1.0 } in r) c.with-table.ensures.0),
       c.with-table.ensures.1,
     )
@@ -34,7 +34,7 @@ returns-2 : tie.Need-returns-2
 returns-2 c =
     let begin = c.before.before.before in
     let a = begin.args in
-    (kept_by a.shelf a.target a.result _ c.before.answer2.given.1 _ refl, begin.requires.0)
+    (kept_by_lem a.shelf a.target a.result _ c.before.answer2.given.1 _ refl, begin.requires.0)
 
 pub keep_spec : {M : Type 1} → statement M
 keep_spec =
