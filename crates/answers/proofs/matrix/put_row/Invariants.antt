@@ -1,0 +1,14 @@
+use Prim.Native.Nat.{◌-◌}
+use mathlib.Core.List.{[]}
+use native.Mathlib.Omega.{arith}
+use Rattle.answers.specs.Matrix.{factor_text, row_text}
+use Rattle.answers.proofs.Reports.{puts-report}
+use Rattle.answers.proofs.Turns.{Turns, turns-none, turns_more, turns-end}
+use borrow.Author.Rules.{rules}
+use Rattle.answers.proofs.matrix.put_row.Given as goal
+
+abbrev pub invariant-loop-j : goal.invariant-loop-j
+invariant-loop-j l = Turns (λ j'. factor_text l.shelf l.place l.i j') l.n l.initial.out l.at l.out l.to l.j
+
+abbrev pub decreases-loop-j : goal.decreases-loop-j
+decreases-loop-j l = l.n - l.j

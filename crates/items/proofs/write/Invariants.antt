@@ -1,0 +1,18 @@
+use borrow.Author.Rules.{rules}
+use mathlib.Core.Path.{◌≡◌, sym, ap, ◌∙◌}
+use mathlib.Core.List.{List}
+use Prim.Native.Nat.{◌-◌, ◌*◌, ◌≤◌, ◌<◌}
+use native.Mathlib.Omega.{arith}
+use lib.ListN.{length, drop, take}
+use lib.Seq.{sets}
+use Rattle.number.specs.declared.signed.Signed.{Signed}
+use Rattle.items.specs.Items.{list_numbers}
+use Rattle.arrays.proofs.Fronts.{front-end}
+use Rattle.items.proofs.Fronts.{unset, ranged-front, write-next}
+use Rattle.items.proofs.write.Given as goal
+
+abbrev pub invariant-loop-k : goal.invariant-loop-k
+invariant-loop-k l = (l.k ≤ l.n) × (length l.out ≡ length l.initial.out) × (sets l.initial.out 0 (list_numbers (take l.n l.v)) ≡ sets l.out (3 * l.k) (list_numbers (drop l.k (take l.n l.v))))
+
+abbrev pub decreases-loop-k : goal.decreases-loop-k
+decreases-loop-k l = l.n - l.k

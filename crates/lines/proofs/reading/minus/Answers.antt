@@ -1,0 +1,6 @@
+-- `lines::minus` meets its contract.
+use borrow.Author.Rules.{rules}
+use Rattle.lines.proofs.reading.minus.Goals as goal
+
+pub returns-in-Value : goal.returns-in-Value
+returns-in-Value c = rw c.in-Value.is

@@ -1,0 +1,6 @@
+-- `lines::put_pair` meets its contract.
+use borrow.Author.Rules.{rules}
+use Rattle.lines.proofs.writing.put_pair.Goals as goal
+
+pub returns : goal.returns
+returns c = record { index = cc; bytes = cc }

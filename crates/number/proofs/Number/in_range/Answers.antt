@@ -1,0 +1,15 @@
+-- `Number::in_range` meets its contract: its two tests are the definition's, the lower one with 1000 on the other side.
+use Prim.Native.Nat.{◌+◌}
+use native.Mathlib.Omega.{arith}
+use borrow.Author.Tests.{le-leb, lt-leb}
+use borrow.Author.Rules.{rules}
+use Rattle.number.specs.Number.{in_range}
+use Rattle.number.proofs.Number.in_range.Goals as goal
+
+pub returns-then-self : goal.returns-then-self
+unfolding in_range
+returns-then-self c = let h = lt-leb 4194304 (c.args.self.x + 1000) (omega arith) in simp h
+
+pub returns : goal.returns
+unfolding in_range
+returns c = let h = le-leb 4194304 (c.args.self.x + 1000) (omega arith) in simp h

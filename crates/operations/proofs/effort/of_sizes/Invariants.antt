@@ -1,0 +1,14 @@
+use borrow.Author.Rules.{rules}
+use mathlib.Core.Path.{◌≡◌, refl, sym, ap, ◌∙◌}
+use Prim.Native.Nat.{ℕ, ◌+◌, ◌-◌, ◌*◌, ◌≤◌}
+use native.Mathlib.Omega.{arith}
+use Rattle.words.specs.Effort.{sum_over}
+use Rattle.words.proofs.Totals.{total-by-rows}
+use Rattle.operations.proofs.Efforts.{term, term-more, term_few, product-few}
+use Rattle.operations.proofs.effort.of_sizes.Given as goal
+
+abbrev pub invariant-loop-p : goal.invariant-loop-p
+invariant-loop-p l = (l.sum ≡ sum_over l.p (term l.n l.clamped l.k)) × (l.sum ≤ 2310 * l.p) × (l.p ≤ l.k)
+
+abbrev pub decreases-loop-p : goal.decreases-loop-p
+decreases-loop-p l = l.k - l.p

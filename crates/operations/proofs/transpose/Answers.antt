@@ -1,0 +1,10 @@
+-- The transpose is worked and kept; the outcome is that of the definition (`transpose-kept`).
+use Rattle.operations.proofs.Proposals.{transpose-kept}
+use borrow.Author.Rules.{rules}
+use Rattle.operations.proofs.transpose.Goals as goal
+
+pub keep-requires : goal.keep-requires
+keep-requires c = (c.requires, c.transposed.ensures.keepable)
+
+pub returns : goal.returns
+returns c = let a = c.args in record { result_value = (transpose-kept a.shelf a.source a.target _ _ c.transposed.ensures.value (c.keep.ensures.value, c.keep.ensures.good)).0; good = (transpose-kept a.shelf a.source a.target _ _ c.transposed.ensures.value (c.keep.ensures.value, c.keep.ensures.good)).1 }

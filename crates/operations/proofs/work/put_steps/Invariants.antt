@@ -1,0 +1,17 @@
+use Prim.Native.Nat.{◌-◌, ◌≤◌}
+use native.Mathlib.Omega.{arith}
+use mathlib.Core.Path.{◌≡◌}
+use lib.ListN.{length}
+use Rattle.arrays.proofs.Structs.{length-mapped}
+use Rattle.operations.specs.Operations.{step_with}
+use Rattle.recipes.proofs.Slots.{taken-length}
+use Rattle.operations.proofs.Made.{made-ready}
+use Rattle.operations.proofs.Recipes.{Put, steps-none, steps_next, steps-put}
+use borrow.Author.Rules.{rules}
+use Rattle.operations.proofs.work.put_steps.Given as goal
+
+abbrev pub invariant-loop-c : goal.invariant-loop-c
+invariant-loop-c l = (l.c ≤ l.count) × Put l.shelf l.n l.steps l.c l.word l.l l.b
+
+abbrev pub decreases-loop-c : goal.decreases-loop-c
+decreases-loop-c l = l.count - l.c

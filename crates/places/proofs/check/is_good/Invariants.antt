@@ -1,0 +1,32 @@
+use Prim.Native.Nat.{◌-◌, ◌*◌, ◌≤◌}
+use native.Mathlib.Omega.{arith}
+use mathlib.Core.Path.{sym, subst, ◌∙◌}
+use mathlib.Core.Bool.{false≢true}
+use borrow.Author.Tests.{not-true, not-false}
+use Rattle.arrays.proofs.Structs.{length-mapped}
+use Rattle.places.specs.Shelf.{rows_at}
+use Rattle.places.proofs.Checking.{tested-good}
+use Rattle.places.proofs.Passing.{seen_none, Passed, Gathered, all-passed, rows-failed, place-passed, number-failed, number_passed, gathered_none}
+use Rattle.places.proofs.Passing.{gathered-more}
+use borrow.Author.Rules.{rules}
+use mathlib.Core.Bool.{not}
+use mathlib.Core.Path.{ap}
+use Rattle.places.proofs.check.is_good.Given as goal
+
+abbrev pub invariant-loop-k : goal.invariant-loop-k
+invariant-loop-k l = (l.k ≤ l.n * 8) × Passed l.shelf l.p l.k
+
+abbrev pub decreases-loop-k : goal.decreases-loop-k
+decreases-loop-k l = l.n * 8 - l.k
+
+abbrev pub invariant-loop-k-2 : goal.invariant-loop-k-2
+invariant-loop-k-2 l = (l.n * 8 ≤ l.k) × (l.k ≤ 64) × Gathered l.shelf l.p l.k l.faults
+
+abbrev pub decreases-loop-k-2 : goal.decreases-loop-k-2
+decreases-loop-k-2 l = 64 - l.k
+
+abbrev pub invariant-loop-p : goal.invariant-loop-p
+invariant-loop-p l = Passed l.shelf l.p 0
+
+abbrev pub decreases-loop-p : goal.decreases-loop-p
+decreases-loop-p l = 8 - l.p

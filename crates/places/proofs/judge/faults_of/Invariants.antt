@@ -1,0 +1,23 @@
+use Prim.Native.Nat.{ℕ, ◌-◌, ◌≤◌, ◌<◌}
+use native.Mathlib.Omega.{arith}
+use mathlib.Core.Path.{◌≡◌, refl, ap, ◌∙◌}
+use mathlib.Core.Bool.{Bool, not, ◌||◌}
+use mathlib.Core.List.{List, map}
+use lib.Dec.{eqb}
+use lib.ListN.{length, take}
+use Rattle.arrays.proofs.Structs.{length-mapped}
+use Rattle.recipes.specs.declared.RecipeStep.{RecipeStep}
+use Rattle.recipes.specs.Recipe.{place_of}
+use Rattle.conditions.specs.Conditions.{above, any_of, empty}
+use Rattle.places.specs.declared.Shelf.{Shelf}
+use Rattle.places.specs.declared.judge.Faults.{Faults}
+use Rattle.places.specs.Shelf.{rows_at}
+use Rattle.places.proofs.Recipes.{any-more, any-all}
+use borrow.Author.Rules.{rules}
+use Rattle.places.proofs.judge.faults_of.Given as goal
+
+abbrev pub invariant-loop-c : goal.invariant-loop-c
+invariant-loop-c l =     (l.c ≤ l.c-end) × Any above l.steps l.c l.above × Any (empty (rows_at l.shelf)) l.steps l.c l.empty × Any (unlike l.shelf l.first) l.steps l.c l.unlike
+
+abbrev pub decreases-loop-c : goal.decreases-loop-c
+decreases-loop-c l = l.c-end - l.c

@@ -1,0 +1,15 @@
+use Rattle.table.specs.Table.{absent}
+use Rattle.arrays.proofs.Structs.{length-mapped}
+use Prim.Native.Nat.{◌+◌, ◌*◌, ◌-◌}
+use mathlib.Core.Path.{refl}
+use lib.ListN.{get_or}
+use Rattle.arrays.proofs.Filled.{Filled, filled_none, filled_more}
+use Rattle.places.proofs.Holding.{table-read}
+use borrow.Author.Rules.{rules}
+use Rattle.places.proofs.table_at.Given as goal
+
+abbrev pub invariant-loop-k : goal.invariant-loop-k
+invariant-loop-k l = Filled absent (λ i. get_or l.shelf.numbers (l.place * 64 + i) absent) 64 l.k l.t
+
+abbrev pub decreases-loop-k : goal.decreases-loop-k
+decreases-loop-k l = 64 - l.k

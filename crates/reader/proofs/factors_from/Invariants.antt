@@ -1,0 +1,15 @@
+use Prim.Native.Nat.{◌-◌}
+use native.Mathlib.Omega.{arith}
+use borrow.Author.Rules.{rules}
+use mathlib.Core.Path.{◌∙◌}
+use Rattle.writer.proofs.Writing.{square-small}
+use Rattle.reader.specs.declared.ByteFactor.TheVariants.{At}
+use Rattle.reader.specs.Matrix.{FactorInside}
+use Rattle.reader.proofs.Reading.{ReadSoFar, read_none, read_more, read-fault, read_all}
+use Rattle.reader.proofs.factors_from.Given as goal
+
+abbrev pub invariant-loop-k : goal.invariant-loop-k
+invariant-loop-k l = ReadSoFar l.s l.n l.count l.at l.numbers l.p l.k
+
+abbrev pub decreases-loop-k : goal.decreases-loop-k
+decreases-loop-k l = l.count - l.k

@@ -1,0 +1,12 @@
+-- `replies::calls::minor` meets its contract.
+use mathlib.Core.Path.{refl}
+use Rattle.lines.specs.Ascii.{ascii}
+use Rattle.shelf.specs.Run.{run}
+use Rattle.answers.proofs.Reports.{puts-report}
+use Rattle.replies.proofs.Replies.{replied}
+use borrow.Author.Rules.{rules}
+use Rattle.replies.proofs.calls.minor.Goals as goal
+
+pub returns : goal.returns
+unfolding run
+returns c = let text = puts-report (ascii "number") c.minor-answer.ensures c.put_valued.ensures in record { good = c.after.ensures.good; replied = replied refl c.after.ensures.shelf_value text }

@@ -1,0 +1,12 @@
+-- `replies::calls::sentence_to` meets its contract.
+use Rattle.lines.specs.Ascii.{ascii}
+use mathlib.Core.Path.{refl}
+use Rattle.notices.specs.Sentence.{notice}
+use Rattle.shelf.specs.Run.{run, sentence}
+use Rattle.replies.proofs.Replies.{bytes-as}
+use borrow.Author.Rules.{rules}
+use Rattle.replies.proofs.calls.sentence_to.Goals as goal
+
+pub returns : goal.returns
+unfolding run
+returns c = let handed = notice c.before.args.number c.before.args.offset c.before.args.places.now in record { good = c.wrote.ensures.good; replied = bytes-as (ascii "wrote") (run c.before.args.shelf (sentence handed c.before.args.bytes.now)) refl c.sentence-written.ensures.result_value c.sentence-written.ensures.out_after c.wrote.ensures.replied }

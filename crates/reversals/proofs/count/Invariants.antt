@@ -1,0 +1,17 @@
+use borrow.Author.Rules.{rules}
+use mathlib.Core.Path.{◌≡◌, ap}
+use Prim.Native.Nat.{◌+◌, ◌-◌, ◌≤◌, ◌<◌}
+use native.Mathlib.Omega.{arith}
+use lib.ListN.{length, drop, take, get_or}
+use Rattle.arrays.proofs.Fronts.{front-end}
+use Rattle.number.specs.declared.signed.Signed.{Signed}
+use Rattle.items.proofs.Fronts.{unset}
+use Rattle.reversals.specs.Reversals.{reversals, reversals_behind}
+use Rattle.reversals.proofs.Counting.{count_next, turn-le}
+use Rattle.reversals.proofs.count.Given as goal
+
+abbrev pub invariant-loop-k : goal.invariant-loop-k
+invariant-loop-k l = (l.k ≤ l.n) × (l.found ≤ l.k) × (reversals (take l.n l.v) ≡ l.found + reversals_behind l.last (drop l.k (take l.n l.v)))
+
+abbrev pub decreases-loop-k : goal.decreases-loop-k
+decreases-loop-k l = l.n - l.k

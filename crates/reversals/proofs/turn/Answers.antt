@@ -1,0 +1,29 @@
+-- `turn` meets its contract.
+use borrow.Author.Tests.{eq-eqb, ne_eqb}
+use mathlib.Core.Bool.{xor}
+use Rattle.reversals.specs.Reversals.{opposite}
+use Rattle.reversals.proofs.turn.Goals as goal
+
+pub returns-then-x-eq0 : goal.returns-then-x-eq0
+unfolding opposite xor
+returns-then-x-eq0 c = simp (eq-eqb _ 0 c.if-x-eq0.true)
+
+pub returns-then-y-eq0 : goal.returns-then-y-eq0
+unfolding opposite xor
+returns-then-y-eq0 c = simp (ne_eqb _ 0 c.if-x-eq0.false, eq-eqb _ 0 c.if-y-eq0.true)
+
+pub returns-then-b : goal.returns-then-b
+unfolding opposite xor
+returns-then-b c = simp (ne_eqb _ 0 c.if-x-eq0.false, ne_eqb _ 0 c.if-y-eq0.false, c.if-a.true, c.if-b.true)
+
+pub returns-then-a : goal.returns-then-a
+unfolding opposite xor
+returns-then-a c = simp (ne_eqb _ 0 c.if-x-eq0.false, ne_eqb _ 0 c.if-y-eq0.false, c.if-a.true, c.if-b.false)
+
+pub returns-then-b-2 : goal.returns-then-b-2
+unfolding opposite xor
+returns-then-b-2 c = simp (ne_eqb _ 0 c.if-x-eq0.false, ne_eqb _ 0 c.if-y-eq0.false, c.if-a.false, c.if-b-2.true)
+
+pub returns : goal.returns
+unfolding opposite xor
+returns c = simp (ne_eqb _ 0 c.if-x-eq0.false, ne_eqb _ 0 c.if-y-eq0.false, c.if-a.false, c.if-b-2.false)

@@ -1,0 +1,11 @@
+use borrow.Author.Rules.{rules}
+use Prim.Native.Nat.{◌-◌}
+use native.Mathlib.Omega.{arith}
+use Rattle.rowset.proofs.Blocks.{Copied, copied_next, copied_all}
+use Rattle.rowset.proofs.lent.joined.Given as goal
+
+abbrev pub invariant-loop-s : goal.invariant-loop-s
+invariant-loop-s l = Copied l.sets l.positions l.s l.t
+
+abbrev pub decreases-loop-s : goal.decreases-loop-s
+decreases-loop-s l = 256 - l.s

@@ -1,0 +1,13 @@
+use borrow.Author.Rules.{rules}
+use mathlib.Core.Path.{◌≡◌}
+use Prim.Native.Nat.{◌+◌, ◌-◌, ◌*◌, ◌≤◌}
+use native.Mathlib.Omega.{arith}
+use Rattle.rowset.specs.Blocks.{Filled}
+use Rattle.rowset.proofs.Blocks.{filled_none, filled-all}
+use Rattle.rowset.proofs.lent.tables.Given as goal
+
+abbrev pub invariant-loop-l : goal.invariant-loop-l
+invariant-loop-l l = (1 ≤ l.l) × Filled l.n (l.l * 64) l.t
+
+abbrev pub decreases-loop-l : goal.decreases-loop-l
+decreases-loop-l l = l.n - l.l

@@ -1,0 +1,12 @@
+use Prim.Native.Nat.{◌-◌}
+use native.Mathlib.Omega.{arith}
+use mathlib.Core.Path.{sym}
+use Rattle.stamps.proofs.Timed.{none-mistimed, many-mistimed, Passed, passed_none, passed-end, passed-low, passed-large, passed-more}
+use borrow.Author.Rules.{rules}
+use Rattle.stamps.proofs.mistimed.Given as goal
+
+abbrev pub invariant-loop-k : goal.invariant-loop-k
+invariant-loop-k l = Passed l.stamps l.before l.k
+
+abbrev pub decreases-loop-k : goal.decreases-loop-k
+decreases-loop-k l = l.n - l.k

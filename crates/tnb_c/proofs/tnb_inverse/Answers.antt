@@ -1,0 +1,18 @@
+-- `tnb_inverse` meets its contract: the shelf's own answer with demand 3, or 255.
+use mathlib.Core.Path.{ap, ◌∙◌}
+use Rattle.shelf.specs.Run.{inverse, run}
+use Rattle.tnb_c.specs.Answers.{answer_of}
+use Rattle.tnb_c.proofs.Checked.{answered, turned-away}
+use Rattle.tnb_c.proofs.Answered.{with-demand, away-answered, inverse-answered}
+use borrow.Author.Rules.{rules}
+use Rattle.tnb_c.proofs.tnb_inverse.Goals as goal
+
+pub inverse-requires : goal.inverse-requires
+inverse-requires c = c.is_good.ensures.good c.if-is_good.true
+
+pub returns-then-is_good : goal.returns-then-is_good
+unfolding run
+returns-then-is_good c = let a = c.args in let passed = c.if-is_good.true in let good = c.is_good.ensures.good passed in let own = c.operated.ensures ∙ ap answer_of c.inverse.ensures.result_value in let ran = answered a.shelf (inverse a.source a.target) answer_of c.is_good.ensures.value passed own in record { value = (with-demand _ a.target _ _ _ ran (inverse-answered a.shelf good a.source a.target)).0; answered = (with-demand _ a.target _ _ _ ran (inverse-answered a.shelf good a.source a.target)).1 }
+
+pub returns : goal.returns
+returns c = record { value = turned-away _ (inverse _ _) answer_of c.is_good.ensures.value c.if-is_good.false c.foreign.ensures; answered = away-answered _ _ _ _ _ c.foreign.ensures }

@@ -1,0 +1,17 @@
+-- `tnb_transpose` meets its contract.
+use mathlib.Core.Path.{ap, ◌∙◌}
+use Rattle.shelf.specs.Run.{transpose, run}
+use Rattle.tnb_c.specs.Answers.{answer_of}
+use Rattle.tnb_c.proofs.Checked.{answered, turned-away}
+use borrow.Author.Rules.{rules}
+use Rattle.tnb_c.proofs.tnb_transpose.Goals as goal
+
+pub transpose-requires : goal.transpose-requires
+transpose-requires c = c.is_good.ensures.good c.if-is_good.true
+
+pub returns-then-is_good : goal.returns-then-is_good
+unfolding run
+returns-then-is_good c =             answered _ (transpose _ _) answer_of c.is_good.ensures.value c.if-is_good.true (c.operated.ensures ∙ ap answer_of c.transpose.ensures.result_value)
+
+pub returns : goal.returns
+returns c = turned-away _ (transpose _ _) answer_of c.is_good.ensures.value c.if-is_good.false c.foreign.ensures

@@ -1,0 +1,9 @@
+-- One more test behind a verdict, by cases on the verdict and the condition.
+use borrow.Author.Rules.{rules}
+use Rattle.verdict.proofs.test.Goals as goal
+
+pub returns-then-holds : goal.returns-then-holds
+returns-then-holds c = cc
+
+pub returns-in-Refused : goal.returns-in-Refused
+returns-in-Refused c = cc

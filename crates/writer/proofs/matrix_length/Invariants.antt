@@ -1,0 +1,16 @@
+use Prim.Native.Nat.{◌+◌, ◌-◌, ◌*◌, ◌≤◌}
+use native.Mathlib.Omega.{arith}
+use borrow.Author.Rules.{rules}
+use mathlib.Core.Path.{◌≡◌, sym, ap, ◌∙◌}
+use lib.ListN.{length}
+use Rattle.number.specs.declared.Number.{Number}
+use Rattle.writer.specs.Encoding.{factor_bytes, square_factors}
+use Rattle.arrays.proofs.Structs.{length-mapped}
+use Rattle.writer.proofs.Writing.{Counted, counted_none, counted-more, counted-all, encoding-length, factors-length, factors-at}
+use Rattle.writer.proofs.matrix_length.Given as goal
+
+abbrev pub invariant-loop-k : goal.invariant-loop-k
+invariant-loop-k l = Counted (square_factors l.n l.numbers) l.initial.total l.total l.k × (l.total ≤ 10 + 20 * l.k)
+
+abbrev pub decreases-loop-k : goal.decreases-loop-k
+decreases-loop-k l = l.count - l.k
