@@ -7,9 +7,9 @@ ghost use Rattle.lines.specs.Words.{before};
 ghost use Rattle.tnb_console.specs.Session.{after_line, after_end, emptied};
 ghost use Rattle.tnb_console.specs.Kept.{session_of, place_of, Orderly, Responded, TextAnswered, PieceAnswered};
 
-use libc::{STDERR_FILENO, STDIN_FILENO, STDOUT_FILENO};
 use replies::LONGEST;
 use shelf::Shelf;
+use std::io::{Read, Write};
 
 // Answers are written once so many bytes wait. The output has room for the longest answer behind them.
 const ENOUGH: usize = 16384;
@@ -38,10 +38,10 @@ fn keep(shelf: Shelf, start: usize, waiting: usize, long: bool, written: bool) -
 }
 
 // Writes what waits, and answers whether it could.
-fn flush(output: &[u8], waiting: usize) -> bool
+fn flush(rt: &HostRuntime, output: &[u8], waiting: usize) -> bool
     requires { waiting ≤ length output.now }
 {
-    io::write_all(STDOUT_FILENO, &output[0..waiting])
+    rt.stdout().write_all(&output[0..waiting]).is_ok()
 }
 
 // Where an answer goes, and whether those before it could be written.
@@ -52,7 +52,7 @@ struct Opening {
 }
 
 // Makes room for an answer.
-fn room(output: &[u8], waiting: usize, written: bool) -> Opening
+fn room(rt: &HostRuntime, output: &[u8], waiting: usize, written: bool) -> Opening
     requires { waiting ≤ length output.now }
     ensures { result.at ≡ place_of waiting }
 {
@@ -62,7 +62,7 @@ fn room(output: &[u8], waiting: usize, written: bool) -> Opening
             written,
         };
     }
-    let done = flush(output, waiting);
+    let done = flush(rt, output, waiting);
     Opening {
         at: 0,
         written: written & done,
@@ -70,13 +70,13 @@ fn room(output: &[u8], waiting: usize, written: bool) -> Opening
 }
 
 // Answers a line, which is given without its end; the one behind it starts at `next`.
-fn respond(was: State, line: &[u8], next: usize, output: &mut [u8]) -> State
+fn respond(rt: &HostRuntime, was: State, line: &[u8], next: usize, output: &mut [u8]) -> State
     requires { Orderly was output.old }
     ensures orderly { Orderly result output.new }
     ensures output_after { (session_of result output.new ≡ after_line (session_of was output.old) line.now) × (result.start ≡ next) }
 {
     let shelf = was.shelf;
-    let opening = room(output, was.waiting, was.written);
+    let opening = room(rt, output, was.waiting, was.written);
     let answered = replies::to_line(shelf, line, was.long, output, opening.at);
     let after = answered.shelf;
     keep(after, next, answered.at, false, opening.written)
@@ -92,7 +92,7 @@ fn line_end(text: &[u8], start: usize) -> usize
 }
 
 // Answers the lines that end in the text, one after the other.
-fn respond_all(was: State, text: &[u8], output: &mut [u8]) -> State
+fn respond_all(rt: &HostRuntime, was: State, text: &[u8], output: &mut [u8]) -> State
     requires orderly { Orderly was output.old }
     requires start_in_bounds { was.start ≤ length text.now }
     ensures orderly_2 { Orderly result output.new }
@@ -102,7 +102,7 @@ fn respond_all(was: State, text: &[u8], output: &mut [u8]) -> State
     let mut start = was.start;
     let mut end = line_end(text, start);
     while end < text.len() {
-        now = respond(now, &text[start..end], end + 1, output);
+        now = respond(rt, now, &text[start..end], end + 1, output);
         start = end + 1;
         end = line_end(text, start);
     }
@@ -110,13 +110,13 @@ fn respond_all(was: State, text: &[u8], output: &mut [u8]) -> State
 }
 
 // Answers the lines that end in the text, and judges by its length what goes on behind them.
-fn respond_text(was: State, text: &[u8], output: &mut [u8]) -> State
+fn respond_text(rt: &HostRuntime, was: State, text: &[u8], output: &mut [u8]) -> State
     requires orderly { Orderly was output.old }
     requires start_value { was.start ≡ 0 }
     ensures orderly_2 { Orderly result output.new }
     ensures text_answered { TextAnswered was text.now output.old result output.new }
 {
-    let now = respond_all(was, text, output);
+    let now = respond_all(rt, was, text, output);
     let shelf = now.shelf;
     let start = now.start;
     let long = now.long | (LONGEST < text.len() - start);
@@ -124,13 +124,15 @@ fn respond_text(was: State, text: &[u8], output: &mut [u8]) -> State
 }
 
 // Reads once, behind the first `held` bytes, and answers how many there are then. At the end of input that is no more.
-fn read_more(input: &mut [u8], held: usize) -> usize
+fn read_more(rt: &HostRuntime, input: &mut [u8], held: usize) -> usize
     requires { held < length input.old }
     ensures upper_bound { result ≤ length input.new }
     ensures input_unchanged { take held input.new ≡ take held input.old }
 {
-    let got = libc::read(STDIN_FILENO, &mut input[held..]);
-    held + io::count(got, &input[held..])
+    match rt.stdin().read(&mut input[held..]) {
+        Ok(n) => held + n,
+        Err(_) => held,
+    }
 }
 
 // Moves the bytes from `start` to n to the input's start, and answers how many they are.
@@ -168,37 +170,38 @@ struct Piece {
 }
 
 // Answers the lines that end among the first n bytes of the input.
-fn respond_piece(was: State, input: &mut [u8], n: usize, output: &mut [u8]) -> Piece
+fn respond_piece(rt: &HostRuntime, was: State, input: &mut [u8], n: usize, output: &mut [u8]) -> Piece
     requires orderly { Orderly was output.old }
     requires start_value { (was.start ≡ 0) × (n ≤ length input.old) }
     ensures orderly_2 { Orderly result.state output.new }
     ensures piece_answered { PieceAnswered was (take n input.old) output.old result input.new output.new }
 {
-    let state = respond_text(was, &input[0..n], output);
+    let state = respond_text(rt, was, &input[0..n], output);
     let held = hold(input, state.start, n, state.long);
     Piece { state, held }
 }
 
 // At the end of the input the start of a line is a line.
-fn finish(was: State, start: &[u8], output: &mut [u8]) -> State
+fn finish(rt: &HostRuntime, was: State, start: &[u8], output: &mut [u8]) -> State
     requires { Orderly was output.old }
     ensures orderly { Orderly result output.new }
     ensures output_after { session_of result output.new ≡ after_end (session_of was output.old) start.now }
 {
     if was.long | (0 < start.len()) {
-        return respond(was, start, 0, output);
+        return respond(rt, was, start, 0, output);
     }
     was
 }
 
 // Writes the answers that wait, and says so where these or some before them could not be written.
-fn deliver(state: State, output: &[u8]) -> bool
+fn deliver(rt: &HostRuntime, state: State, output: &[u8]) -> bool
     requires { state.waiting ≤ length output.now }
 {
-    if flush(output, state.waiting) & state.written {
+    if flush(rt, output, state.waiting) & state.written {
         return true;
     }
-    io::write_all(STDERR_FILENO, b"tnb_console: cannot write its output\n");
+    let told = rt.stderr().write_all(b"tnb_console: cannot write its output\n");
+    told.is_ok();
     false
 }
 
@@ -212,21 +215,21 @@ fn delivered(was: State) -> State
 }
 
 // Nothing says that the input ends, so turns are counted down from a number that no run uses up.
-fn serve(input: &mut [u8], output: &mut [u8])
+fn serve(rt: &HostRuntime, input: &mut [u8], output: &mut [u8])
     requires { (length input.old ≡ 65536) × (length output.old ≡ 65536) }
 {
     let mut now = keep(shelf::new(), 0, 0, false, true);
     let mut held: usize = 0;
     let mut turns = u64::MAX;
     while turns > 0 {
-        let n = read_more(input, held);
+        let n = read_more(rt, input, held);
         if n <= held {
-            deliver(finish(now, &input[0..held], output), output);
+            deliver(rt, finish(rt, now, &input[0..held], output), output);
             return;
         }
-        let piece = respond_piece(now, input, n, output);
+        let piece = respond_piece(rt, now, input, n, output);
         let state = piece.state;
-        if !deliver(state, output) {
+        if !deliver(rt, state, output) {
             return;
         }
         held = piece.held;
@@ -235,8 +238,8 @@ fn serve(input: &mut [u8], output: &mut [u8])
     }
 }
 
-fn main() {
+fn main(rt: HostRuntime) {
     let mut input = io::large_buffer();
     let mut output = io::large_buffer();
-    serve(&mut input, &mut output);
+    serve(&rt, &mut input, &mut output);
 }

@@ -10,8 +10,9 @@ ghost use Rattle.operations.specs.Reports.{operated_outcome};
 ghost use Rattle.shelf.specs.Reports.{factor_report};
 ghost use Rattle.tnb_product.specs.Printed.{factor_line, row_lines, factor_lines, result_text, refusal_line, printed, unless_refused, longest_text, program_text};
 
-use libc::{STDERR_FILENO, STDOUT_FILENO};
 use shelf::{Factor, Operated, Performed, Refusal, Shelf, Verdict};
+use std::fs::File;
+use std::io::{Read, Write};
 
 // What a read gave.
 #[derive(Clone, Copy)]
@@ -23,26 +24,22 @@ enum Got {
 }
 
 // Reads once, behind the bytes that are read already.
-fn read_some(fd: i32, buffer: &mut [u8], have: usize) -> Got {
+fn read_some(file: &mut File, buffer: &mut [u8], have: usize) -> Got {
     if buffer.len() <= have {
         return Got::End;
     }
-    let got = libc::read(fd, &mut buffer[have..]);
-    if got < 0 {
-        return Got::Failed;
+    match file.read(&mut buffer[have..]) {
+        Ok(0) => Got::End,
+        Ok(n) => Got::More(have + n),
+        Err(_) => Got::Failed,
     }
-    let n = io::count(got, &buffer[have..]);
-    if n == 0 {
-        return Got::End;
-    }
-    Got::More(have + n)
 }
 
 // Reads until the file ends or the buffer is full. A file of which a read fails counts as no bytes.
-fn read_all(fd: i32, buffer: &mut [u8]) -> usize {
+fn read_all(file: &mut File, buffer: &mut [u8]) -> usize {
     let mut have: usize = 0;
     for _ in 0..buffer.len() {
-        let got = read_some(fd, buffer, have);
+        let got = read_some(file, buffer, have);
         match got {
             Got::More(n) => {
                 have = n;
@@ -55,14 +52,11 @@ fn read_all(fd: i32, buffer: &mut [u8]) -> usize {
 }
 
 // Reads a file to the start of the buffer; one that can't be opened counts as no bytes.
-fn read_file(path: &[u8], buffer: &mut [u8]) -> usize {
-    let fd = os::open_read(path);
-    if fd < 0 {
-        return 0;
+fn read_file(rt: &HostRuntime, path: &str, buffer: &mut [u8]) -> usize {
+    match File::open(rt, path) {
+        Ok(mut file) => read_all(&mut file, buffer),
+        Err(_) => 0,
     }
-    let n = read_all(fd, buffer);
-    libc::close(fd);
-    n
 }
 
 // The line of a factor.
@@ -166,21 +160,22 @@ fn text(left: &[u8], right: &[u8], out: &mut [u8]) -> usize
 }
 
 // Reads the two files, and puts what is printed. A load judges less than 4,096 bytes, so a longer file may be cut there.
-fn put_files(left: &mut [u8], right: &mut [u8], out: &mut [u8]) -> usize
+fn put_files(rt: &HostRuntime, left: &mut [u8], right: &mut [u8], out: &mut [u8]) -> usize
     requires { longest_text ≤ length out.old }
     ensures { (a : ℕ) × (b : ℕ) × (take result out.new ≡ program_text (take a left.new) (take b right.new)) }
 {
-    let a = read_file(b"left.tnb", left);
-    let b = read_file(b"right.tnb", right);
+    let a = read_file(rt, "left.tnb", left);
+    let b = read_file(rt, "right.tnb", right);
     text(lines::first(left, a), lines::first(right, b), out)
 }
 
-fn main() {
+fn main(rt: HostRuntime) {
     let mut left = io::buffer();
     let mut right = io::buffer();
     let mut out = io::large_buffer();
-    let n = put_files(&mut left, &mut right, &mut out);
-    if !io::write_all(STDOUT_FILENO, lines::first(&out, n)) {
-        io::write_all(STDERR_FILENO, b"tnb_product: cannot write its output\n");
+    let n = put_files(&rt, &mut left, &mut right, &mut out);
+    if rt.stdout().write_all(lines::first(&out, n)).is_err() {
+        let told = rt.stderr().write_all(b"tnb_product: cannot write its output\n");
+        told.is_ok();
     }
 }

@@ -1,0 +1,22 @@
+use Prim.Native.Nat.{◌≤◌}
+use native.Mathlib.Omega.{arith}
+use mathlib.Core.Path.{◌≡◌, refl, sym, ap, ◌∙◌}
+use mathlib.Core.List.{[]}
+use lib.ListN.{length}
+use Rattle.tnb_console.specs.Session.{Session}
+use Rattle.tnb_console.specs.Kept.{Orderly}
+use Rattle.tnb_console.proofs.Going.{kept-orderly}
+use borrow.Author.Rules.{rules}
+use Rattle.tnb_console.proofs.serve.Given as goal
+
+abbrev pub invariant-loop-turns : goal.invariant-loop-turns
+invariant-loop-turns l =     (length l.initial.turns ≡ length l.rt)
+    × (length l.input ≡ length l.initial.input)
+    × (length l.rt ≡ 65536)
+    × (length l.initial.input ≡ 65536)
+    × Orderly l.output l.input
+    × (l.output.start ≡ 0)
+    × (l.now ≤ 4096)
+
+abbrev pub decreases-loop-turns : goal.decreases-loop-turns
+decreases-loop-turns l = l.held

@@ -1,0 +1,12 @@
+use Prim.Native.Nat.{◌-◌}
+use native.Mathlib.Omega.{arith}
+use Rattle.tnb_product.specs.Printed.{row_lines, factor_lines}
+use Rattle.answers.proofs.Turns.{Turns, turns-none, turns_more, turns-end}
+use borrow.Author.Rules.{rules}
+use Rattle.tnb_product.proofs.put_factors.Given as goal
+
+abbrev pub invariant-loop-i : goal.invariant-loop-i
+invariant-loop-i l = Turns (λ i'. row_lines l.shelf l.n i') l.n l.initial.out l.at l.out l.to l.i
+
+abbrev pub decreases-loop-i : goal.decreases-loop-i
+decreases-loop-i l = l.n - l.i

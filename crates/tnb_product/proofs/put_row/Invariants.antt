@@ -1,0 +1,13 @@
+use Prim.Native.Nat.{◌-◌}
+use native.Mathlib.Omega.{arith}
+use Rattle.shelf.specs.Calls.{factor_call}
+use Rattle.tnb_product.specs.Printed.{factor_line, row_lines}
+use Rattle.answers.proofs.Turns.{Turns, turns-none, turns_more, turns-end}
+use borrow.Author.Rules.{rules}
+use Rattle.tnb_product.proofs.put_row.Given as goal
+
+abbrev pub invariant-loop-j : goal.invariant-loop-j
+invariant-loop-j l = Turns (λ j'. factor_line l.i j' (factor_call l.shelf 2 l.i j')) l.n l.initial.out l.at l.out l.to l.j
+
+abbrev pub decreases-loop-j : goal.decreases-loop-j
+decreases-loop-j l = l.n - l.j
