@@ -5,7 +5,7 @@ use borrow.Author.Rules.{rules}
 use Rattle.tnb_console.proofs.respond_all.Given as goal
 
 abbrev pub invariant-loop-end : goal.invariant-loop-end
-invariant-loop-end l = Going l.initial.output l.rt l.text l.output l.initial.end l.now l.start
+invariant-loop-end l = Going l.initial.now l.text l.initial.output l.now l.output l.start l.end
 
 abbrev pub decreases-loop-end : goal.decreases-loop-end
-decreases-loop-end l = length l.rt - l.now
+decreases-loop-end l = length l.text - l.start

@@ -10,13 +10,13 @@ use borrow.Author.Rules.{rules}
 use Rattle.tnb_console.proofs.serve.Given as goal
 
 abbrev pub invariant-loop-turns : goal.invariant-loop-turns
-invariant-loop-turns l =     (length l.initial.turns ≡ length l.rt)
-    × (length l.input ≡ length l.initial.input)
-    × (length l.rt ≡ 65536)
+invariant-loop-turns l =     (length l.input ≡ length l.initial.input)
+    × (length l.output ≡ length l.initial.output)
     × (length l.initial.input ≡ 65536)
-    × Orderly l.output l.input
-    × (l.output.start ≡ 0)
-    × (l.now ≤ 4096)
+    × (length l.initial.output ≡ 65536)
+    × Orderly l.now l.output
+    × (l.now.start ≡ 0)
+    × (l.held ≤ 4096)
 
 abbrev pub decreases-loop-turns : goal.decreases-loop-turns
-decreases-loop-turns l = l.held
+decreases-loop-turns l = l.turns
