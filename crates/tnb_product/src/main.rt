@@ -175,7 +175,9 @@ fn main(rt: HostRuntime) {
     let mut out = io::large_buffer();
     let n = put_files(&rt, &mut left, &mut right, &mut out);
     if rt.stdout().write_all(lines::first(&out, n)).is_err() {
-        let told = rt.stderr().write_all(b"tnb_product: cannot write its output\n");
+        let told = rt
+            .stderr()
+            .write_all(b"tnb_product: cannot write its output\n");
         told.is_ok();
     }
 }

@@ -7,5 +7,5 @@ use Rattle.tnb_product.proofs.put_factor.Goals as goal
 
 pub returns : goal.returns
 unfolding factor_line
-returns c =                     puts-behind c.put_whole-first.ensures (puts-behind {a = ascii " "} c.put-second.ensures
+returns c = puts-behind c.put_whole-first.ensures (puts-behind {a = ascii " "} c.put-second.ensures
     (puts-behind c.put_whole-third.ensures (puts-behind {b = ascii "\n"} c.put_factor-end.ensures c.put.ensures)))

@@ -3,4 +3,4 @@ use borrow.Author.Rules.{rules}
 use Rattle.tnb_product.proofs.put_files.Goals as goal
 
 pub returns : goal.returns
-returns c =                         (c.read_file-a.result, c.read_file-b.result, rw (c.first.ensures, c.first-2.ensures) at c.text.ensures)
+returns c = (c.read_file-a.result, c.read_file-b.result, rw (c.first.ensures, c.first-2.ensures) at c.text.ensures)

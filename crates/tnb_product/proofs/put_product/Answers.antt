@@ -9,4 +9,4 @@ returns-in-Done c = rw c.in-Done.is c.put_result.ensures
 
 pub returns-in-Refused : goal.returns-in-Refused
 unfolding printed
-returns-in-Refused c = rw c.in-Refused.is c.Put-refused.ensures
+returns-in-Refused c = rw c.in-Refused.is c.put_refused.ensures

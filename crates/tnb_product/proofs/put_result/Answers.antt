@@ -7,5 +7,5 @@ use Rattle.tnb_product.proofs.put_result.Goals as goal
 
 pub returns : goal.returns
 unfolding result_text
-returns c =                 puts-behind (rw c.rows_at-n.ensures at c.put_whole-end.ensures)
+returns c = puts-behind (rw c.rows_at-n.ensures at c.put_whole-end.ensures)
     (puts-behind {a = ascii "\n"} c.put-next.ensures (rw c.rows_at-n.ensures at c.put_factors.ensures))

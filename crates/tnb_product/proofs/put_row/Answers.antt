@@ -11,7 +11,7 @@ pub loop-j-init : goal.loop-j-init
 loop-j-init c = turns-none _ _ _ _
 
 pub loop-j-preserved : goal.loop-j-preserved
-loop-j-preserved c =     let factor = rw c.factor_at.ensures at c.put_factor-to.ensures in
+loop-j-preserved c = let factor = rw c.factor_at.ensures at c.put_factor-to.ensures in
     turns_more c.loop-j.invariant (omega arith) factor
 
 pub shape_of-out : goal.shape_of-out

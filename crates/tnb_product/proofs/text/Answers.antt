@@ -6,6 +6,6 @@ use borrow.Author.Rules.{rules}
 use Rattle.tnb_product.proofs.text.Goals as goal
 
 pub returns : goal.returns
-returns c =                 program _ _ _ (changed_outcome c.load-first.result) (changed_outcome c.load-second.result) (operated_outcome c.product-product.result)
+returns c = program _ _ _ (changed_outcome c.load-first.result) (changed_outcome c.load-second.result) (operated_outcome c.product-product.result)
     c.new.ensures.value c.load-first.ensures.result_value c.load-second.ensures.result_value c.product-product.ensures.result_value
     c.product-product.ensures.good (search rules) c.put_text.ensures
