@@ -170,7 +170,13 @@ struct Piece {
 }
 
 // Answers the lines that end among the first n bytes of the input.
-fn respond_piece(rt: &HostRuntime, was: State, input: &mut [u8], n: usize, output: &mut [u8]) -> Piece
+fn respond_piece(
+    rt: &HostRuntime,
+    was: State,
+    input: &mut [u8],
+    n: usize,
+    output: &mut [u8],
+) -> Piece
     requires orderly { Orderly was output.old }
     requires start_value { (was.start ≡ 0) × (n ≤ length input.old) }
     ensures orderly_2 { Orderly result.state output.new }
@@ -200,7 +206,9 @@ fn deliver(rt: &HostRuntime, state: State, output: &[u8]) -> bool
     if flush(rt, output, state.waiting) & state.written {
         return true;
     }
-    let told = rt.stderr().write_all(b"tnb_console: cannot write its output\n");
+    let told = rt
+        .stderr()
+        .write_all(b"tnb_console: cannot write its output\n");
     told.is_ok();
     false
 }

@@ -3,4 +3,4 @@ use borrow.Author.Rules.{rules}
 use Rattle.tnb_console.proofs.hold.Goals as goal
 
 pub returns : goal.returns
-returns c = rw c.if-long.false (c.move_up.ensures.input_after, c.move_up.ensures.upper_bound)
+returns c = rw c.if-long.false c.move_up.ensures

@@ -10,7 +10,7 @@ use borrow.Author.Rules.{rules}
 use Rattle.tnb_console.proofs.serve.Given as goal
 
 abbrev pub invariant-loop-turns : goal.invariant-loop-turns
-invariant-loop-turns l =     (length l.input ≡ length l.initial.input)
+invariant-loop-turns l = (length l.input ≡ length l.initial.input)
     × (length l.output ≡ length l.initial.output)
     × (length l.initial.input ≡ 65536)
     × (length l.initial.output ≡ 65536)
