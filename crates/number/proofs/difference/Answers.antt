@@ -1,5 +1,4 @@
 -- `difference` meets its contract: near operands are worked in full, and far ones round as the larger less an eighth.
-use mathlib.Core.Logic.{⊎_elim}
 use mathlib.Core.Path.{◌≡◌, refl, sym, ap, ◌∙◌}
 use Prim.Native.Nat.{ℕ, ◌+◌, ◌-◌, ◌*◌, ◌^◌, ◌≤◌, ◌<◌}
 use native.Mathlib.Omega.{arith}
@@ -8,19 +7,19 @@ use lib.Pow.{pow_mono}
 use Rattle.number.proofs.Exact.{sum_fits, difference-far}
 use Rattle.number.specs.Number.{round}
 use Rattle.number.proofs.difference.Goals as goal
-use Rattle.number.proofs.difference.Goals.{After-power, Joined-k-eq33}
+use Rattle.number.proofs.difference.Goals.{After-power, Joined-k-eq33, then-k-eq33+else-a-eq2147483648, else-k-eq33}
 
 fits : (c : After-power)
     → (c.args.a * c.power.result < 2 ^ 64) × (c.args.a * c.power.result + c.args.b < 2 ^ 64)
-fits c =         let k = c.args.i - c.args.j in
+fits c = let k = c.args.i - c.args.j in
     rw c.power.ensures (sum_fits _ _ _ c.requires.1 c.requires.3 (pow_mono {i = k} {j = 32} (omega arith)))
 
 -- where the arms meet the second number is less than a quarter of a unit, if the first has the least mantissa
 quarter : (c : Joined-k-eq33) → c.args.a ≡ 2 ^ 31
     → c.args.b * 4 < 2 ^ (c.args.i - c.args.j)
-quarter c e =         let k = c.args.i - c.args.j in
+quarter c e = let k = c.args.i - c.args.j in
     let l : 33 ≤ k = c.if-k-lt33.false in
-    let ne : k ≡ 33 → ⊥ = λ (f : k ≡ 33). ⊎_elim (λ w. w.1.left e) (λ w. w.left f) c.if-k-eq33.branch in
+    let ne : k ≡ 33 → ⊥ = λ (f : k ≡ 33). elim c.if-k-eq33.branch [ then-k-eq33+else-a-eq2147483648 w ↦ w.if-a-eq2147483648.false e | else-k-eq33 w ↦ w.if-k-eq33.false f ] in
     omega (arith, pow_mono {i = 34} {j = k} (omega arith), c.requires.3)
 
 pub overflow_mul-a : goal.overflow_mul-a
@@ -33,11 +32,11 @@ pub round_integer-requires : goal.round_integer-requires
 round_integer-requires c = rw c.power.ensures (omega arith)
 
 pub returns-then-k-lt33 : goal.returns-then-k-lt33
-returns-then-k-lt33 c =     let a = c.args in
+returns-then-k-lt33 c = let a = c.args in
     c.round_integer.ensures ∙ ap (λ (d : ℕ). round (a.a * d - a.b) 1 a.j) c.power.ensures
 
 pub returns-then-a-eq2147483648 : goal.returns-then-a-eq2147483648
-returns-then-a-eq2147483648 c =         let a = c.args in
+returns-then-a-eq2147483648 c = let a = c.args in
     let e : a.i - a.j ≡ 33 = c.if-k-eq33.true in
     let f : a.a ≡ 2 ^ 31 = c.if-a-eq2147483648.true in
     let g : a.a * 2 ^ (a.i - a.j) ≡ 2 ^ 64 = rw (e, f) refl in
@@ -45,7 +44,7 @@ returns-then-a-eq2147483648 c =         let a = c.args in
     c.round_integer-then-a-eq2147483648.ensures ∙ ap (λ (n : ℕ). round n 1 a.j) h
 
 pub returns : goal.returns
-returns c =         let a = c.args in
+returns c = let a = c.args in
     let k = a.i - a.j in
     let far : 2 ^ 33 ≤ 2 ^ k = pow_mono {i = 33} {j = k} c.if-k-lt33.false in
     let e : a.i - 3 + 3 ≡ a.j + k = omega arith in

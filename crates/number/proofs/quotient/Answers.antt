@@ -19,7 +19,7 @@ chosen c = rw c.either-s.ensures (shift-range c.args.a c.args.b)
 
 -- the shifted dividend is a word
 fits : (c : After-either-s) → shifted c.args.a c.args.b < 2 ^ 64
-fits c =         omega (arith, shifted-high c.args.a c.args.b c.requires.0 c.requires.1)
+fits c = omega (arith, shifted-high c.args.a c.args.b c.requires.0 c.requires.1)
 
 -- and is what the code shifts
 word : (c : After-either-s) → c.args.a * 2 ^ c.either-s.result % 2 ^ 64 ≡ shifted c.args.a c.args.b
@@ -35,7 +35,7 @@ left c = omega (arith, parts c, mod-lt (shifted c.args.a c.args.b) {m = c.args.b
 
 -- and what is compared fits
 product-fits : (c : After-either-s) → remainder c.args.a c.args.b * c.multiplier-k.result < 2 ^ 64 - 1
-product-fits c =         let r = remainder c.args.a c.args.b in
+product-fits c = let r = remainder c.args.a c.args.b in
     subst (λ (k : ℕ). r * k < 2 ^ 64 - 1) (sym c.multiplier-k.ensures)
     (multiplier-fits c.args.direction r c.args.b (left c) c.requires.1.high)
 
@@ -52,11 +52,11 @@ pub overflow_sub-n : goal.overflow_sub-n
 overflow_sub-n c = rw (word c) (omega (arith, parts c))
 
 pub whole-m-requires : goal.whole-m-requires
-whole-m-requires c =         let q = quotient-full c.args.a c.args.b c.requires.0 c.requires.1 Down in
+whole-m-requires c = let q = quotient-full c.args.a c.args.b c.requires.0 c.requires.1 Down in
     rw (word c) (q.high, left c, product-fits c)
 
 pub returns : goal.returns
-returns c =                     let e = c.whole-m.ensures ∙ ap (λ (n : ℕ). whole_of (n / c.args.b) (n - n / c.args.b * c.args.b) c.args.b c.multiplier-k.result) (word (goal.at.returns c).After-either-s)
+returns c = let e = c.whole-m.ensures ∙ ap (λ (n : ℕ). whole_of (n / c.args.b) (n - n / c.args.b * c.args.b) c.args.b c.multiplier-k.result) (word (goal.at.returns c).After-either-s)
     ∙ ap (whole_of (whole_quotient c.args.a c.args.b) (remainder c.args.a c.args.b) c.args.b) c.multiplier-k.ensures
     ∙ compared c.args.direction (whole_quotient c.args.a c.args.b) (remainder c.args.a c.args.b) c.args.b (left (goal.at.returns c).After-either-s) in
     ap₂ (λ (m k : ℕ). record { m = m; x = c.args.x - k }) e c.either-s.ensures

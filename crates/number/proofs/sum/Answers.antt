@@ -9,12 +9,12 @@ use Rattle.number.specs.Digits.{aligned_of}
 use Rattle.number.proofs.sum.Goals as goal
 
 pub kept-requires : goal.kept-requires
-kept-requires c =         let a = c.args in
+kept-requires c = let a = c.args in
     let k = c.lower.result in
     omega (arith, c.aligned.ensures, aligned-low a.a a.b k c.requires.0, aligned-high a.a a.b k c.requires.1 c.requires.2)
 
 pub returns : goal.returns
-returns c =         let a = c.args in
+returns c = let a = c.args in
     let k = a.i - a.j in
     let w = a.direction in
     let e : a.j + k ≡ a.i = omega arith in

@@ -13,7 +13,7 @@ use Rattle.reader.proofs.behind.Goals.{In-Matrix}
 
 -- the matrix that was read ends within the input
 inside : (c : In-Matrix) → c.in-Matrix.next ≤ length c.args.s.now
-inside c =     let h : OutcomeInside _ (Matrix c.in-Matrix.rows c.in-Matrix.next) =
+inside c = let h : OutcomeInside _ (Matrix c.in-Matrix.rows c.in-Matrix.next) =
     rw c.in-Matrix.is at c.read_matrix-read.ensures.outcome_inside in
     h.2
 
@@ -24,9 +24,9 @@ pub slice_bounds-result-start : goal.slice_bounds-result-start
 slice_bounds-result-start c = inside c
 
 pub returns-in-Matrix : goal.returns-in-Matrix
-returns-in-Matrix c =             matched (behind_outcome c.args.s.now) (ap (λ (r : Parsed). r.outcome) c.read_matrix-read.ensures.value) c.in-Matrix.is (part-is c.args.s.now _)
+returns-in-Matrix c = matched (behind_outcome c.args.s.now) (ap (λ (r : Parsed). r.outcome) c.read_matrix-read.ensures.value) c.in-Matrix.is (part-is c.args.s.now _)
     ∙ behind-outcome c.args.s.now (matrix_of c.args.s.now)
 
 pub returns-in-Fault : goal.returns-in-Fault
-returns-in-Fault c =             matched (behind_outcome c.args.s.now) (ap (λ (r : Parsed). r.outcome) c.read_matrix-read.ensures.value) c.in-Fault.is refl
+returns-in-Fault c = matched (behind_outcome c.args.s.now) (ap (λ (r : Parsed). r.outcome) c.read_matrix-read.ensures.value) c.in-Fault.is refl
     ∙ behind-outcome c.args.s.now (matrix_of c.args.s.now)

@@ -11,7 +11,7 @@ use Rattle.reader.proofs.factor_at.Goals.{In-Value}
 
 -- the item that was found ends within the input
 inside : (c : In-Value) → (c.in-Value.next ≤ length c.args.s.now) × (c.in-Value.value < 2 ^ 32)
-inside c =     let h : ItemInside _ (Value c.in-Value.value c.in-Value.next) = rw c.in-Value.is at c.item_at-item.ensures.item_inside in
+inside c = let h : ItemInside _ (Value c.in-Value.value c.in-Value.next) = rw c.in-Value.is at c.item_at-item.ensures.item_inside in
     h
 
 pub mantissa_at-requires : goal.mantissa_at-requires
@@ -19,16 +19,25 @@ mantissa_at-requires c = record { at_in_bounds = (inside (goal.at.mantissa_at-re
 
 pub returns-in-Accepted : goal.returns-in-Accepted
 unfolding factor_at
-returns-in-Accepted c = let a = c.args in record { value = matched (factor_by_item a.s.now a.n (take a.k a.numbers) a.at) c.item_at-item.ensures.value c.in-Value.is
-          (matched (judged_by a.at (mantissa_at a.s.now _ _)) c.judge-verdict.ensures c.in-Accepted.is
-          c.mantissa_at.ensures.value); factor_inside = c.mantissa_at.ensures.factor_inside }
+returns-in-Accepted c = let a = c.args in record {
+  value = matched (factor_by_item a.s.now a.n (take a.k a.numbers) a.at) c.item_at-item.ensures.value c.in-Value.is
+      (matched (judged_by a.at (mantissa_at a.s.now _ _)) c.judge-verdict.ensures c.in-Accepted.is
+      c.mantissa_at.ensures.value);
+  factor_inside = c.mantissa_at.ensures.factor_inside;
+}
 
 pub returns-in-Refused : goal.returns-in-Refused
 unfolding factor_at
-returns-in-Refused c = let a = c.args in record { value = matched (factor_by_item a.s.now a.n (take a.k a.numbers) a.at) c.item_at-item.ensures.value c.in-Value.is
-          (matched (judged_by a.at (mantissa_at a.s.now _ _)) c.judge-verdict.ensures c.in-Refused.is refl); factor_inside = tt }
+returns-in-Refused c = let a = c.args in record {
+  value = matched (factor_by_item a.s.now a.n (take a.k a.numbers) a.at) c.item_at-item.ensures.value c.in-Value.is
+      (matched (judged_by a.at (mantissa_at a.s.now _ _)) c.judge-verdict.ensures c.in-Refused.is refl);
+  factor_inside = tt;
+}
 
 pub returns-in-Fault : goal.returns-in-Fault
 unfolding factor_at
-returns-in-Fault c = let a = c.args in record { value = matched (factor_by_item a.s.now a.n (take a.k a.numbers) a.at) c.item_at-item.ensures.value
-          c.in-Fault.is refl; factor_inside = tt }
+returns-in-Fault c = let a = c.args in record {
+  value = matched (factor_by_item a.s.now a.n (take a.k a.numbers) a.at) c.item_at-item.ensures.value
+      c.in-Fault.is refl;
+  factor_inside = tt;
+}

@@ -22,13 +22,16 @@ pub bounds-numbers-k : goal.bounds-numbers-k
 bounds-numbers-k c = omega (arith, c.loop-k.invariant.room)
 
 pub loop-k-preserved : goal.loop-k-preserved
-loop-k-preserved c =             let b : FactorInside _ (At c.in-At.factor c.in-At.next) = rw c.in-At.is at c.factor_at-got.ensures.factor_inside in
+loop-k-preserved c = let b : FactorInside _ (At c.in-At.factor c.in-At.next) = rw c.in-At.is at c.factor_at-got.ensures.factor_inside in
     read_more c.loop-k.invariant c.factor_at-got.result c.factor_at-got.ensures.value (omega arith) c.in-At.factor c.in-At.next
     c.in-At.is b
 
 pub returns-in-Fault : goal.returns-in-Fault
-returns-in-Fault c = record { value = c.fault.ensures
-          ∙ read-fault c.loop-k.invariant c.factor_at-got.result c.factor_at-got.ensures.value (omega arith) c.in-Fault.number c.in-Fault.offset c.in-Fault.is; outcome_inside = rw c.fault.ensures tt }
+returns-in-Fault c = record {
+  value = c.fault.ensures
+      ∙ read-fault c.loop-k.invariant c.factor_at-got.result c.factor_at-got.ensures.value (omega arith) c.in-Fault.number c.in-Fault.offset c.in-Fault.is;
+  outcome_inside = rw c.fault.ensures tt;
+}
 
 pub returns : goal.returns
 returns c = record { value = read_all c.loop-k.invariant c.loop-k-test.false; outcome_inside = (c.requires.0, c.requires.1, c.loop-k.invariant.inside) }

@@ -16,7 +16,7 @@ found : (c : After-group_at-got) → c.group_at-got.result ≡ group_of (drop c.
 found c = c.group_at-got.ensures.value ∙ ap group_of (part-is c.args.s.now c.args.at)
 
 inside : (c : In-Value) → (c.args.at + c.in-Value.bytes ≤ length c.args.s.now) × (c.in-Value.value < 2 ^ 32)
-inside c =         part-inside c.args.s.now _ _ _ c.group_at-got.result c.requires c.group_at-got.ensures.inside c.in-Value.is
+inside c = part-inside c.args.s.now _ _ _ c.group_at-got.result c.requires c.group_at-got.ensures.inside c.in-Value.is
 
 pub overflow_add-result : goal.overflow_add-result
 overflow_add-result c = omega (arith, inside c)

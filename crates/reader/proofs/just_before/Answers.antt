@@ -33,7 +33,7 @@ pub overflow_sub-result : goal.overflow_sub-result
 overflow_sub-result c = omega (arith, c.requires.0, row-above c.args.n c.args.k c.if-k-n.true)
 
 pub returns-then-k-n : goal.returns-then-k-n
-returns-then-k-n c =     let a = c.args in
+returns-then-k-n c = let a = c.args in
     let p = c.requires in
     front_read a.numbers a.k _ (long (goal.at.returns-then-k-n c).Start) p.1
     (omega (arith, p.0, row-above a.n a.k c.if-k-n.true))
@@ -43,7 +43,7 @@ pub overflow_sub-result-2 : goal.overflow_sub-result-2
 overflow_sub-result-2 c = column-left c.args.n c.args.k (above c)
 
 pub returns : goal.returns
-returns c =     let a = c.args in
+returns c = let a = c.args in
     front_read a.numbers a.k _ (long (goal.at.returns c).Start) c.requires.1
     (omega (arith, column-left a.n a.k (above (goal.at.returns c).Else-k-n)))
     ∙ sym (before_above a.n a.k (take a.k a.numbers) (above (goal.at.returns c).Else-k-n))

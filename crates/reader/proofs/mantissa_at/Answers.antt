@@ -12,7 +12,7 @@ use Rattle.reader.proofs.mantissa_at.Goals.{In-Value}
 
 -- the item that was found ends within the input
 inside : (c : In-Value) → c.in-Value.next ≤ length c.args.s.now
-inside c =     let h : ItemInside _ (Value c.in-Value.value c.in-Value.next) = rw c.in-Value.is at c.item_at-item.ensures.item_inside in
+inside c = let h : ItemInside _ (Value c.in-Value.value c.in-Value.next) = rw c.in-Value.is at c.item_at-item.ensures.item_inside in
     h.0
 
 pub returns-then-code-eq0 : goal.returns-then-code-eq0
@@ -21,13 +21,19 @@ returns-then-code-eq0 c = record { value = rw (eq-eqb _ _ c.if-code-eq0.true); f
 
 pub returns-then-value-gt2147483647 : goal.returns-then-value-gt2147483647
 unfolding mantissa_at
-returns-then-value-gt2147483647 c = let a = c.args in record { value = rw (ne_eqb _ _ c.if-code-eq0.false)
-          (matched (mantissa_by a.at a.code) c.item_at-item.ensures.value c.in-Value.is (simp (lt-ltb _ _ c.if-value-gt2147483647.true))); factor_inside = tt }
+returns-then-value-gt2147483647 c = let a = c.args in record {
+  value = rw (ne_eqb _ _ c.if-code-eq0.false)
+      (matched (mantissa_by a.at a.code) c.item_at-item.ensures.value c.in-Value.is (simp (lt-ltb _ _ c.if-value-gt2147483647.true)));
+  factor_inside = tt;
+}
 
 pub returns-else-value-gt2147483647 : goal.returns-else-value-gt2147483647
 unfolding mantissa_at
-returns-else-value-gt2147483647 c = let a = c.args in record { value = rw (ne_eqb _ _ c.if-code-eq0.false)
-          (matched (mantissa_by a.at a.code) c.item_at-item.ensures.value c.in-Value.is (simp (le-ltb _ _ c.if-value-gt2147483647.false))); factor_inside = inside (goal.at.returns-else-value-gt2147483647 c).In-Value }
+returns-else-value-gt2147483647 c = let a = c.args in record {
+  value = rw (ne_eqb _ _ c.if-code-eq0.false)
+      (matched (mantissa_by a.at a.code) c.item_at-item.ensures.value c.in-Value.is (simp (le-ltb _ _ c.if-value-gt2147483647.false)));
+  factor_inside = inside (goal.at.returns-else-value-gt2147483647 c).In-Value;
+}
 
 pub returns-in-Fault : goal.returns-in-Fault
 unfolding mantissa_at

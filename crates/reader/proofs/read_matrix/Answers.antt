@@ -15,7 +15,7 @@ use Rattle.reader.proofs.read_matrix.Goals.{After-item_at-item, In-Value}
 
 -- the item that was found ends within the input
 inside : (c : In-Value) → c.in-Value.next ≤ length c.args.s.now
-inside c =     let h : ItemInside _ (Value c.in-Value.value c.in-Value.next) = rw c.in-Value.is at c.item_at-item.ensures.item_inside in
+inside c = let h : ItemInside _ (Value c.in-Value.value c.in-Value.next) = rw c.in-Value.is at c.item_at-item.ensures.item_inside in
     h.0
 
 -- an answer by what the first item is
@@ -28,15 +28,21 @@ pub returns-then-value-lt1 : goal.returns-then-value-lt1
 returns-then-value-lt1 c = record { value = answer (goal.at.returns-then-value-lt1 c).After-item_at-item _ c.in-Value.is (c.fault.ensures ∙ simp (lt-ltb _ _ c.if-value-lt1.true)); outcome_inside = rw c.fault.ensures tt }
 
 pub returns-then-value-gt8 : goal.returns-then-value-gt8
-returns-then-value-gt8 c = record { value = answer (goal.at.returns-then-value-gt8 c).After-item_at-item _ c.in-Value.is
-          (c.fault-then-value-gt8.ensures ∙ simp (le-ltb _ _ c.if-value-lt1.false, lt-ltb _ _ c.if-value-gt8.true)); outcome_inside = rw c.fault-then-value-gt8.ensures tt }
+returns-then-value-gt8 c = record {
+  value = answer (goal.at.returns-then-value-gt8 c).After-item_at-item _ c.in-Value.is
+      (c.fault-then-value-gt8.ensures ∙ simp (le-ltb _ _ c.if-value-lt1.false, lt-ltb _ _ c.if-value-gt8.true));
+  outcome_inside = rw c.fault-then-value-gt8.ensures tt;
+}
 
 pub factors_from-requires : goal.factors_from-requires
 factors_from-requires c = (omega arith, omega arith, inside (goal.at.factors_from-requires c).In-Value)
 
 pub returns-else-value-gt8 : goal.returns-else-value-gt8
-returns-else-value-gt8 c = record { value = answer (goal.at.returns-else-value-gt8 c).After-item_at-item _ c.in-Value.is
-          (c.factors_from.ensures.value ∙ simp (le-ltb _ _ c.if-value-lt1.false, le-ltb _ _ c.if-value-gt8.false)); outcome_inside = c.factors_from.ensures.outcome_inside }
+returns-else-value-gt8 c = record {
+  value = answer (goal.at.returns-else-value-gt8 c).After-item_at-item _ c.in-Value.is
+      (c.factors_from.ensures.value ∙ simp (le-ltb _ _ c.if-value-lt1.false, le-ltb _ _ c.if-value-gt8.false));
+  outcome_inside = c.factors_from.ensures.outcome_inside;
+}
 
 pub returns-in-Fault : goal.returns-in-Fault
 returns-in-Fault c = record { value = answer (goal.at.returns-in-Fault c).After-item_at-item _ c.in-Fault.is c.fault-in-Fault.ensures; outcome_inside = rw c.fault-in-Fault.ensures tt }

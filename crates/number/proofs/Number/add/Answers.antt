@@ -15,11 +15,11 @@ use Rattle.number.proofs.Number.add.Goals.{After-either-4, Start}
 -- the sum keeps the laws of its direction
 promised : (s : Start) (r : Number) → let a = s.args in r ≡ sum_by a.direction a.self a.other
     → (r ≡ sum_by a.direction a.self a.other) × Directed a.direction (reach + 2) (fraction_sum (value a.self) (value a.other)) r
-promised s r e =     let a = s.args in (
-      e,
-      subst (Directed a.direction (reach + 2) (fraction_sum (value a.self) (value a.other))) (sym e)
-          ((lawful a.direction).sum s.requires.0 s.requires.1 (omega arith)),
-    )
+promised s r e = let a = s.args in (
+  e,
+  subst (Directed a.direction (reach + 2) (fraction_sum (value a.self) (value a.other))) (sym e)
+      ((lawful a.direction).sum s.requires.0 s.requires.1 (omega arith)),
+)
 
 pub returns-then-self-eq0 : goal.returns-then-self-eq0
 returns-then-self-eq0 c = record { value = (promised (goal.at.returns-then-self-eq0 c).Start _ (sym (sum-zero-left c.args.direction c.args.self c.args.other c.requires.1 c.if-self-eq0.true))).0; directed = (promised (goal.at.returns-then-self-eq0 c).Start _ (sym (sum-zero-left c.args.direction c.args.self c.args.other c.requires.1 c.if-self-eq0.true))).1 }
@@ -28,9 +28,9 @@ pub returns-then-other-eq0 : goal.returns-then-other-eq0
 returns-then-other-eq0 c = record { value = (promised (goal.at.returns-then-other-eq0 c).Start _ (sym (sum-zero-right c.args.direction c.args.self c.args.other c.requires.0 c.if-other-eq0.true))).0; directed = (promised (goal.at.returns-then-other-eq0 c).Start _ (sym (sum-zero-right c.args.direction c.args.self c.args.other c.requires.0 c.if-other-eq0.true))).1 }
 
 -- the operands as they were chosen
-chosen : (c : After-either-4) →         ((2 ^ 31 ≤ c.either.result) × (c.either.result < 2 ^ 32) × (c.either-3.result < 2 ^ 32) × (c.either-4.result ≤ c.either-2.result) × (32 ≤ c.either-4.result) × (c.either-2.result < 2 ^ 61))
+chosen : (c : After-either-4) → ((2 ^ 31 ≤ c.either.result) × (c.either.result < 2 ^ 32) × (c.either-3.result < 2 ^ 32) × (c.either-4.result ≤ c.either-2.result) × (32 ≤ c.either-4.result) × (c.either-2.result < 2 ^ 61))
     × (round_by c.args.direction (c.either.result * 2 ^ (c.either-2.result - c.either-4.result) + c.either-3.result) 1 c.either-4.result ≡ sum_by c.args.direction c.args.self c.args.other)
-chosen c =         sum-ordered c.args.direction c.args.self c.args.other c.requires.0 c.requires.1 (omega arith) (omega arith) _ refl
+chosen c = sum-ordered c.args.direction c.args.self c.args.other c.requires.0 c.requires.1 (omega arith) (omega arith) _ refl
     c.either.ensures c.either-2.ensures c.either-3.ensures c.either-4.ensures
 
 pub sum-requires : goal.sum-requires

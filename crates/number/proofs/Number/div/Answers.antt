@@ -20,7 +20,7 @@ promised : (s : Start) (r : Number) → let a = s.args in r ≡ quotient_by a.di
     → (r ≡ quotient_by a.direction a.self a.other)
     × (Directed a.direction (reach + reach + 32) (fraction_quotient (value a.self) (value a.other)) r
     × (0 < a.self.m → Divided a.direction a.self a.other r))
-promised s r e =     let a = s.args in
+promised s r e = let a = s.args in
     let q = fraction_quotient (value a.self) (value a.other) in
     let d = (lawful a.direction).quotient s.requires.0 s.requires.1 (omega arith) s.requires.2 in (
       e,
@@ -34,7 +34,7 @@ pub returns-then-self-eq0 : goal.returns-then-self-eq0
 returns-then-self-eq0 c = record { value = (promised (goal.at.returns-then-self-eq0 c).Start _ (zero_is c.args.self c.requires.0 c.if-self-eq0.true ∙ sym (quotient-zero-left c.args.direction c.args.self c.args.other c.if-self-eq0.true))).0; directed = (promised (goal.at.returns-then-self-eq0 c).Start _ (zero_is c.args.self c.requires.0 c.if-self-eq0.true ∙ sym (quotient-zero-left c.args.direction c.args.self c.args.other c.if-self-eq0.true))).1.0; divided = (promised (goal.at.returns-then-self-eq0 c).Start _ (zero_is c.args.self c.requires.0 c.if-self-eq0.true ∙ sym (quotient-zero-left c.args.direction c.args.self c.args.other c.if-self-eq0.true))).1.1 }
 
 pub quotient-requires : goal.quotient-requires
-quotient-requires c =         (mantissa-full c.requires.0 (omega arith), mantissa-full c.requires.1 c.requires.2, omega arith, omega arith)
+quotient-requires c = (mantissa-full c.requires.0 (omega arith), mantissa-full c.requires.1 c.requires.2, omega arith, omega arith)
 
 pub returns : goal.returns
 returns c = record { value = (promised (goal.at.returns c).Start _ (c.quotient.ensures ∙ sym (quotient-at c.args.direction c.requires.0 c.requires.1 (omega arith) c.requires.2))).0; directed = (promised (goal.at.returns c).Start _ (c.quotient.ensures ∙ sym (quotient-at c.args.direction c.requires.0 c.requires.1 (omega arith) c.requires.2))).1.0; divided = (promised (goal.at.returns c).Start _ (c.quotient.ensures ∙ sym (quotient-at c.args.direction c.requires.0 c.requires.1 (omega arith) c.requires.2))).1.1 }

@@ -17,11 +17,11 @@ use Rattle.number.proofs.Number.mul.Goals.{Start}
 promised : (s : Start) (r : Number) → let a = s.args in r ≡ product_by a.direction a.self a.other
     → (r ≡ product_by a.direction a.self a.other)
     × Directed a.direction (reach + reach + 33) (fraction_product (value a.self) (value a.other)) r
-promised s r e =     let a = s.args in (
-      e,
-      subst (Directed a.direction (reach + reach + 33) (fraction_product (value a.self) (value a.other))) (sym e)
-          ((lawful a.direction).product s.requires.0 s.requires.1 (omega arith)),
-    )
+promised s r e = let a = s.args in (
+  e,
+  subst (Directed a.direction (reach + reach + 33) (fraction_product (value a.self) (value a.other))) (sym e)
+      ((lawful a.direction).product s.requires.0 s.requires.1 (omega arith)),
+)
 
 pub returns-then-self-eq0 : goal.returns-then-self-eq0
 returns-then-self-eq0 c = record { value = (promised (goal.at.returns-then-self-eq0 c).Start _ (zero_is c.args.self c.requires.0 c.if-self-eq0.true ∙ sym (product-zero-left c.args.direction c.args.self c.args.other c.if-self-eq0.true))).0; directed = (promised (goal.at.returns-then-self-eq0 c).Start _ (zero_is c.args.self c.requires.0 c.if-self-eq0.true ∙ sym (product-zero-left c.args.direction c.args.self c.args.other c.if-self-eq0.true))).1 }
@@ -30,14 +30,14 @@ pub returns-then-other-eq0 : goal.returns-then-other-eq0
 returns-then-other-eq0 c = record { value = (promised (goal.at.returns-then-other-eq0 c).Start _ (zero_is c.args.other c.requires.1 c.if-other-eq0.true ∙ sym (product-zero-right c.args.direction c.args.self c.args.other c.if-other-eq0.true))).0; directed = (promised (goal.at.returns-then-other-eq0 c).Start _ (zero_is c.args.other c.requires.1 c.if-other-eq0.true ∙ sym (product-zero-right c.args.direction c.args.self c.args.other c.if-other-eq0.true))).1 }
 
 pub overflow_mul-self : goal.overflow_mul-self
-overflow_mul-self c =         omega (arith, product_high c.args.self.m c.args.other.m c.requires.0.high c.requires.1.high)
+overflow_mul-self c = omega (arith, product_high c.args.self.m c.args.other.m c.requires.0.high c.requires.1.high)
 
 pub kept-requires : goal.kept-requires
-kept-requires c =         (
-      product-low c.args.self.m c.args.other.m (c.requires.0.low (omega arith)) (c.requires.1.low (omega arith)),
-      product_high c.args.self.m c.args.other.m c.requires.0.high c.requires.1.high,
-      omega (arith, c.requires.0.stop, c.requires.1.stop),
-    )
+kept-requires c = (
+  product-low c.args.self.m c.args.other.m (c.requires.0.low (omega arith)) (c.requires.1.low (omega arith)),
+  product_high c.args.self.m c.args.other.m c.requires.0.high c.requires.1.high,
+  omega (arith, c.requires.0.stop, c.requires.1.stop),
+)
 
 pub returns : goal.returns
 unfolding product_by

@@ -55,7 +55,7 @@ pub overflow_add-result : goal.overflow_add-result
 overflow_add-result c = record { fits = rw (size c) (Fits-nat_abs {w = w64} {w' = w64} tt c.ranges.x).fits }
 
 pub as_unsigned-requires-else-is_negative : goal.as_unsigned-requires-else-is_negative
-as_unsigned-requires-else-is_negative c =     rw (to_z-of_z c.ranges.x) (sym (rw (to_z-of_z c.ranges.x) at c.is_negative.ensures) ∙ c.if-is_negative.false)
+as_unsigned-requires-else-is_negative c = rw (to_z-of_z c.ranges.x) (sym (rw (to_z-of_z c.ranges.x) at c.is_negative.ensures) ∙ c.if-is_negative.false)
 
 pub returns-then-is_negative : goal.returns-then-is_negative
 returns-then-is_negative c = size c

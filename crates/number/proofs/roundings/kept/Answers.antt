@@ -6,4 +6,4 @@ use Rattle.number.proofs.Digits.{last_of, kept-is}
 use Rattle.number.proofs.roundings.kept.Goals as goal
 
 pub returns : goal.returns
-returns c =         ap (λ (r : ℕ). last_of r c.args.x) c.lifted-r.ensures ∙ kept-is c.args.direction c.args.p c.args.x c.requires.0 c.requires.1
+returns c = ap (λ (r : ℕ). last_of r c.args.x) c.lifted-r.ensures ∙ kept-is c.args.direction c.args.p c.args.x c.requires.0 c.requires.1

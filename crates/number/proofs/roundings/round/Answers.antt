@@ -9,7 +9,7 @@ use Rattle.number.specs.declared.Direction.TheVariants.{Nearest}
 use Rattle.number.proofs.roundings.round.Goals as goal
 
 pub returns : goal.returns
-returns c =         let a = c.args in
+returns c = let a = c.args in
     c.renormalised.ensures
     ∙ ap (λ (m : ℕ). renormalised m a.x) (c.whole.ensures ∙ compared Nearest a.q a.remainder a.d c.requires.2)
     ∙ sym (round-parts Nearest a.q a.remainder a.d a.x c.requires.2 c.requires.0 c.requires.1)

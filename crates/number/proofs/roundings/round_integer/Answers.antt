@@ -14,31 +14,31 @@ pub overflow_cast-z : goal.overflow_cast-z
 overflow_cast-z c = omega (arith, zeros-lt c.args.n c.requires.0 c.ranges.n.fits)
 
 pub round_long-requires : goal.round_long-requires
-round_long-requires c =         let g = zeros-long c.args.n c.requires.0 c.ranges.n.fits (le_of_lt c.if-z-lt32.true) in
+round_long-requires c = let g = zeros-long c.args.n c.requires.0 c.ranges.n.fits (le_of_lt c.if-z-lt32.true) in
     (omega arith, g.0, g.1, c.requires.2)
 
 pub returns-then-z-lt32 : goal.returns-then-z-lt32
-returns-then-z-lt32 c =         let g = zeros-long c.args.n c.requires.0 c.ranges.n.fits (le_of_lt c.if-z-lt32.true) in
+returns-then-z-lt32 c = let g = zeros-long c.args.n c.requires.0 c.ranges.n.fits (le_of_lt c.if-z-lt32.true) in
     c.round_long.ensures ∙ sym (integer-long Nearest c.args.n c.args.x (32 - count_leading_zeros 64 c.args.n) c.requires.0 g.0 g.1)
 
 pub power-requires : goal.power-requires
 power-requires c = omega (arith, zeros-lt c.args.n c.requires.0 c.ranges.n.fits)
 
 pub overflow_mul-n : goal.overflow_mul-n
-overflow_mul-n c =         rw c.power.ensures (omega (arith, zeros-short c.args.n c.requires.0 c.ranges.n.fits c.if-z-lt32.false))
+overflow_mul-n c = rw c.power.ensures (omega (arith, zeros-short c.args.n c.requires.0 c.ranges.n.fits c.if-z-lt32.false))
 
 pub overflow_sub-x : goal.overflow_sub-x
-overflow_sub-x c =         omega (arith, zeros-lt c.args.n c.requires.0 c.ranges.n.fits)
+overflow_sub-x c = omega (arith, zeros-lt c.args.n c.requires.0 c.ranges.n.fits)
 
 pub round-requires : goal.round-requires
-round-requires c =         rw c.power.ensures (omega (arith, zeros-short c.args.n c.requires.0 c.ranges.n.fits c.if-z-lt32.false))
+round-requires c = rw c.power.ensures (omega (arith, zeros-short c.args.n c.requires.0 c.ranges.n.fits c.if-z-lt32.false))
 
 -- a whole number leaves no remainder
 joined : (k : ℕ) → k * 1 + 0 ≡ k
 joined k = omega arith
 
 pub returns : goal.returns
-returns c =         let w = count_leading_zeros 64 c.args.n - 32 in
+returns c = let w = count_leading_zeros 64 c.args.n - 32 in
     let g = zeros-short c.args.n c.requires.0 c.ranges.n.fits c.if-z-lt32.false in
     c.round.ensures ∙ ap (λ (k : ℕ). round k 1 (c.args.x - w)) (joined (c.args.n * c.power.result))
     ∙ ap (λ (d : ℕ). round (c.args.n * d) 1 (c.args.x - w)) c.power.ensures

@@ -25,18 +25,18 @@ parts n w l h =
     }
 
 pub overflow_mul-q : goal.overflow_mul-q
-overflow_mul-q c =         let g = parts c.args.n c.args.w c.requires.1 c.requires.2 in
+overflow_mul-q c = let g = parts c.args.n c.args.w c.requires.1 c.requires.2 in
     rw c.power-d.ensures (omega (arith, g.whole, c.ranges.n.fits))
 
 pub overflow_sub-n : goal.overflow_sub-n
-overflow_sub-n c =         rw c.power-d.ensures (omega (arith, (parts c.args.n c.args.w c.requires.1 c.requires.2).whole))
+overflow_sub-n c = rw c.power-d.ensures (omega (arith, (parts c.args.n c.args.w c.requires.1 c.requires.2).whole))
 
 pub round-requires : goal.round-requires
-round-requires c =         let g = parts c.args.n c.args.w c.requires.1 c.requires.2 in
+round-requires c = let g = parts c.args.n c.args.w c.requires.1 c.requires.2 in
     rw c.power-d.ensures (omega (arith, g.whole, g.remainder, g.low, g.high, pow_mono {i = c.args.w} {j = 32} c.requires.0))
 
 pub returns : goal.returns
-returns c =                 let g = parts c.args.n c.args.w c.requires.1 c.requires.2 in
+returns c = let g = parts c.args.n c.args.w c.requires.1 c.requires.2 in
     let e : c.args.n / 2 ^ c.args.w * 2 ^ c.args.w + (c.args.n - c.args.n / 2 ^ c.args.w * 2 ^ c.args.w) ≡ c.args.n = omega (arith, g.whole) in
     c.round.ensures ∙ ap (λ (d : ℕ). round (c.args.n / 2 ^ c.args.w * d + (c.args.n - c.args.n / 2 ^ c.args.w * d)) d (c.args.x + c.args.w)) c.power-d.ensures
     ∙ ap (λ (k : ℕ). round k (2 ^ c.args.w) (c.args.x + c.args.w)) e
