@@ -42,13 +42,16 @@ returns-in-Transpose c = record { result_value = (told (goal.at.returns-in-Trans
 
 pub returns-in-Submatrix : goal.returns-in-Submatrix
 unfolding forecast_call
-returns-in-Submatrix c = record { result_value = (told (goal.at.returns-in-Submatrix c).Start _
-    (c.submatrix.ensures
-    ∙ ap₂ (λ (I J : ℕ). forecast_call c.args.shelf (Submatrix c.in-Submatrix.source I J)) c.wide.ensures.value c.wide-in-Submatrix.ensures.value
-    ∙ sym (ap (forecast_call _) c.in-Submatrix.is))).0; foretelling = (told (goal.at.returns-in-Submatrix c).Start _
-    (c.submatrix.ensures
-    ∙ ap₂ (λ (I J : ℕ). forecast_call c.args.shelf (Submatrix c.in-Submatrix.source I J)) c.wide.ensures.value c.wide-in-Submatrix.ensures.value
-    ∙ sym (ap (forecast_call _) c.in-Submatrix.is))).1 }
+returns-in-Submatrix c = record {
+  result_value = (told (goal.at.returns-in-Submatrix c).Start _
+      (c.submatrix.ensures
+      ∙ ap₂ (λ (I J : ℕ). forecast_call c.args.shelf (Submatrix c.in-Submatrix.source I J)) c.wide.ensures.value c.wide-in-Submatrix.ensures.value
+      ∙ sym (ap (forecast_call _) c.in-Submatrix.is))).0;
+  foretelling = (told (goal.at.returns-in-Submatrix c).Start _
+      (c.submatrix.ensures
+      ∙ ap₂ (λ (I J : ℕ). forecast_call c.args.shelf (Submatrix c.in-Submatrix.source I J)) c.wide.ensures.value c.wide-in-Submatrix.ensures.value
+      ∙ sym (ap (forecast_call _) c.in-Submatrix.is))).1;
+}
 
 pub returns-in-Schur : goal.returns-in-Schur
 unfolding forecast_call

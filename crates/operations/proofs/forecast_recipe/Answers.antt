@@ -27,7 +27,7 @@ unfolding recipe_forecast
 returns-then-miscounted c = record { result_value = (told (goal.at.returns-then-miscounted c).Start _ (told-refused _ _ _ (when-refused 18 _ (sym c.miscounted.ensures ∙ c.if-miscounted.true)))).0; foretelling = (told (goal.at.returns-then-miscounted c).Start _ (told-refused _ _ _ (when-refused 18 _ (sym c.miscounted.ensures ∙ c.if-miscounted.true)))).1 }
 
 pub joined-requires : goal.joined-requires
-joined-requires c =     let h = counted c.args.recipe.count (sym c.miscounted.ensures ∙ c.if-miscounted.false) in
+joined-requires c = let h = counted c.args.recipe.count (sym c.miscounted.ensures ∙ c.if-miscounted.false) in
     (c.requires, omega (arith, h.0), h.1)
 
 pub returns : goal.returns

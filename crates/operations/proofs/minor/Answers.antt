@@ -27,14 +27,14 @@ use Rattle.operations.proofs.minor.Goals as goal
 use Rattle.operations.proofs.minor.Goals.{After-minor-a, After-test-v, Else-not-in_range, In_default}
 
 tested : (c : After-test-v) → (let a = c.args in c.test-v.result ≡ first_of (set_tests a.shelf a.place a.rows a.columns))
-tested c =         let a = c.args in
+tested c = let a = c.args in
     choice-verdict (source_tests a.shelf a.place) c.source-v.ensures
     (c.unfit.ensures
     ∙ ap (λ (n : ℕ). unfit n c.wide-i.result c.wide-j.result) c.rows_at-n.ensures
     ∙ ap₂ (unfit (rows_at a.shelf a.place)) c.wide-i.ensures.value c.wide-j.ensures.value) c.test-v.ensures
 
 tested_at_In_default : (c : In_default) → (let a = c.args in c.test-v.result ≡ first_of (set_tests a.shelf a.place a.rows a.columns))
-tested_at_In_default c =         let a = c.args in
+tested_at_In_default c = let a = c.args in
     choice-verdict (source_tests a.shelf a.place) c.source-v.ensures
     (c.unfit.ensures
     ∙ ap (λ (n : ℕ). unfit n c.wide-i.result c.wide-j.result) c.rows_at-n.ensures
@@ -45,7 +45,7 @@ passed c = sym (tested_at_In_default c) ∙ c.in_default.is
 
 value : (c : After-minor-a)
     → (let a = c.args in c.minor-a.result ≡ minor_at a.shelf a.place a.rows a.columns)
-value c =         let a = c.args in
+value c = let a = c.args in
     minor-is a.shelf a.place a.rows a.columns _ _ _ _ _ c.rows_at-n.ensures c.table_at.ensures
     c.wide-i.ensures.value c.wide-j.ensures.value c.minor-a.ensures
 
@@ -60,20 +60,23 @@ unfit-requires c = (
 )
 
 pub returns-in-Refused : goal.returns-in-Refused
-returns-in-Refused c =         let a = c.args in
+returns-in-Refused c = let a = c.args in
     minor-turned a.shelf a.place a.rows a.columns _ (sym (tested (goal.at.returns-in-Refused c).After-test-v) ∙ c.in-Refused.is)
 
 pub table_at-requires : goal.table_at-requires
-table_at-requires c =     let a = c.args in
+table_at-requires c = let a = c.args in
     (sets-passed a.shelf a.place a.rows a.columns (passed c)).0.small
 
 pub minor-a-requires : goal.minor-a-requires
-minor-a-requires c = let a = c.args in let p = sets-passed a.shelf a.place a.rows a.columns (passed (goal.at.minor-a-requires c).In_default) in record { le_n = (minor-workable a.shelf a.place a.rows a.columns _ _ _ _ c.rows_at-n.ensures c.wide-i.ensures.value
-    c.wide-j.ensures.value c.table_at.ensures c.requires p.0 p.1).0; i_bound = (minor-workable a.shelf a.place a.rows a.columns _ _ _ _ c.rows_at-n.ensures c.wide-i.ensures.value
-    c.wide-j.ensures.value c.table_at.ensures c.requires p.0 p.1).1 }
+minor-a-requires c = let a = c.args in let p = sets-passed a.shelf a.place a.rows a.columns (passed (goal.at.minor-a-requires c).In_default) in record {
+  le_n = (minor-workable a.shelf a.place a.rows a.columns _ _ _ _ c.rows_at-n.ensures c.wide-i.ensures.value
+      c.wide-j.ensures.value c.table_at.ensures c.requires p.0 p.1).0;
+  i_bound = (minor-workable a.shelf a.place a.rows a.columns _ _ _ _ c.rows_at-n.ensures c.wide-i.ensures.value
+      c.wide-j.ensures.value c.table_at.ensures c.requires p.0 p.1).1;
+}
 
 pub returns-then-not-in_range : goal.returns-then-not-in_range
-returns-then-not-in_range c =             let a = c.args in
+returns-then-not-in_range c = let a = c.args in
     minor-outside a.shelf a.place a.rows a.columns (passed (goal.at.returns-then-not-in_range c).In_default)
     (sym (ap in_range (value (goal.at.returns-then-not-in_range c).After-minor-a)) ∙ sym c.in_range.ensures ∙ not-true _ (ap not c.if-not-in_range.true))
 
@@ -81,7 +84,7 @@ pub exponent-requires : goal.exponent-requires
 exponent-requires c = in-range-small _ (ranged c)
 
 pub returns : goal.returns
-returns c =             let a = c.args in
+returns c = let a = c.args in
     let f : SFits w64 c.exponent.result = record { sfits = c.exponent.type_inv } in
     ap₂ (λ (x : Number) (e' : ℤ). let r : Report = valued_report (Value x.m e') in r) (value (goal.at.returns c).After-minor-a) (to_z-of_z f ∙ c.exponent.ensures ∙ ap exponent_of (value (goal.at.returns c).After-minor-a))
     ∙ minor-done a.shelf a.place a.rows a.columns (passed (goal.at.returns c).In_default) (sym (ap in_range (value (goal.at.returns c).After-minor-a)) ∙ ranged (goal.at.returns c).Else-not-in_range)

@@ -18,20 +18,28 @@ long c = search (rules, length-mapped)
 
 pub returns-then-miscounted : goal.returns-then-miscounted
 unfolding kept
-returns-then-miscounted c = let a = c.args in let ready = recipe-ready a.shelf c.requires a.recipe a.target (long (goal.at.returns-then-miscounted c).Start) in record { result_value = (operation-done _ a.target _ _ ready a.shelf c.requires (turned_down (record { number = 18; offset = 0 })) _
-    (operation-turned _ a.target _ _ ready _ (when-refused 18 _ (sym c.miscounted.ensures ∙ c.if-miscounted.true))) (refl, c.requires)).0; good = (operation-done _ a.target _ _ ready a.shelf c.requires (turned_down (record { number = 18; offset = 0 })) _
-    (operation-turned _ a.target _ _ ready _ (when-refused 18 _ (sym c.miscounted.ensures ∙ c.if-miscounted.true))) (refl, c.requires)).1.0; promised = (operation-done _ a.target _ _ ready a.shelf c.requires (turned_down (record { number = 18; offset = 0 })) _
-    (operation-turned _ a.target _ _ ready _ (when-refused 18 _ (sym c.miscounted.ensures ∙ c.if-miscounted.true))) (refl, c.requires)).1.1 }
+returns-then-miscounted c = let a = c.args in let ready = recipe-ready a.shelf c.requires a.recipe a.target (long (goal.at.returns-then-miscounted c).Start) in record {
+  result_value = (operation-done _ a.target _ _ ready a.shelf c.requires (turned_down (record { number = 18; offset = 0 })) _
+      (operation-turned _ a.target _ _ ready _ (when-refused 18 _ (sym c.miscounted.ensures ∙ c.if-miscounted.true))) (refl, c.requires)).0;
+  good = (operation-done _ a.target _ _ ready a.shelf c.requires (turned_down (record { number = 18; offset = 0 })) _
+      (operation-turned _ a.target _ _ ready _ (when-refused 18 _ (sym c.miscounted.ensures ∙ c.if-miscounted.true))) (refl, c.requires)).1.0;
+  promised = (operation-done _ a.target _ _ ready a.shelf c.requires (turned_down (record { number = 18; offset = 0 })) _
+      (operation-turned _ a.target _ _ ready _ (when-refused 18 _ (sym c.miscounted.ensures ∙ c.if-miscounted.true))) (refl, c.requires)).1.1;
+}
 
 pub joined-requires : goal.joined-requires
-joined-requires c =     let h = counted c.args.recipe.count (sym c.miscounted.ensures ∙ c.if-miscounted.false) in
+joined-requires c = let h = counted c.args.recipe.count (sym c.miscounted.ensures ∙ c.if-miscounted.false) in
     (c.requires, omega (arith, h.0), h.1)
 
 pub keep-requires : goal.keep-requires
 keep-requires c = (c.requires, c.joined.ensures.keepable)
 
 pub returns : goal.returns
-returns c = let a = c.args in record { result_value = (operation-done _ a.target _ _ (recipe-ready a.shelf c.requires a.recipe a.target (long (goal.at.returns c).Start)) a.shelf c.requires _ _
-    (c.joined.ensures.value ∙ proposed-behind 18 _ _ _ (sym c.miscounted.ensures ∙ c.if-miscounted.false)) (c.keep.ensures.value, c.keep.ensures.good)).0; good = (operation-done _ a.target _ _ (recipe-ready a.shelf c.requires a.recipe a.target (long (goal.at.returns c).Start)) a.shelf c.requires _ _
-    (c.joined.ensures.value ∙ proposed-behind 18 _ _ _ (sym c.miscounted.ensures ∙ c.if-miscounted.false)) (c.keep.ensures.value, c.keep.ensures.good)).1.0; promised = (operation-done _ a.target _ _ (recipe-ready a.shelf c.requires a.recipe a.target (long (goal.at.returns c).Start)) a.shelf c.requires _ _
-    (c.joined.ensures.value ∙ proposed-behind 18 _ _ _ (sym c.miscounted.ensures ∙ c.if-miscounted.false)) (c.keep.ensures.value, c.keep.ensures.good)).1.1 }
+returns c = let a = c.args in record {
+  result_value = (operation-done _ a.target _ _ (recipe-ready a.shelf c.requires a.recipe a.target (long (goal.at.returns c).Start)) a.shelf c.requires _ _
+      (c.joined.ensures.value ∙ proposed-behind 18 _ _ _ (sym c.miscounted.ensures ∙ c.if-miscounted.false)) (c.keep.ensures.value, c.keep.ensures.good)).0;
+  good = (operation-done _ a.target _ _ (recipe-ready a.shelf c.requires a.recipe a.target (long (goal.at.returns c).Start)) a.shelf c.requires _ _
+      (c.joined.ensures.value ∙ proposed-behind 18 _ _ _ (sym c.miscounted.ensures ∙ c.if-miscounted.false)) (c.keep.ensures.value, c.keep.ensures.good)).1.0;
+  promised = (operation-done _ a.target _ _ (recipe-ready a.shelf c.requires a.recipe a.target (long (goal.at.returns c).Start)) a.shelf c.requires _ _
+      (c.joined.ensures.value ∙ proposed-behind 18 _ _ _ (sym c.miscounted.ensures ∙ c.if-miscounted.false)) (c.keep.ensures.value, c.keep.ensures.good)).1.1;
+}

@@ -12,7 +12,11 @@ pub keep-requires : goal.keep-requires
 keep-requires c = (c.requires, c.joined.ensures.keepable)
 
 pub returns : goal.returns
-returns c = let a = c.args in record { result_value = (operation-done _ a.target _ _ (product-ready a.shelf c.requires a.left a.right a.target) a.shelf c.requires _ _
-    (rw c.two-steps.ensures at c.joined.ensures.value) (c.keep.ensures.value, c.keep.ensures.good)).0; good = (operation-done _ a.target _ _ (product-ready a.shelf c.requires a.left a.right a.target) a.shelf c.requires _ _
-    (rw c.two-steps.ensures at c.joined.ensures.value) (c.keep.ensures.value, c.keep.ensures.good)).1.0; promised = (operation-done _ a.target _ _ (product-ready a.shelf c.requires a.left a.right a.target) a.shelf c.requires _ _
-    (rw c.two-steps.ensures at c.joined.ensures.value) (c.keep.ensures.value, c.keep.ensures.good)).1.1 }
+returns c = let a = c.args in record {
+  result_value = (operation-done _ a.target _ _ (product-ready a.shelf c.requires a.left a.right a.target) a.shelf c.requires _ _
+      (rw c.two-steps.ensures at c.joined.ensures.value) (c.keep.ensures.value, c.keep.ensures.good)).0;
+  good = (operation-done _ a.target _ _ (product-ready a.shelf c.requires a.left a.right a.target) a.shelf c.requires _ _
+      (rw c.two-steps.ensures at c.joined.ensures.value) (c.keep.ensures.value, c.keep.ensures.good)).1.0;
+  promised = (operation-done _ a.target _ _ (product-ready a.shelf c.requires a.left a.right a.target) a.shelf c.requires _ _
+      (rw c.two-steps.ensures at c.joined.ensures.value) (c.keep.ensures.value, c.keep.ensures.good)).1.1;
+}

@@ -10,7 +10,11 @@ pub keep-requires : goal.keep-requires
 keep-requires c = (c.requires, c.submatrix.ensures.keepable)
 
 pub returns : goal.returns
-returns c = let a = c.args in record { result_value = (operation-done _ a.target _ _ (submatrix-ready a.shelf c.requires a.source a.rows a.columns a.target) a.shelf c.requires _ _
-    (rw (c.wide-row_set.ensures.value, c.wide-column_set.ensures.value) at c.submatrix.ensures.value) (c.keep.ensures.value, c.keep.ensures.good)).0; good = (operation-done _ a.target _ _ (submatrix-ready a.shelf c.requires a.source a.rows a.columns a.target) a.shelf c.requires _ _
-    (rw (c.wide-row_set.ensures.value, c.wide-column_set.ensures.value) at c.submatrix.ensures.value) (c.keep.ensures.value, c.keep.ensures.good)).1.0; promised = (operation-done _ a.target _ _ (submatrix-ready a.shelf c.requires a.source a.rows a.columns a.target) a.shelf c.requires _ _
-    (rw (c.wide-row_set.ensures.value, c.wide-column_set.ensures.value) at c.submatrix.ensures.value) (c.keep.ensures.value, c.keep.ensures.good)).1.1 }
+returns c = let a = c.args in record {
+  result_value = (operation-done _ a.target _ _ (submatrix-ready a.shelf c.requires a.source a.rows a.columns a.target) a.shelf c.requires _ _
+      (rw (c.wide-row_set.ensures.value, c.wide-column_set.ensures.value) at c.submatrix.ensures.value) (c.keep.ensures.value, c.keep.ensures.good)).0;
+  good = (operation-done _ a.target _ _ (submatrix-ready a.shelf c.requires a.source a.rows a.columns a.target) a.shelf c.requires _ _
+      (rw (c.wide-row_set.ensures.value, c.wide-column_set.ensures.value) at c.submatrix.ensures.value) (c.keep.ensures.value, c.keep.ensures.good)).1.0;
+  promised = (operation-done _ a.target _ _ (submatrix-ready a.shelf c.requires a.source a.rows a.columns a.target) a.shelf c.requires _ _
+      (rw (c.wide-row_set.ensures.value, c.wide-column_set.ensures.value) at c.submatrix.ensures.value) (c.keep.ensures.value, c.keep.ensures.good)).1.1;
+}

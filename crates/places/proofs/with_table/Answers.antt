@@ -18,7 +18,7 @@ pub loop-k-init : goal.loop-k-init
 loop-k-init c = (search rules, refl, refl, search (rules, length-mapped))
 
 pub loop-k-preserved : goal.loop-k-preserved
-loop-k-preserved c =     let a = c.args in
+loop-k-preserved c = let a = c.args in
     let l = c.loop-k in
     let k = l.k in (
       omega arith,

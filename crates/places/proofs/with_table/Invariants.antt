@@ -14,7 +14,7 @@ use borrow.Author.Rules.{rules}
 use Rattle.places.proofs.with_table.Given as goal
 
 abbrev pub invariant-loop-k : goal.invariant-loop-k
-invariant-loop-k l =     (l.k ≤ 64) × (l.left.numbers ≡ sets l.initial.left.numbers (l.place * 64) (take l.k l.t)) × (l.left.sizes ≡ l.initial.left.sizes) × (length l.initial.left.numbers ≡ 512)
+invariant-loop-k l = (l.k ≤ 64) × (l.left.numbers ≡ sets l.initial.left.numbers (l.place * 64) (take l.k l.t)) × (l.left.sizes ≡ l.initial.left.sizes) × (length l.initial.left.numbers ≡ 512)
 
 abbrev pub decreases-loop-k : goal.decreases-loop-k
 decreases-loop-k l = 64 - l.k

@@ -34,18 +34,18 @@ accepted_at_After_rows_at_n c = sym c.sources_alone-first.ensures ∙ c.in_defau
 
 -- the rows of the first source
 rows_few : (c : After-rows_at-n) → (1 ≤ c.rows_at-n.result) × (c.rows_at-n.result ≤ 8)
-rows_few c =             let a = c.args in
+rows_few c = let a = c.args in
     rw c.rows_at-n.ensures (alone-rows a.shelf a.recipe (long_at_After_rows_at_n c) c.requires.1 c.requires.2 c.requires.0 (accepted_at_After_rows_at_n c))
 
 pub returns-in-Refused : goal.returns-in-Refused
 returns-in-Refused c = told-refused _ _ _ (sym c.sources_alone-first.ensures ∙ c.in-Refused.is)
 
 pub of_sizes-requires : goal.of_sizes-requires
-of_sizes-requires c =         let z = rows_few c in
+of_sizes-requires c = let z = rows_few c in
     (c.requires.2, z.0, z.1, omega (arith, z.1))
 
 pub returns : goal.returns
-returns c =                 let a = c.args in
+returns c = let a = c.args in
     told-steps _ _ _ (accepted (goal.at.returns c).In_default)
     (c.of_sizes.ensures ∙ none-clamped _ _ _ ∙ ap₂ (λ (m n : ℕ). result_steps (minor_foretold m n) n)
     (sym (taken-length (step_with a.shelf) a.recipe.count a.recipe.steps (omega (arith, long (goal.at.returns c).Start, c.requires.2)))) c.rows_at-n.ensures)

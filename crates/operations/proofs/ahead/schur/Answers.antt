@@ -17,12 +17,12 @@ use Rattle.operations.proofs.ahead.schur.Goals as goal
 use Rattle.operations.proofs.ahead.schur.Goals.{After-test-v, In_default}
 
 tested : (c : After-test-v) → (let a = c.args in c.test-v.result ≡ first_of (clamped_alone a.shelf a.source a.k))
-tested c =         let a = c.args in
+tested c = let a = c.args in
     choice-verdict (source_tests a.shelf a.source) c.source-v.ensures
     (c.misclamped.ensures ∙ ap (λ (n : ℕ). misclamped n a.k) c.rows_at-n.ensures) c.test-v.ensures
 
 tested_at_In_default : (c : In_default) → (let a = c.args in c.test-v.result ≡ first_of (clamped_alone a.shelf a.source a.k))
-tested_at_In_default c =         let a = c.args in
+tested_at_In_default c = let a = c.args in
     choice-verdict (source_tests a.shelf a.source) c.source-v.ensures
     (c.misclamped.ensures ∙ ap (λ (n : ℕ). misclamped n a.k) c.rows_at-n.ensures) c.test-v.ensures
 
@@ -33,7 +33,7 @@ passed c = sym (tested_at_In_default c) ∙ c.in_default.is
 -- the source's rows, more than the clamped ones
 rows : (c : In_default) → (let a = c.args in let n = c.rows_at-n.result in
     (n ≡ rows_at a.shelf a.source) × (a.k < n) × (n ≤ 8))
-rows c =         let a = c.args in
+rows c = let a = c.args in
     let e = c.rows_at-n.ensures in
     let few : rows_at a.shelf a.source ≤ 8 = rows_few a.shelf c.requires a.source in
     let more = clamped (rows_at a.shelf a.source) a.k
@@ -50,4 +50,4 @@ pub of_sizes-requires : goal.of_sizes-requires
 of_sizes-requires c = let r = rows c in (omega arith, omega (arith, r.1), r.2, omega (arith, r.1, r.2))
 
 pub returns : goal.returns
-returns c =             told-steps _ _ _ (passed (goal.at.returns c).In_default) (c.of_sizes.ensures ∙ ap (λ (n : ℕ). result_steps (λ p. minor_foretold 1 n (c.args.k + p)) (n - c.args.k)) (rows (goal.at.returns c).In_default).0)
+returns c = told-steps _ _ _ (passed (goal.at.returns c).In_default) (c.of_sizes.ensures ∙ ap (λ (n : ℕ). result_steps (λ p. minor_foretold 1 n (c.args.k + p)) (n - c.args.k)) (rows (goal.at.returns c).In_default).0)

@@ -25,7 +25,7 @@ pub overflow_add-sum-in-loop-p-2 : goal.overflow_add-sum-in-loop-p-2
 overflow_add-sum-in-loop-p-2 c = omega (arith, few c, c.loop-p.invariant.1, c.loop-p.invariant.2)
 
 pub loop-p-preserved : goal.loop-p-preserved
-loop-p-preserved c =     let a = c.args in
+loop-p-preserved c = let a = c.args in
     let l = c.loop-p in (
       term-more a.n a.clamped a.k l.p _ _ (search rules) (omega arith) l.invariant.0 c.sets_of.ensures.value,
       omega (arith, few c, l.invariant.1),
@@ -34,7 +34,7 @@ loop-p-preserved c =     let a = c.args in
 
 all : (c : After-loop-p) → (let a = c.args in let n = a.n in
     (n * n ≤ 64) × (n ≤ n * n) × (a.m * (n * n - n) ≤ 384) × (a.m * (n * n - n) * c.loop-p.sum ≤ 7096320))
-all c =     let a = c.args in
+all c = let a = c.args in
     let l = c.loop-p in
     product-few a.m a.n l.sum (search rules) (search rules) (search rules) (omega (arith, l.invariant.1, l.invariant.2))
 
@@ -51,7 +51,7 @@ pub overflow_mul-result-3 : goal.overflow_mul-result-3
 overflow_mul-result-3 c = omega (arith, (all c).3)
 
 pub returns : goal.returns
-returns c =     let a = c.args in
+returns c = let a = c.args in
     let l = c.loop-p in
     let e : l.p ≡ a.k = omega (arith, l.invariant.2, c.loop-p-test.false) in
     let f : l.sum ≡ sum_over a.k (term a.n a.clamped a.k) = rw e at l.invariant.0 in

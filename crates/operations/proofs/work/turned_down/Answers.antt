@@ -8,4 +8,4 @@ use borrow.Author.Rules.{rules}
 use Rattle.operations.proofs.work.turned_down.Goals as goal
 
 pub returns : goal.returns
-returns c =     ap (λ (l : List Number). let r : Proposed = record { answer = Refused c.args.why; rows = 0; factors = l } in r) c.blank-factors.ensures
+returns c = ap (λ (l : List Number). let r : Proposed = record { answer = Refused c.args.why; rows = 0; factors = l } in r) c.blank-factors.ensures

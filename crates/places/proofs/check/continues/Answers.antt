@@ -14,4 +14,4 @@ returns-then-zero-2 c = simp (sym c.zero.ensures ∙ c.if-zero.false, sym c.zero
 
 pub returns : goal.returns
 unfolding continues
-returns c =         c.stored.ensures ∙ simp (sym c.zero.ensures ∙ c.if-zero.false, sym c.zero-2.ensures ∙ c.if-zero-2.false)
+returns c = c.stored.ensures ∙ simp (sym c.zero.ensures ∙ c.if-zero.false, sym c.zero-2.ensures ∙ c.if-zero-2.false)

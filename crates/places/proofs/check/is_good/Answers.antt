@@ -31,7 +31,7 @@ returns-then-not-sound c = let failed = sym c.sound.ensures ∙ not-true _ (ap n
 
 pub loop-k-preserved : goal.loop-k-preserved
 unfolding rows_at
-loop-k-preserved c =             let passed = sym c.sound.ensures ∙ not-false _ (ap not c.if-not-sound.false) in
+loop-k-preserved c = let passed = sym c.sound.ensures ∙ not-false _ (ap not c.if-not-sound.false) in
     (search rules, number_passed _ _ (search rules) _ (search rules) _ c.back.ensures.value c.loop-k.invariant.1 passed)
 
 pub loop-k-2-init : goal.loop-k-2-init
@@ -39,14 +39,14 @@ loop-k-2-init c = (search rules, search rules, gathered_none _ (subst (Passed _ 
 
 pub loop-k-2-preserved : goal.loop-k-2-preserved
 unfolding rows_at
-loop-k-2-preserved c =         (search rules, search rules, gathered-more _ c.loop-k-2.invariant.2 (search rules) c.loop-k-2.invariant.0 (search rules) _ c.fault-faults.ensures)
+loop-k-2-preserved c = (search rules, search rules, gathered-more _ c.loop-k-2.invariant.2 (search rules) c.loop-k-2.invariant.0 (search rules) _ c.fault-faults.ensures)
 
 pub returns-then-faults-ne0 : goal.returns-then-faults-ne0
 returns-then-faults-ne0 c = record { value = sym (c.loop-k-2.invariant.2.some c.if-faults-ne0.true); good = λ h. absurd (false≢true h) }
 
 pub loop-p-preserved : goal.loop-p-preserved
 unfolding rows_at
-loop-p-preserved c =     let w = c.loop-k-2.invariant.2.none c.if-faults-ne0.false in
+loop-p-preserved c = let w = c.loop-k-2.invariant.2.none c.if-faults-ne0.false in
     place-passed _ _ (search rules) (subst (Passed _ _) (omega arith) w) c.if-n-gt8.false
 
 pub returns : goal.returns

@@ -12,13 +12,13 @@ use Rattle.places.proofs.check.sound.Goals as goal
 
 pub returns-then-n-k : goal.returns-then-n-k
 unfolding sound
-returns-then-n-k c =     let a = c.args in
+returns-then-n-k c = let a = c.args in
     let out : leb (suc (a.k / 8)) a.n ≡ false = lt-leb (suc (a.k / 8)) a.n (omega (arith, c.if-n-k.true)) in
     c.zero.ensures ∙ simp out
 
 pub returns-then-n-k-2 : goal.returns-then-n-k-2
 unfolding sound
-returns-then-n-k-2 c =     let a = c.args in
+returns-then-n-k-2 c = let a = c.args in
     let row : leb (suc (a.k / 8)) a.n ≡ true = le-leb (suc (a.k / 8)) a.n c.if-n-k.false in
     let out : leb (suc (a.k % 8)) a.n ≡ false = lt-leb (suc (a.k % 8)) a.n (omega (arith, c.if-n-k-2.true)) in
     c.zero-then-n-k-2.ensures ∙ simp (row, out)
@@ -34,7 +34,7 @@ module _ (n k : ℕ) (row : k / 8 < n) (column : k % 8 < n) (before a : Number) 
   off-diagonal e = simp (le-leb (suc (k / 8)) n row, le-leb (suc (k % 8)) n column, ne_eqb (k / 8) (k % 8) e)
 
 pub returns-then-k : goal.returns-then-k
-returns-then-k c =         c.stored.ensures ∙ on-diagonal _ _ c.if-n-k.false c.if-n-k-2.false _ _ c.if-k.true
+returns-then-k c = c.stored.ensures ∙ on-diagonal _ _ c.if-n-k.false c.if-n-k-2.false _ _ c.if-k.true
 
 pub returns : goal.returns
-returns c =         c.continues.ensures ∙ off-diagonal _ _ c.if-n-k.false c.if-n-k-2.false _ _ c.if-k.false
+returns c = c.continues.ensures ∙ off-diagonal _ _ c.if-n-k.false c.if-n-k-2.false _ _ c.if-k.false

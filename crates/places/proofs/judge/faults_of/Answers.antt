@@ -15,14 +15,9 @@ use Rattle.places.specs.declared.judge.Faults.{Faults}
 use Rattle.places.specs.Shelf.{rows_at}
 use Rattle.places.proofs.Recipes.{any-more, any-all}
 use borrow.Author.Rules.{rules}
+use Rattle.places.proofs.judge.faults_of.Invariants.{unlike}
 use Rattle.places.proofs.judge.faults_of.Goals as goal
 use Rattle.places.proofs.judge.faults_of.Goals.{Start}
-
-abbrev unlike : Shelf → ℕ → ℕ → Bool
-unlike s n p = not (eqb n (rows_at s p))
-
-abbrev Any : (ℕ → Bool) → List RecipeStep → ℕ → Bool → Type 0
-Any f L c b = b ≡ any_of f (map place_of (take c L))
 
 -- six slots
 long : (c : Start) → length c.args.recipe.steps ≡ 6
@@ -32,17 +27,16 @@ pub loop-c-init : goal.loop-c-init
 loop-c-init c = (search rules, refl, refl, refl)
 
 pub loop-c-preserved : goal.loop-c-preserved
-loop-c-preserved c =                         let h : c.loop-c.c < length c.args.recipe.steps = omega (arith, c.loop-c-test.true, c.requires.1, long (goal.at.loop-c-preserved c).Start) in
-    (
-      search rules,
-      any-more above c.args.recipe.steps c.loop-c.c h c.loop-c.invariant.1,
-      ap (λ (n : ℕ). c.loop-c.empty || eqb n 0) c.rows_at-rows.ensures ∙ any-more (empty (rows_at c.args.shelf)) c.args.recipe.steps c.loop-c.c h c.loop-c.invariant.2,
-      ap (λ (n : ℕ). c.loop-c.unlike || not (eqb c.rows_at-first.result n)) c.rows_at-rows.ensures
-          ∙ any-more (unlike c.args.shelf c.rows_at-first.result) c.args.recipe.steps c.loop-c.c h c.loop-c.invariant.3,
-    )
+loop-c-preserved c = let h : c.loop-c.c < length c.args.recipe.steps = omega (arith, c.loop-c-test.true, c.requires.1, long (goal.at.loop-c-preserved c).Start) in (
+  search rules,
+  any-more above c.args.recipe.steps c.loop-c.c h c.loop-c.invariant.1,
+  ap (λ (n : ℕ). c.loop-c.empty || eqb n 0) c.rows_at-rows.ensures ∙ any-more (empty (rows_at c.args.shelf)) c.args.recipe.steps c.loop-c.c h c.loop-c.invariant.2,
+  ap (λ (n : ℕ). c.loop-c.unlike || not (eqb c.rows_at-first.result n)) c.rows_at-rows.ensures
+      ∙ any-more (unlike c.args.shelf c.rows_at-first.result) c.args.recipe.steps c.loop-c.c h c.loop-c.invariant.3,
+)
 
 pub returns : goal.returns
-returns c =                                 faults (any-all above c.args.recipe.steps c.loop-c.c c.args.recipe.count c.loop-c.invariant.0 c.loop-c-test.false c.loop-c.invariant.1) (any-all (empty (rows_at c.args.shelf)) c.args.recipe.steps c.loop-c.c c.args.recipe.count c.loop-c.invariant.0 c.loop-c-test.false c.loop-c.invariant.2)
+returns c = faults (any-all above c.args.recipe.steps c.loop-c.c c.args.recipe.count c.loop-c.invariant.0 c.loop-c-test.false c.loop-c.invariant.1) (any-all (empty (rows_at c.args.shelf)) c.args.recipe.steps c.loop-c.c c.args.recipe.count c.loop-c.invariant.0 c.loop-c-test.false c.loop-c.invariant.2)
     (any-all (unlike c.args.shelf c.rows_at-first.result) c.args.recipe.steps c.loop-c.c c.args.recipe.count c.loop-c.invariant.0 c.loop-c-test.false c.loop-c.invariant.3
     ∙ ap (λ (n : ℕ). any_of (unlike c.args.shelf n) (map place_of (take c.args.recipe.count c.args.recipe.steps))) c.rows_at-first.ensures)
   where

@@ -16,8 +16,14 @@ use Rattle.places.proofs.Recipes.{any-more, any-all}
 use borrow.Author.Rules.{rules}
 use Rattle.places.proofs.judge.faults_of.Given as goal
 
+abbrev pub unlike : Shelf → ℕ → ℕ → Bool
+unlike s n p = not (eqb n (rows_at s p))
+
+abbrev pub Any : (ℕ → Bool) → List RecipeStep → ℕ → Bool → Type 0
+Any f L c b = b ≡ any_of f (map place_of (take c L))
+
 abbrev pub invariant-loop-c : goal.invariant-loop-c
-invariant-loop-c l =     (l.c ≤ l.c-end) × Any above l.steps l.c l.above × Any (empty (rows_at l.shelf)) l.steps l.c l.empty × Any (unlike l.shelf l.first) l.steps l.c l.unlike
+invariant-loop-c l = (l.c ≤ l.c-end) × Any above l.steps l.c l.above × Any (empty (rows_at l.shelf)) l.steps l.c l.empty × Any (unlike l.shelf l.first) l.steps l.c l.unlike
 
 abbrev pub decreases-loop-c : goal.decreases-loop-c
 decreases-loop-c l = l.c-end - l.c

@@ -5,11 +5,11 @@ use Rattle.places.proofs.judge.one_source.Goals as goal
 
 pub returns : goal.returns
 unfolding first_behind
-returns c =         rw (
-      c.test-v-4.ensures,
-      c.test-v-3.ensures,
-      c.test-v-2.ensures,
-      c.test-v.ensures,
-      c.rows_at-there.ensures,
-      c.rows_at-rows.ensures,
-    )
+returns c = rw (
+  c.test-v-4.ensures,
+  c.test-v-3.ensures,
+  c.test-v-2.ensures,
+  c.test-v.ensures,
+  c.rows_at-there.ensures,
+  c.rows_at-rows.ensures,
+)

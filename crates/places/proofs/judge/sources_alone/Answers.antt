@@ -12,5 +12,5 @@ long : (c : Start) → length c.args.recipe.steps ≡ 6
 long c = search (rules, length-mapped)
 
 pub returns : goal.returns
-returns c =         rw (c.test-v-3.ensures, c.test-v-2.ensures, c.test-v.ensures, c.faults_of-any.ensures)
+returns c = rw (c.test-v-3.ensures, c.test-v-2.ensures, c.test-v.ensures, c.faults_of-any.ensures)
     (recipe-alone c.args.shelf c.args.recipe (long (goal.at.returns c).Start) c.requires.0 c.requires.1)

@@ -12,13 +12,13 @@ long : (c : Start) → length c.args.recipe.steps ≡ 6
 long c = search (rules, length-mapped)
 
 pub returns : goal.returns
-returns c =                     rw (
-      c.test-v-5.ensures,
-      c.test-v-4.ensures,
-      c.test-v-3.ensures,
-      c.test-v-2.ensures,
-      c.test-v.ensures,
-      c.rows_at-there.ensures,
-      c.faults_of-any.ensures,
-    )
+returns c = rw (
+  c.test-v-5.ensures,
+  c.test-v-4.ensures,
+  c.test-v-3.ensures,
+  c.test-v-2.ensures,
+  c.test-v.ensures,
+  c.rows_at-there.ensures,
+  c.faults_of-any.ensures,
+)
     (recipe-to c.args.shelf c.args.recipe (long (goal.at.returns c).Start) c.requires.0 c.requires.1 c.args.target)

@@ -3,4 +3,4 @@ use borrow.Author.Rules.{rules}
 use Rattle.places.proofs.judge.unfit.Goals as goal
 
 pub returns : goal.returns
-returns c =     simp (c.count.ensures.value, c.count-2.ensures.value, c.beyond.ensures, c.beyond-2.ensures)
+returns c = simp (c.count.ensures.value, c.count-2.ensures.value, c.beyond.ensures, c.beyond-2.ensures)
