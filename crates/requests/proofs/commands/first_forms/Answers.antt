@@ -1,11 +1,10 @@
 -- `requests::commands::first_forms` meets its contract: entry by entry, each by what `named` ensures.
 use mathlib.Core.Path.{◌∙◌}
 use Rattle.requests.proofs.Forms.{onto}
-use borrow.Author.Rules.{rules}
 use Rattle.requests.proofs.commands.first_forms.Goals as goal
 
 pub returns : goal.returns
-returns c =                     c.named.ensures ∙ onto _ _ _
+returns c = c.named.ensures ∙ onto _ _ _
     (c.named-f-4.ensures ∙ onto _ _ _
     (c.named-f-3.ensures ∙ onto _ _ _
     (c.named-f-2.ensures ∙ onto _ _ _

@@ -2,7 +2,6 @@
 use mathlib.Core.Path.{sym, ◌∙◌}
 use Rattle.requests.specs.Commands.{entry_form}
 use Rattle.lines.proofs.Words.{same-is}
-use borrow.Author.Rules.{rules}
 use Rattle.requests.proofs.commands.named.Goals as goal
 
 pub returns-then-same : goal.returns-then-same

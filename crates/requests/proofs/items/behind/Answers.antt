@@ -4,7 +4,6 @@ use native.Mathlib.Omega.{arith}
 use mathlib.Core.Path.{sym}
 use lib.ListN.{drop_of_length-le}
 use Rattle.arrays.proofs.Runs.{part-is}
-use borrow.Author.Rules.{rules}
 use Rattle.requests.proofs.items.behind.Goals as goal
 
 pub returns-then-s-n : goal.returns-then-s-n

@@ -1,5 +1,4 @@
 -- `requests::items::negative` meets its contract.
-use borrow.Author.Rules.{rules}
 use Rattle.requests.proofs.items.negative.Goals as goal
 
 pub returns-then-size-eq9223372036854775808 : goal.returns-then-size-eq9223372036854775808

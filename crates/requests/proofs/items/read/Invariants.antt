@@ -1,11 +1,7 @@
+-- The invariant and the measure in `requests::items::read`: the words passed are items, and their numbers stand in the list.
 use Prim.Native.Nat.{◌-◌}
-use native.Mathlib.Omega.{arith}
-use mathlib.Core.Path.{sym, ap, ◌∙◌}
-use lib.ListN.{length-set}
-use Rattle.requests.specs.Items.{three_numbers, item_numbers}
-use Rattle.requests.proofs.Triples.{held, passed-item}
-use Rattle.requests.proofs.Listed.{Passed, passed_none, passed-end, passed-many, passed-other}
-use borrow.Author.Rules.{rules}
+use Rattle.requests.specs.Items.{item_numbers}
+use Rattle.requests.proofs.Listed.{Passed}
 use Rattle.requests.proofs.items.read.Given as goal
 
 abbrev pub invariant-loop-next : goal.invariant-loop-next

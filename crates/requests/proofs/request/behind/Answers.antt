@@ -1,6 +1,5 @@
 -- `requests::request::behind` meets its contract.
 use borrow.Author.Tests.{eq-eqb, ne_eqb}
-use borrow.Author.Rules.{rules}
 use Rattle.requests.proofs.request.behind.Goals as goal
 
 pub returns-then-letter-eq45 : goal.returns-then-letter-eq45

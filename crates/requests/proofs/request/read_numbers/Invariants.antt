@@ -1,8 +1,6 @@
+-- The invariant and the measure in `requests::request::read_numbers`: the numbers of the letters passed are read.
 use Prim.Native.Nat.{◌-◌}
-use native.Mathlib.Omega.{arith}
-use mathlib.Core.Path.{sym, ◌∙◌}
-use Rattle.requests.proofs.Numbers.{Numbered, numbered-none, numbered-end, numbered-other, numbered_more}
-use borrow.Author.Rules.{rules}
+use Rattle.requests.proofs.Numbers.{Numbered}
 use Rattle.requests.proofs.request.read_numbers.Given as goal
 
 abbrev pub invariant-loop-k : goal.invariant-loop-k

@@ -1,5 +1,4 @@
 -- `requests::request::start` meets its contract.
-use borrow.Author.Rules.{rules}
 use Rattle.requests.proofs.request.start.Goals as goal
 
 pub returns-in-Foretold : goal.returns-in-Foretold

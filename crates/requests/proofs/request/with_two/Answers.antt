@@ -6,8 +6,8 @@ use borrow.Author.Rules.{rules}
 use Rattle.requests.proofs.request.with_two.Goals as goal
 
 pub returns-then-request-ne2 : goal.returns-then-request-ne2
-returns-then-request-ne2 c =         λ bytes wholes. c.bad.ensures bytes _ wholes
+returns-then-request-ne2 c = λ bytes wholes. c.bad.ensures bytes _ wholes
     ∙ two-other _ _ _ c.with_items-request.result bytes _ wholes (search rules) (c.with_items-request.ensures bytes wholes) (λ e. omega arith)
 
 pub returns : goal.returns
-returns c =         λ bytes wholes. two-read _ _ _ c.with_items-request.result bytes _ wholes (search rules) (c.with_items-request.ensures bytes wholes) (omega arith)
+returns c = λ bytes wholes. two-read _ _ _ c.with_items-request.result bytes _ wholes (search rules) (c.with_items-request.ensures bytes wholes) (omega arith)

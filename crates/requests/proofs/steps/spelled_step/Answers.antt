@@ -1,10 +1,9 @@
 -- `requests::steps::spelled_step` meets its contract.
 use mathlib.Core.Path.{◌∙◌}
 use Rattle.requests.proofs.Spelled.{step_is}
-use borrow.Author.Rules.{rules}
 use Rattle.requests.proofs.steps.spelled_step.Goals as goal
 
 pub returns : goal.returns
-returns c =         c.code_by.ensures
+returns c = c.code_by.ensures
     ∙ step_is c.args.word.now _ _ _ _ c.before-a.ensures.value c.behind.ensures
     c.read_whole-place.ensures.value c.spelled_way-way.ensures

@@ -2,7 +2,6 @@
 use mathlib.Core.Path.{sym, ◌∙◌}
 use Rattle.lines.proofs.Words.{same-is}
 use Rattle.requests.specs.Steps.{spelled_way}
-use borrow.Author.Rules.{rules}
 use Rattle.requests.proofs.steps.spelled_way.Goals as goal
 
 pub returns-then-same : goal.returns-then-same
@@ -11,30 +10,30 @@ returns-then-same c = rw (sym (same-is _ _ _ c.same.ensures) ∙ c.if-same.true)
 
 pub returns-then-same-2 : goal.returns-then-same-2
 unfolding spelled_way
-returns-then-same-2 c =         rw (sym (same-is _ _ _ c.same.ensures) ∙ c.if-same.false, sym (same-is _ _ _ c.same-2.ensures) ∙ c.if-same-2.true)
+returns-then-same-2 c = rw (sym (same-is _ _ _ c.same.ensures) ∙ c.if-same.false, sym (same-is _ _ _ c.same-2.ensures) ∙ c.if-same-2.true)
 
 pub returns-then-same-3 : goal.returns-then-same-3
 unfolding spelled_way
-returns-then-same-3 c =             rw (
-      sym (same-is _ _ _ c.same.ensures) ∙ c.if-same.false,
-      sym (same-is _ _ _ c.same-2.ensures) ∙ c.if-same-2.false,
-      sym (same-is _ _ _ c.same-3.ensures) ∙ c.if-same-3.true,
-    )
+returns-then-same-3 c = rw (
+  sym (same-is _ _ _ c.same.ensures) ∙ c.if-same.false,
+  sym (same-is _ _ _ c.same-2.ensures) ∙ c.if-same-2.false,
+  sym (same-is _ _ _ c.same-3.ensures) ∙ c.if-same-3.true,
+)
 
 pub returns-then-same-4 : goal.returns-then-same-4
 unfolding spelled_way
-returns-then-same-4 c =                 rw (
-      sym (same-is _ _ _ c.same.ensures) ∙ c.if-same.false,
-      sym (same-is _ _ _ c.same-2.ensures) ∙ c.if-same-2.false,
-      sym (same-is _ _ _ c.same-3.ensures) ∙ c.if-same-3.false,
-      sym (same-is _ _ _ c.same-4.ensures) ∙ c.if-same-4.true,
-    )
+returns-then-same-4 c = rw (
+  sym (same-is _ _ _ c.same.ensures) ∙ c.if-same.false,
+  sym (same-is _ _ _ c.same-2.ensures) ∙ c.if-same-2.false,
+  sym (same-is _ _ _ c.same-3.ensures) ∙ c.if-same-3.false,
+  sym (same-is _ _ _ c.same-4.ensures) ∙ c.if-same-4.true,
+)
 
 pub returns : goal.returns
 unfolding spelled_way
-returns c =                 rw (
-      sym (same-is _ _ _ c.same.ensures) ∙ c.if-same.false,
-      sym (same-is _ _ _ c.same-2.ensures) ∙ c.if-same-2.false,
-      sym (same-is _ _ _ c.same-3.ensures) ∙ c.if-same-3.false,
-      sym (same-is _ _ _ c.same-4.ensures) ∙ c.if-same-4.false,
-    )
+returns c = rw (
+  sym (same-is _ _ _ c.same.ensures) ∙ c.if-same.false,
+  sym (same-is _ _ _ c.same-2.ensures) ∙ c.if-same-2.false,
+  sym (same-is _ _ _ c.same-3.ensures) ∙ c.if-same-3.false,
+  sym (same-is _ _ _ c.same-4.ensures) ∙ c.if-same-4.false,
+)

@@ -1,12 +1,10 @@
 -- `requests::wholes::read` meets its contract. The loop's invariant: the words passed are whole numbers, and they stand in the list.
-use Prim.Native.Nat.{◌-◌}
 use native.Mathlib.Nat.{mul-one}
 use native.Mathlib.Omega.{arith}
 use mathlib.Core.Path.{refl, sym, ap, ◌∙◌}
 use mathlib.Core.List.{[], ◌∷◌}
-use Rattle.requests.specs.Wholes.{single_number, whole_number}
-use Rattle.requests.proofs.Listed.{Passed, passed_none, passed-end, passed-many, passed-other, passed-more}
-use borrow.Author.Rules.{rules}
+use Rattle.requests.specs.Wholes.{single_number}
+use Rattle.requests.proofs.Listed.{passed_none, passed-end, passed-many, passed-other, passed-more}
 use Rattle.requests.proofs.wholes.read.Goals as goal
 
 pub loop-next-init : goal.loop-next-init
@@ -16,11 +14,11 @@ pub returns-then-count-ge-LONGEST : goal.returns-then-count-ge-LONGEST
 returns-then-count-ge-LONGEST c = passed-many c.loop-next.invariant (omega arith) c.if-count-ge-LONGEST.true
 
 pub returns-in-Malformed : goal.returns-in-Malformed
-returns-in-Malformed c =     passed-other c.loop-next.invariant (omega arith) (omega arith)
+returns-in-Malformed c = passed-other c.loop-next.invariant (omega arith) (omega arith)
     (ap single_number (sym (rw c.word.ensures at c.spelled_member-number.ensures) ∙ c.in-Malformed.is))
 
 pub loop-next-preserved : goal.loop-next-preserved
-loop-next-preserved c =     let is = sym (rw c.word.ensures at c.spelled_member-number.ensures)
+loop-next-preserved c = let is = sym (rw c.word.ensures at c.spelled_member-number.ensures)
     ∙ c.in-Value.is in
     rw c.next_word-next.ensures
     (passed-more c.loop-next.invariant (omega arith) (omega arith) (_ ∷ [])

@@ -1,11 +1,7 @@
+-- The invariant and the measure in `requests::wholes::read`: the words passed are whole numbers, and they stand in the list.
 use Prim.Native.Nat.{◌-◌}
-use native.Mathlib.Nat.{mul-one}
-use native.Mathlib.Omega.{arith}
-use mathlib.Core.Path.{refl, sym, ap, ◌∙◌}
-use mathlib.Core.List.{[], ◌∷◌}
-use Rattle.requests.specs.Wholes.{single_number, whole_number}
-use Rattle.requests.proofs.Listed.{Passed, passed_none, passed-end, passed-many, passed-other, passed-more}
-use borrow.Author.Rules.{rules}
+use Rattle.requests.specs.Wholes.{whole_number}
+use Rattle.requests.proofs.Listed.{Passed}
 use Rattle.requests.proofs.wholes.read.Given as goal
 
 abbrev pub invariant-loop-next : goal.invariant-loop-next

@@ -1,6 +1,5 @@
 -- `requests::wholes::spelled_member` meets its contract.
 use mathlib.Core.Path.{◌∙◌}
-use borrow.Author.Rules.{rules}
 use Rattle.requests.proofs.wholes.spelled_member.Goals as goal
 
 pub returns-in-Stamp : goal.returns-in-Stamp
