@@ -1,6 +1,6 @@
 /* Beechcrib: totally nonnegative matrices kept as bidiagonal factors, in 32-bit rounded arithmetic.
  *
- * Link with libtnb_c.a (rt staticlib tnb_c). A shelf is a plain value: it goes into a call, and a call that may change it hands the new
+ * Link with libtnb_c.a (tools/library tnb_c). A shelf is a plain value: it goes into a call, and a call that may change it hands the new
  * one back. No call allocates, keeps a pointer or has any state of its own. Every call is total: whatever is handed over, it answers as
  * written here, as long as each pointer is good for its length and lent output overlaps nothing else that is handed over.
  *
