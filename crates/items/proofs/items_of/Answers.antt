@@ -20,19 +20,19 @@ more : (c : In-loop-k) → 3 * c.loop-k.k + 2 < length c.args.items.now
 more c = omega (arith, c.requires.1, c.loop-k-test.true)
 
 pub returns-in-Malformed : goal.returns-in-Malformed
-returns-in-Malformed c =         c.improper.ensures
+returns-in-Malformed c = c.improper.ensures
     ∙ sym (c.loop-k.invariant.1 ∙ listed-malformed c.args.items.now c.loop-k.v c.loop-k.k (more (goal.at.returns-in-Malformed c).In-loop-k)
     (sym c.item_at-item.ensures ∙ c.in-Malformed.is))
 
 pub loop-k-preserved : goal.loop-k-preserved
-loop-k-preserved c =     (
-      omega (arith, c.loop-k-test.true),
-      c.loop-k.invariant.1 ∙ listed-value c.args.items.now c.loop-k.v c.loop-k.k c.in-Value.a
-          (more (goal.at.loop-k-preserved c).In-loop-k) (sym c.item_at-item.ensures ∙ c.in-Value.is),
-    )
+loop-k-preserved c = (
+  omega (arith, c.loop-k-test.true),
+  c.loop-k.invariant.1 ∙ listed-value c.args.items.now c.loop-k.v c.loop-k.k c.in-Value.a
+      (more (goal.at.loop-k-preserved c).In-loop-k) (sym c.item_at-item.ensures ∙ c.in-Value.is),
+)
 
 pub returns : goal.returns
-returns c =         let e : c.loop-k.k ≡ c.args.n = omega (arith, c.loop-k.invariant.0, c.loop-k-test.false) in
+returns c = let e : c.loop-k.k ≡ c.args.n = omega (arith, c.loop-k.invariant.0, c.loop-k-test.false) in
     sym (c.loop-k.invariant.1 ∙ listed-end c.args.items.now c.loop-k.v c.loop-k.k
     (omega (arith, c.requires.1, c.loop-k-test.false))
     ∙ ap (λ (n : ℕ). record { proper = true; count = n; items = c.loop-k.v }) e)

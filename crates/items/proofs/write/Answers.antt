@@ -13,23 +13,23 @@ use Rattle.items.proofs.Fronts.{unset, ranged-front, write-next}
 use Rattle.items.proofs.write.Goals as goal
 
 pub put-requires : goal.put-requires
-put-requires c =         let h : c.loop-k.k < c.args.n = c.loop-k-test.true in (
-      ranged-front c.args.v c.args.n c.loop-k.k unset h c.requires.0 c.requires.1,
-      omega (arith, c.loop-k.invariant.1, c.requires.2),
-    )
+put-requires c = let h : c.loop-k.k < c.args.n = c.loop-k-test.true in (
+  ranged-front c.args.v c.args.n c.loop-k.k unset h c.requires.0 c.requires.1,
+  omega (arith, c.loop-k.invariant.1, c.requires.2),
+)
 
 pub loop-k-preserved : goal.loop-k-preserved
-loop-k-preserved c =         let h : c.loop-k.k < c.args.n = c.loop-k-test.true in (
-      omega arith,
-      c.put.auto.out.0 ∙ c.loop-k.invariant.1,
-      c.loop-k.invariant.2 ∙ write-next c.args.v c.args.n c.loop-k.k unset h (omega (arith, c.requires.0, c.requires.1.eight))
-          c.loop-k.out _ c.put.ensures,
-    )
+loop-k-preserved c = let h : c.loop-k.k < c.args.n = c.loop-k-test.true in (
+  omega arith,
+  c.put.auto.out ∙ c.loop-k.invariant.1,
+  c.loop-k.invariant.2 ∙ write-next c.args.v c.args.n c.loop-k.k unset h (omega (arith, c.requires.0, c.requires.1.eight))
+      c.loop-k.out _ c.put.ensures,
+)
 
 pub shape_of-out : goal.shape_of-out
 shape_of-out c = c.loop-k.invariant.1
 
 pub returns : goal.returns
 unfolding list_numbers
-returns c =         sym (c.loop-k.invariant.2 ∙ ap (λ (L : List Signed). sets c.loop-k.out (3 * c.loop-k.k) (list_numbers L))
+returns c = sym (c.loop-k.invariant.2 ∙ ap (λ (L : List Signed). sets c.loop-k.out (3 * c.loop-k.k) (list_numbers L))
     (front-end c.args.v c.args.n c.loop-k.k c.loop-k-test.false))

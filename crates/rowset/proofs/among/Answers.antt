@@ -1,6 +1,5 @@
 -- `among` meets its contract. The invariant: the first i rows of p are gathered.
 use borrow.Author.Rules.{rules}
-use mathlib.Core.Logic.{⊎_elim}
 use mathlib.Core.Path.{◌≡◌, refl}
 use Prim.Native.Nat.{◌-◌, ◌≤◌}
 use native.Mathlib.Omega.{arith}
@@ -8,6 +7,7 @@ use Rattle.rowset.specs.Mask.{count_to, among_to, mask_among}
 use Rattle.rowset.proofs.Counts.{count_to-le, among_to-below}
 use Rattle.rowset.proofs.Shifts.{Gathered, among_in, among-out}
 use Rattle.rowset.proofs.among.Goals as goal
+use Rattle.rowset.proofs.among.Goals.{then-p-i-eq1, else-p-i-eq1}
 
 pub loop-i-init : goal.loop-i-init
 unfolding among_to count_to
@@ -20,7 +20,13 @@ pub overflow_add-k : goal.overflow_add-k
 overflow_add-k c = omega (arith, count_to-le c.loop-i.i c.args.p, c.loop-i.invariant.1.rows)
 
 pub loop-i-preserved : goal.loop-i-preserved
-loop-i-preserved c =         (omega arith, ⊎_elim (λ x. rw (x.1, x.2) (among_in c.loop-i.invariant.1 (search rules) x.0.taken)) (λ x. rw (x.1, x.2) (among-out c.loop-i.invariant.1 x.0.left)) c.if-p-i-eq1.branch)
+loop-i-preserved c = (
+  omega arith,
+  elim c.if-p-i-eq1.branch [
+    | then-p-i-eq1 w ↦ rw (w.r-is, w.k-is) (among_in c.loop-i.invariant.1 (search rules) w.if-p-i-eq1.true)
+    | else-p-i-eq1 w ↦ rw (w.r-is, w.k-is) (among-out c.loop-i.invariant.1 w.if-p-i-eq1.false)
+  ],
+)
 
 pub returns : goal.returns
 unfolding mask_among

@@ -7,5 +7,5 @@ use borrow.Author.Rules.{rules}
 use Rattle.rowset.proofs.with_first.Goals as goal
 
 pub returns : goal.returns
-returns c =     let a = c.args in
+returns c = let a = c.args in
     ap (λ (x : ℕ). bit_or x (a.s * 2 ^ a.k % 2 ^ 64)) c.run.ensures.value ∙ shift-first a.s a.k (search rules) (search rules)

@@ -12,10 +12,10 @@ pub returns-then-s-eq1 : goal.returns-then-s-eq1
 returns-then-s-eq1 c = hexadecimal-one c.args.s.now c.if-s-eq1.true
 
 pub returns-then-s-eq1-2 : goal.returns-then-s-eq1-2
-returns-then-s-eq1-2 c =     sym (hexadecimal-pairs c.args.s.now c.if-s-eq0.false c.if-s-eq1.false
+returns-then-s-eq1-2 c = sym (hexadecimal-pairs c.args.s.now c.if-s-eq0.false c.if-s-eq1.false
     ∙ rw (eq-eqb _ _ c.if-s-eq1-2.true))
 
 pub returns : goal.returns
-returns c =     c.all_digits.ensures
+returns c = c.all_digits.ensures
     ∙ sym (hexadecimal-pairs c.args.s.now c.if-s-eq0.false c.if-s-eq1.false
     ∙ rw (ne_eqb _ _ c.if-s-eq1-2.false))

@@ -8,8 +8,8 @@ pub returns-then-s-at : goal.returns-then-s-at
 returns-then-s-at c = rw (lt-ltb _ _ c.if-s-at.true)
 
 pub returns : goal.returns
-returns c =     rw (
-      le-ltb _ _ c.if-s-at.false,
-      c.before-2.ensures.value,
-      part-is c.args.s.now c.args.at,
-    )
+returns c = rw (
+  le-ltb _ _ c.if-s-at.false,
+  c.before-2.ensures.value,
+  part-is c.args.s.now c.args.at,
+)

@@ -49,7 +49,7 @@ pub loop-i-smaller : goal.loop-i-smaller
 loop-i-smaller c = omega arith
 
 pub loop-i-preserved : goal.loop-i-preserved
-loop-i-preserved c =     rw c.wide-d.ensures
+loop-i-preserved c = rw c.wide-d.ensures
     (spelled-more c.loop-i.invariant (omega arith) (is (goal.at.loop-i-preserved c).Else-not-is_numeral)
     (omega (arith, c.wide-d.ensures)))
 

@@ -8,4 +8,4 @@ pub returns-then-s-at : goal.returns-then-s-at
 returns-then-s-at c = sym (word-past _ _ c.if-s-at.true)
 
 pub returns : goal.returns
-returns c =     word-is c.args.s.now c.args.at _ c.before-n.ensures.value
+returns c = word-is c.args.s.now c.args.at _ c.before-n.ensures.value

@@ -14,7 +14,7 @@ pub loop-i-smaller : goal.loop-i-smaller
 loop-i-smaller c = omega arith
 
 pub loop-i-preserved : goal.loop-i-preserved
-loop-i-preserved c =     spelt-more _ c.loop-i.invariant 0 (omega arith) c.put_pair-to.ensures
+loop-i-preserved c = spelt-more _ c.loop-i.invariant 0 (omega arith) c.put_pair-to.ensures
 
 pub shape_of-out : goal.shape_of-out
 shape_of-out c = c.loop-i.invariant.left.kept

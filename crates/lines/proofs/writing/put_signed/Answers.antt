@@ -5,7 +5,7 @@ use borrow.Author.Rules.{rules}
 use Rattle.lines.proofs.writing.put_signed.Goals as goal
 
 pub returns-then-negative : goal.returns-then-negative
-returns-then-negative c =     rw c.if-negative.true
+returns-then-negative c = rw c.if-negative.true
     (puts-behind {a = ascii "-"} c.put-next.ensures c.put_whole.ensures)
 
 pub returns : goal.returns

@@ -6,5 +6,5 @@ use borrow.Author.Rules.{rules}
 use Rattle.lines.proofs.writing.put_whole.Goals as goal
 
 pub returns : goal.returns
-returns c =         let e = (c.decimal-k.ensures.digits, c.decimal-k.ensures.rest) ∙ digits_decimal _ _ (omega (arith, c.ranges.n)) c.decimal-k.ensures.len in
+returns c = let e = c.decimal-k.ensures.digits ∙ digits_decimal _ _ (omega (arith, c.ranges.n)) c.decimal-k.ensures.len in
     rw e at c.put.ensures

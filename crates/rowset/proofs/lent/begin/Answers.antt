@@ -10,5 +10,5 @@ use Rattle.rowset.proofs.lent.begin.Goals as goal
 
 pub returns : goal.returns
 unfolding tabulated begin_of count_below mask_count count_to mask_has
-returns c =     let e : c.wide.result ≡ get_or (tabulated begin_of 0 9) c.args.k 0 = c.wide.ensures.value in
+returns c = let e : c.wide.result ≡ get_or (tabulated begin_of 0 9) c.args.k 0 = c.wide.ensures.value in
     e ∙ tabulated-first begin_of 9 c.args.k (omega arith)

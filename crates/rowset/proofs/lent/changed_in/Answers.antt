@@ -26,7 +26,7 @@ pub overflow_add-block-2 : goal.overflow_add-block-2
 overflow_add-block-2 c = omega (arith, within c)
 
 pub bounds-t-block : goal.bounds-t-block
-bounds-t-block c = omega (arith, within c)
+bounds-t-block c = omega (arith, within (goal.at.bounds-t-block c).After-block)
 
 pub returns : goal.returns
 returns c = let a = c.args in let p = c.requires in let N = p.1 in let e : 512 + c.block.result * 64 + a.m ≡ 512 + (block_of a.a a.o * 64 + a.m) = omega (arith, c.block.ensures) in let r : c.wide.result ≡ position_of (changed_of a.a a.o a.m) =

@@ -105,8 +105,8 @@ inside c = omega (arith, few_at_After_parted c)
 
 -- row l + 1 in place of row l
 is_down : (c : After-replaced) → c.replaced.result ≡ changed_of (l_at_After_replaced c + 1) (l_at_After_replaced c) (m_at_After_replaced c)
-unfolding l m s
-is_down c =     let x = l_at_After_replaced c in
+unfolding l l_at_After_replaced m m_at_After_replaced s s_at_After_replaced
+is_down c = let x = l_at_After_replaced c in
     let N = neighbours-up 8 x (omega arith) (omega arith) in
     c.replaced.ensures.value ∙ ap (mask_replaced x (x + 1)) (is_up_at_After_replaced c) ∙
     changed-replaced (m_at_After_replaced c) x (x + 1) (few_at_After_replaced c) N.to_low N.to_high N.from_low N.from-high N.beside
@@ -150,13 +150,13 @@ unfolding l m
 bounds-u-down c = omega (arith, to-down (goal.at.bounds-u-down c).After-parted, inside (goal.at.bounds-u-down c).After-parted)
 
 pub loop-m-preserved : goal.loop-m-preserved
-unfolding l m s
-loop-m-preserved c =             (
-      simp length-set c.loop-m.invariant.0,
-      filled_next c.loop-m.invariant.1 c.requires.0 c.requires.1 c.requires.2 (few (goal.at.loop-m-preserved c).In-loop-m) c.loop-m.invariant.0 _ _ _ _ (to-up (goal.at.loop-m-preserved c).After-parted) (to-down (goal.at.loop-m-preserved c).After-parted) (is_up (goal.at.loop-m-preserved c).After-parted) (is_down c),
-    )
+unfolding l l_at_After_replaced m m_at_After_replaced s s_at_After_replaced
+loop-m-preserved c = (
+  simp length-set c.loop-m.invariant.0,
+  filled_next c.loop-m.invariant.1 c.requires.0 c.requires.1 c.requires.2 (few (goal.at.loop-m-preserved c).In-loop-m) c.loop-m.invariant.0 _ _ _ _ (to-up (goal.at.loop-m-preserved c).After-parted) (to-down (goal.at.loop-m-preserved c).After-parted) (is_up (goal.at.loop-m-preserved c).After-parted) (is_down c),
+)
 
 pub returns : goal.returns
-returns c =     let a = c.args in
+returns c = let a = c.args in
     let p = c.requires in
     filled_row a.l c.loop-m.invariant.1 p.0 (omega (arith, c.loop-m-test.false, end a.n p.0))

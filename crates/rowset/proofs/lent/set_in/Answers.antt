@@ -11,4 +11,4 @@ pub bounds-t-b : goal.bounds-t-b
 bounds-t-b c = omega (arith, c.requires.2, begin-fits c.args.k c.requires.0)
 
 pub returns : goal.returns
-returns c =         listed_at _ c.args.b c.args.k c.args.p _ c.requires.3 c.requires.0 c.requires.1 c.requires.2 c.wide.ensures.value
+returns c = listed_at _ c.args.b c.args.k c.args.p _ c.requires.3 c.requires.0 c.requires.1 c.requires.2 c.wide.ensures.value

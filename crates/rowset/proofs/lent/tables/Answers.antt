@@ -11,7 +11,7 @@ pub loop-l-init : goal.loop-l-init
 loop-l-init c = (omega arith, filled_none _ 64 _ (omega arith) c.joined-t.ensures.0 c.joined-t.ensures.1)
 
 pub loop-l-preserved : goal.loop-l-preserved
-loop-l-preserved c =         let e : (c.loop-l.l + 1) * 64 ≡ c.loop-l.l * 64 + 64 = omega arith in
+loop-l-preserved c = let e : (c.loop-l.l + 1) * 64 ≡ c.loop-l.l * 64 + 64 = omega arith in
     (omega arith, rw e c.filled-u.ensures)
 
 pub returns : goal.returns
