@@ -1,5 +1,4 @@
--- The invariant of `diagonal`: what the words stand for is swept, up to the set at position p. The points on the way have names: `begin` is the function's
--- entry; what is known in the loop is one record (`at`).
+-- The invariant of `diagonal`: what the words stand for is swept, up to the set at position p.
 use Prim.Native.Nat.{◌-◌, ◌≤◌}
 use Rattle.walk.specs.Steps.{entries_of}
 use Rattle.walk.specs.Lent.{table_in}

@@ -1,5 +1,4 @@
--- The invariant of `moved`: what the words stand for is swept, up to the set at p. The points on the way have names: `begin` is the function's entry, `head`
--- the loop's; what is known where a number was read is one record (`at`).
+-- The invariant of `moved`: what the words stand for is swept, up to the set at p.
 use Prim.Native.Nat.{◌-◌, ◌≤◌}
 use Rattle.walk.specs.Packed.{numbers_of}
 use Rattle.walk.proofs.Moves.{SweptMove}

@@ -1,5 +1,4 @@
--- The invariant of `Joined::minor`: the words of the steps from number c on are walked, and their steps counted. The points on the way have names: `begin`
--- is the function's entry, `rows` where the rows are counted.
+-- The invariant of `Joined::minor`: the words of the steps from number c on are walked, and their steps counted.
 use mathlib.Core.Path.{◌≡◌}
 use Prim.Native.Nat.{◌+◌, ◌*◌, ◌≤◌}
 use lib.ListN.{length, drop}
