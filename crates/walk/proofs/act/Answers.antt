@@ -29,11 +29,27 @@ abbrev state : (c : Start) → State rounded
 state c = state_of (numbers_of c.args.u.now)
 
 pub diagonal-requires : goal.diagonal-requires
-diagonal-requires c = record { k_bound = (omega arith, omega arith, omega arith); working = (c.requires.working.0, entries-stored c.args.n c.args.way (table (goal.at.diagonal-requires c).Start) c.requires.working.1); u_len = (c.requires.u_len.0, c.requires.u_len.1) }
+diagonal-requires c = record {
+  k_bound = (omega arith, omega arith, omega arith);
+  working = (c.requires.working.0, entries-stored c.args.n c.args.way (table (goal.at.diagonal-requires c).Start) c.requires.working.1);
+  u_len = (c.requires.u_len.0, c.requires.u_len.1);
+}
 
 pub returns-then-t-middle : goal.returns-then-t-middle
-returns-then-t-middle c = let a = c.args in let e : a.t ≡ middle a.n = c.if-t-middle.true ∙ c.middle.ensures.value in record { agree = agree_trans c.diagonal.ensures.agree
-          (letter-scaled a.n a.way (table (goal.at.returns-then-t-middle c).Start) c.requires.working.1 (search rules) c.requires.le_k.2 a.t c.requires.le_k.4 a.k e (state (goal.at.returns-then-t-middle c).Start)); u_len_2 = c.diagonal.ensures.u_len_2; value = (diagonal-counted a.n a.k a.way (table (goal.at.returns-then-t-middle c).Start) c.requires.working.1 (search rules) c.requires.le_k.2 a.t c.requires.le_k.4 e, omega arith) }
+returns-then-t-middle c =
+    let a = c.args in
+    let e : a.t ≡ middle a.n = c.if-t-middle.true ∙ c.middle.ensures.value in
+    record {
+      agree = agree_trans c.diagonal.ensures.agree
+          (letter-scaled a.n a.way (table (goal.at.returns-then-t-middle c).Start) c.requires.working.1 (search rules) c.requires.le_k.2 a.t
+          c.requires.le_k.4 a.k e (state (goal.at.returns-then-t-middle c).Start));
+      u_len_2 = c.diagonal.ensures.u_len_2;
+      value = (
+        diagonal-counted a.n a.k a.way (table (goal.at.returns-then-t-middle c).Start) c.requires.working.1 (search rules) c.requires.le_k.2 a.t
+            c.requires.le_k.4 e,
+        omega arith,
+      );
+    }
 
 -- not the letter in the middle
 apart : (c : Else-t-middle) → c.args.t ≡ middle c.args.n → ⊥
@@ -50,18 +66,36 @@ factor_in-w-requires c = omega (arith, c.letter_in-l.ensures.move_within.place)
 
 -- the letter's factor
 factor : (c : After-factor_in-w) → c.factor_in-w.result ≡ get_or (table_at_After_factor_in_w c) c.letter_in-l.result.at zero_number
-factor c =     let a = c.args in
+factor c =
+    let a = c.args in
     let m = c.letter_in-l in
-    c.factor_in-w.ensures ∙ sym (factor-at a.factors.now a.c m.result.at m.ensures.1.place)
+    c.factor_in-w.ensures ∙ sym (factor-at a.factors.now a.c m.result.at m.ensures.move_within.place)
 
 pub moved-requires : goal.moved-requires
-moved-requires c = let a = c.args in let p = (c.requires.working, c.requires.u_len) in let m = c.letter_in-l in let ranged = letter-ranged a.n a.way (table (goal.at.moved-requires c).Start) p.0.1 (search rules) c.requires.le_k.2 a.t c.requires.le_k.4
-    (apart (goal.at.moved-requires c).Else-t-middle) m.result m.ensures.0 _ (factor (goal.at.moved-requires c).After-factor_in-w) in record { le_k = (c.requires.le_k.0, c.requires.le_k.1, c.requires.le_k.2, m.ensures.1.rows); begin_value = c.requires.begin_value; working = (p.0.0, ranged); u_len = (p.1.0, p.1.1) }
+moved-requires c =
+    let a = c.args in
+    let m = c.letter_in-l in
+    let ranged = letter-ranged a.n a.way (table (goal.at.moved-requires c).Start) c.requires.working.1 (search rules) c.requires.le_k.2 a.t c.requires.le_k.4
+    (apart (goal.at.moved-requires c).Else-t-middle) m.result m.ensures.value _ (factor (goal.at.moved-requires c).After-factor_in-w) in record {
+      le_k = (c.requires.le_k.0, c.requires.le_k.1, c.requires.le_k.2, m.ensures.move_within.rows);
+      begin_value = c.requires.begin_value;
+      working = (c.requires.working.0, ranged);
+      u_len = (c.requires.u_len.0, c.requires.u_len.1);
+    }
 
 pub returns : goal.returns
-returns c = let a = c.args in let m = c.letter_in-l in let e = letter-moved a.n a.way (table (goal.at.returns c).Start) c.requires.working.1 (search rules) c.requires.le_k.2 a.t c.requires.le_k.4
-    (apart (goal.at.returns c).Else-t-middle) m.result m.ensures.0 _ (factor (goal.at.returns c).After-factor_in-w) (state (goal.at.returns c).Start) in record { agree = subst (Agree a.n a.k _) (sym e) c.moved.ensures.agree; u_len_2 = c.moved.ensures.u_len_2; value = (
-          move-counted a.n a.k a.way (table (goal.at.returns c).Start) c.requires.working.1 (search rules) c.requires.le_k.2 a.t c.requires.le_k.4 c.requires.le_k.0
-              c.requires.le_k.1 (apart (goal.at.returns c).Else-t-middle) a.many c.requires.begin_value.1,
-          c.requires.begin_value.2,
-        ) }
+returns c =
+    let a = c.args in
+    let m = c.letter_in-l in
+    let e = letter-moved a.n a.way (table (goal.at.returns c).Start) c.requires.working.1 (search rules) c.requires.le_k.2 a.t c.requires.le_k.4
+    (apart (goal.at.returns c).Else-t-middle) m.result m.ensures.value _ (factor (goal.at.returns c).After-factor_in-w) (state (goal.at.returns c).Start) in
+    record {
+      agree = subst (Agree a.n a.k _) (sym e) c.moved.ensures.agree;
+      u_len_2 = c.moved.ensures.u_len_2;
+      value = (
+        move-counted a.n a.k a.way (table (goal.at.returns c).Start) c.requires.working.1 (search rules) c.requires.le_k.2 a.t c.requires.le_k.4
+            c.requires.le_k.0
+            c.requires.le_k.1 (apart (goal.at.returns c).Else-t-middle) a.many c.requires.begin_value.1,
+        c.requires.begin_value.2,
+      );
+    }

@@ -1,6 +1,5 @@
 -- `moved` meets its contract. The invariant: what the words stand for is swept, up to the set at p.
 -- The points on the way have names: `begin` is the function's entry, `head` the loop's; what is known where a number was read is one record (`at`).
-use borrow.Author.Rules.{rules}
 use mathlib.Core.Path.{◌≡◌, refl, sym, ap, ap₂, ◌∙◌}
 use Prim.Native.Nat.{◌+◌, ◌-◌, ◌^◌, ◌≤◌, ◌<◌}
 use native.Mathlib.Omega.{arith}
@@ -13,7 +12,7 @@ use Rattle.rowset.specs.Mask.{count_below}
 use Rattle.rowset.proofs.Changed.{neighbours-turned}
 use Rattle.rowset.proofs.Positions.{below-mono}
 use Rattle.walk.specs.Packed.{numbers_of}
-use Rattle.walk.proofs.Moves.{SweptMove, move_all}
+use Rattle.walk.proofs.Moves.{move_all}
 use Rattle.walk.proofs.Packed.{words_size, numbers-size}
 use Rattle.walk.proofs.Sweep.{swept_none}
 use Rattle.walk.proofs.InPlace.{others-lt, AtSet, step-ready, step_fits, step-next, step-passed}
@@ -39,24 +38,25 @@ others-low c = others-lt c.args.n c.args.k c.set_in-m.ensures (counted_at_After_
 -- what is known where a number was read
 at : (c : After-unpack-b) → let a = c.args in
     AtSet a.n a.k a.a a.o a.w a.u.now c.loop-p.u c.loop-p.p c.set_in-m.result c.changed_in-from.result
-at c =                 record {
-      rows = c.requires.le_k.3;
-      few = c.requires.le_k.2;
-      some = c.requires.le_k.0;
-      others = c.set_in-m.ensures;
-      count = counted_at_After_unpack_b c;
-      swept = c.loop-p.invariant.1;
-      read = c.changed_in-from.ensures.value;
-      low = c.changed_in-from.ensures.upper_bound;
-      working = c.requires.working.0;
-      weight = c.requires.working.1;
-    }
+at c = record {
+  rows = c.requires.le_k.3;
+  few = c.requires.le_k.2;
+  some = c.requires.le_k.0;
+  others = c.set_in-m.ensures;
+  count = counted_at_After_unpack_b c;
+  swept = c.loop-p.invariant.1;
+  read = c.changed_in-from.ensures.value;
+  low = c.changed_in-from.ensures.upper_bound;
+  working = c.requires.working.0;
+  weight = c.requires.working.1;
+}
 
 pub loop-p-init : goal.loop-p-init
 loop-p-init c = (omega arith, swept_none (numbers_of c.args.u.now) (numbers-size c.args.u.now c.requires.u_len.0) (λ s. refl))
 
 pub set_in-m-requires : goal.set_in-m-requires
-set_in-m-requires c =         let a = c.args in
+set_in-m-requires c =
+    let a = c.args in
     let l : a.n - 2 ≤ 8 = omega arith in
     let h : 2 ^ (a.n - 2) ≤ 2 ^ 8 = pow_mono l in
     (omega arith, omega (arith, counted c, below-mono (a.k - 1) (2 ^ (a.n - 2)) 256 h), c.requires.begin_value.0, c.requires.u_len.1.listed)
@@ -66,7 +66,7 @@ changed_in-from-requires c = (omega arith, neighbours-turned c.requires.le_k.3, 
 
 -- zero was read
 pub loop-p-preserved-then-b-eq0 : goal.loop-p-preserved-then-b-eq0
-loop-p-preserved-then-b-eq0 c =         let z : (unpack_of (get_or c.loop-p.u c.changed_in-from.result 0)).m ≡ 0 =
+loop-p-preserved-then-b-eq0 c = let z : (unpack_of (get_or c.loop-p.u c.changed_in-from.result 0)).m ≡ 0 =
     ap (λ (q : Number). q.m) (sym c.unpack-b.ensures) ∙ c.if-b-eq0.true in
     (next (goal.at.loop-p-preserved-then-b-eq0 c).In-loop-p, step-passed (at (goal.at.loop-p-preserved-then-b-eq0 c).After-unpack-b) z)
 
@@ -74,22 +74,32 @@ pub changed_in-to-requires : goal.changed_in-to-requires
 changed_in-to-requires c = (omega arith, c.requires.le_k.3, others-low (goal.at.changed_in-to-requires c).After-set_in-m, c.requires.u_len.1.paired)
 
 pub add_product-requires : goal.add_product-requires
-add_product-requires c =             rw (c.unpack.ensures, c.unpack-b.ensures) (step-ready (at (goal.at.add_product-requires c).After-unpack-b) c.changed_in-to.result c.changed_in-to.ensures.value c.changed_in-to.ensures.upper_bound)
+add_product-requires c = rw (c.unpack.ensures, c.unpack-b.ensures)
+    (step-ready (at (goal.at.add_product-requires c).After-unpack-b) c.changed_in-to.result c.changed_in-to.ensures.value c.changed_in-to.ensures.upper_bound)
 
 -- what was summed
-summed : (c : After-add_product) →     c.add_product.result
+summed : (c : After-add_product) → c.add_product.result
     ≡ sum_of (unpack_of (get_or c.loop-p.u c.changed_in-to.result 0))
     (product_of c.args.w (unpack_of (get_or c.loop-p.u c.changed_in-from.result 0)))
-summed c =             c.add_product.ensures ∙ ap₂ (λ (p q : Number). sum_of p (product_of c.args.w q)) c.unpack.ensures c.unpack-b.ensures
+summed c = c.add_product.ensures ∙ ap₂ (λ (p q : Number). sum_of p (product_of c.args.w q)) c.unpack.ensures c.unpack-b.ensures
 
 pub pack-requires : goal.pack-requires
-pack-requires c =             rw (summed c) (step_fits (at (goal.at.pack-requires c).After-unpack-b) c.changed_in-to.result c.changed_in-to.ensures.value c.changed_in-to.ensures.upper_bound)
+pack-requires c = rw (summed c) (step_fits (at (goal.at.pack-requires c).After-unpack-b) c.changed_in-to.result c.changed_in-to.ensures.value
+    c.changed_in-to.ensures.upper_bound)
 
 pub loop-p-preserved : goal.loop-p-preserved
-loop-p-preserved c =         (
-      next (goal.at.loop-p-preserved c).In-loop-p,
-      step-next (at (goal.at.loop-p-preserved c).After-unpack-b) c.changed_in-to.result c.changed_in-to.ensures.value c.changed_in-to.ensures.upper_bound c.pack.result (c.pack.ensures ∙ ap pack_of (summed (goal.at.loop-p-preserved c).After-add_product)),
-    )
+loop-p-preserved c = (
+  next (goal.at.loop-p-preserved c).In-loop-p,
+  step-next (at (goal.at.loop-p-preserved c).After-unpack-b) c.changed_in-to.result c.changed_in-to.ensures.value c.changed_in-to.ensures.upper_bound
+      c.pack.result (c.pack.ensures ∙ ap pack_of (summed (goal.at.loop-p-preserved c).After-add_product)),
+)
 
 pub returns : goal.returns
-returns c = let a = c.args in let S = c.loop-p.invariant.1 in record { agree = move_all a.n a.k a.a a.o a.w (numbers_of a.u.now) c.requires.le_k.3 c.requires.le_k.2 c.requires.le_k.0 S (omega (arith, c.requires.begin_value.1)); u_len_2 = words_size c.loop-p.u S.size }
+returns c =
+    let a = c.args in
+    let S = c.loop-p.invariant.1 in
+    record {
+      agree = move_all a.n a.k a.a a.o a.w (numbers_of a.u.now) c.requires.le_k.3 c.requires.le_k.2 c.requires.le_k.0 S
+          (omega (arith, c.requires.begin_value.1));
+      u_len_2 = words_size c.loop-p.u S.size;
+    }

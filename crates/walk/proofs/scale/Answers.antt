@@ -1,5 +1,4 @@
 -- `scale` meets its contract: a quotient or a product, by the one test.
-use borrow.Author.Rules.{rules}
 use mathlib.Core.Path.{sym, ap, ◌∙◌}
 use mathlib.Core.Bool.{Bool}
 use Rattle.walk.specs.Steps.{scaling}

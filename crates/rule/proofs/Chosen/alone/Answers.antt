@@ -11,9 +11,26 @@ pub run-requires : goal.run-requires
 run-requires c = (search rules, omega (arith, size_few c.args.self c.requires.workable.0))
 
 pub minor-requires : goal.minor-requires
-minor-requires c = let a = c.args in let M = turned_by a.turned (chosen_minor a.self a.sources.now) in record { workable = alone-ready a.self c.requires.workable.0 M a.i a.j a.s c.requires.latest_mask.0 (search rules) (search rules) (search rules) _ c.run.ensures.value; lent = c.requires.latest_mask.1 }
+minor-requires c =
+    let a = c.args in
+    let M = turned_by a.turned (chosen_minor a.self a.sources.now) in
+    record {
+      workable = alone-ready a.self c.requires.workable.0 M a.i a.j a.s c.requires.latest_mask.0 (search rules) (search rules) (search rules) _
+          c.run.ensures.value;
+      lent = c.requires.latest_mask.1;
+    }
 
 pub returns : goal.returns
-returns c = let a = c.args in let M = turned_by a.turned (chosen_minor a.self a.sources.now) in record { number_value = c.minor.ensures.number_value
+returns c =
+    let a = c.args in
+    let M = turned_by a.turned (chosen_minor a.self a.sources.now) in
+    record {
+      number_value = c.minor.ensures.number_value
           ∙ alone-answer a.self c.requires.workable.0 M a.i a.j a.s c.requires.latest_mask.0 (search rules) (search rules) (search rules) _
-          c.run.ensures.value; ranged = c.minor.ensures.ranged; steps_value = (c.minor.ensures.steps_value.0 ∙ ap (chosen_steps a.self a.sources.now) c.requires.latest_mask.0.rows, c.minor.ensures.steps_value.1) }
+          c.run.ensures.value;
+      ranged = c.minor.ensures.ranged;
+      steps_value = (
+        c.minor.ensures.steps_value.0 ∙ ap (chosen_steps a.self a.sources.now) c.requires.latest_mask.0.rows,
+        c.minor.ensures.steps_value.1,
+      );
+    }

@@ -17,12 +17,12 @@ use Rattle.rule.proofs.Chosen.factor.Goals.{Start}
 
 -- the factor by where it stands
 abbrev placed : (c : Start) → Bool → Bool → Number
-placed c on below =     let a = c.args in
+placed c on below = let a = c.args in
     factor_by rounded (size_of a.self) on below (banded_below rounded (size_of a.self)) (chosen_minor a.self a.sources.now) a.i a.j
 
 -- and its steps
 abbrev counted : (c : Start) → Bool → ℕ
-counted c on =     let a = c.args in
+counted c on = let a = c.args in
     let w = chosen_steps a.self a.sources.now in
     cond on (w a.i + w (a.i - 1)) (four_steps w (min a.i a.j))
 
@@ -35,18 +35,52 @@ on_diagonal-requires c = record { workable = (c.requires.workable.0, c.requires.
 
 pub returns-then-i-j : goal.returns-then-i-j
 unfolding factors_by quotient_steps
-returns-then-i-j c = let a = c.args in let e = sym (eq-eqb a.i a.j c.if-i-j.true) in record { number_value = c.on_diagonal.ensures.number_value ∙ ap (λ (x : Bool). placed (goal.at.returns-then-i-j c).Start x (ltb a.j a.i)) e; steps_value = (c.on_diagonal.ensures.steps_value.0 ∙ ap (counted (goal.at.returns-then-i-j c).Start) e, c.on_diagonal.ensures.steps_value.1) }
+returns-then-i-j c =
+    let a = c.args in
+    let e = sym (eq-eqb a.i a.j c.if-i-j.true) in
+    record {
+      number_value = c.on_diagonal.ensures.number_value ∙ ap (λ (x : Bool). placed (goal.at.returns-then-i-j c).Start x (ltb a.j a.i)) e;
+      steps_value = (c.on_diagonal.ensures.steps_value.0 ∙ ap (counted (goal.at.returns-then-i-j c).Start) e, c.on_diagonal.ensures.steps_value.1);
+    }
 
 pub off_diagonal-requires : goal.off_diagonal-requires
-off_diagonal-requires c = record { workable = (c.requires.workable.0, c.requires.workable.3, omega arith, c.requires.workable.2); sides = (c.requires.sides.0, c.requires.sides.2) }
+off_diagonal-requires c = record {
+  workable = (c.requires.workable.0, c.requires.workable.3, omega arith, c.requires.workable.2);
+  sides = (c.requires.sides.0, c.requires.sides.2);
+}
 
 pub returns-then-j-i : goal.returns-then-j-i
 unfolding factors_by quotient_steps
-returns-then-j-i c = let a = c.args in let e = sym (ne_eqb a.i a.j c.if-i-j.false) in let w = chosen_steps a.self a.sources.now in let m : a.j ≡ min a.i a.j = sym (min-eq_right (omega (arith, c.if-j-i.true))) in record { number_value = c.off_diagonal.ensures.number_value ∙ ap₂ (placed (goal.at.returns-then-j-i c).Start) e (sym (lt-ltb a.j a.i c.if-j-i.true)); steps_value = (c.off_diagonal.ensures.steps_value.0 ∙ ap (four_steps w) m ∙ ap (counted (goal.at.returns-then-j-i c).Start) e, c.off_diagonal.ensures.steps_value.1) }
+returns-then-j-i c =
+    let a = c.args in
+    let e = sym (ne_eqb a.i a.j c.if-i-j.false) in
+    let w = chosen_steps a.self a.sources.now in
+    let m : a.j ≡ min a.i a.j = sym (min-eq_right (omega (arith, c.if-j-i.true))) in
+    record {
+      number_value = c.off_diagonal.ensures.number_value ∙ ap₂ (placed (goal.at.returns-then-j-i c).Start) e (sym (lt-ltb a.j a.i c.if-j-i.true));
+      steps_value = (
+        c.off_diagonal.ensures.steps_value.0 ∙ ap (four_steps w) m ∙ ap (counted (goal.at.returns-then-j-i c).Start) e,
+        c.off_diagonal.ensures.steps_value.1,
+      );
+    }
 
 pub off_diagonal-requires-2 : goal.off_diagonal-requires-2
-off_diagonal-requires-2 c = record { workable = (c.requires.workable.0, c.requires.workable.1, after c.args.i c.args.j c.if-i-j.false c.if-j-i.false, c.requires.workable.4); sides = (c.requires.sides.1, c.requires.sides.2) }
+off_diagonal-requires-2 c = record {
+  workable = (c.requires.workable.0, c.requires.workable.1, after c.args.i c.args.j c.if-i-j.false c.if-j-i.false, c.requires.workable.4);
+  sides = (c.requires.sides.1, c.requires.sides.2);
+}
 
 pub returns : goal.returns
 unfolding factors_by quotient_steps
-returns c = let a = c.args in let e = sym (ne_eqb a.i a.j c.if-i-j.false) in let w = chosen_steps a.self a.sources.now in let m : a.i ≡ min a.i a.j = sym (min-eq_left c.if-j-i.false) in record { number_value = c.off_diagonal-2.ensures.number_value ∙ ap₂ (placed (goal.at.returns c).Start) e (sym (le-ltb a.j a.i c.if-j-i.false)); steps_value = (c.off_diagonal-2.ensures.steps_value.0 ∙ ap (four_steps w) m ∙ ap (counted (goal.at.returns c).Start) e, c.off_diagonal-2.ensures.steps_value.1) }
+returns c =
+    let a = c.args in
+    let e = sym (ne_eqb a.i a.j c.if-i-j.false) in
+    let w = chosen_steps a.self a.sources.now in
+    let m : a.i ≡ min a.i a.j = sym (min-eq_left c.if-j-i.false) in
+    record {
+      number_value = c.off_diagonal-2.ensures.number_value ∙ ap₂ (placed (goal.at.returns c).Start) e (sym (le-ltb a.j a.i c.if-j-i.false));
+      steps_value = (
+        c.off_diagonal-2.ensures.steps_value.0 ∙ ap (four_steps w) m ∙ ap (counted (goal.at.returns c).Start) e,
+        c.off_diagonal-2.ensures.steps_value.1,
+      );
+    }

@@ -4,7 +4,6 @@ use Prim.Native.Nat.{ℕ, ◌+◌, ◌-◌, ◌*◌, ◌≤◌}
 use native.Mathlib.Omega.{arith}
 use Rattle.words.specs.Operation.{bound_of}
 use Rattle.rule.proofs.StepBounds.{steps-bound, steps-small}
-use borrow.Author.Rules.{rules}
 use Rattle.rule.proofs.bounds.of_steps.Goals as goal
 use Rattle.rule.proofs.bounds.of_steps.Goals.{After-one_source-2}
 
@@ -16,7 +15,7 @@ returns-then-m-eq2 c = c.product.ensures ∙ ap (λ (m : ℕ). bound_of m c.args
 
 -- six steps of eight rows
 few : (c : After-one_source-2) → let a = c.args in a.m * (c.one_source-2.result - 3) ≤ 2880
-few c =         subst (λ (e : ℕ). c.args.m * (e - 3) ≤ 2880) (sym c.one_source-2.ensures) (steps-small c.args.m c.args.n c.requires.0 c.requires.2)
+few c = subst (λ (e : ℕ). c.args.m * (e - 3) ≤ 2880) (sym c.one_source-2.ensures) (steps-small c.args.m c.args.n c.requires.0 c.requires.2)
 
 pub overflow_mul-result : goal.overflow_mul-result
 overflow_mul-result c = omega (arith, few c)
@@ -25,5 +24,5 @@ pub overflow_add-result : goal.overflow_add-result
 overflow_add-result c = omega (arith, few c)
 
 pub returns : goal.returns
-returns c =     let a = c.args in
+returns c = let a = c.args in
     ap (λ (e : ℕ). a.m * (e - 3) + 3) c.one_source-2.ensures ∙ steps-bound a.m a.n

@@ -3,20 +3,20 @@
 use borrow.Author.Rules.{rules}
 use mathlib.Core.Path.{◌≡◌, sym, ap, ◌∙◌}
 use mathlib.Core.List.{List, ◌∷◌}
-use Prim.Native.Nat.{ℕ, ◌+◌, ◌-◌, ◌*◌, ◌≤◌}
+use Prim.Native.Nat.{ℕ, ◌+◌, ◌-◌, ◌≤◌}
 use native.Mathlib.Omega.{arith}
 use lib.ListN.{length, drop}
 use Rattle.number.specs.Number.{rounded}
 use Rattle.number.specs.declared.Number.{Number}
 use Rattle.words.specs.RowSet.{RowSet, of_mask}
-use Rattle.words.specs.Walk.{walk, one_at}
+use Rattle.words.specs.Walk.{one_at}
 use Rattle.words.specs.Operation.{Step, joined_word}
 use Rattle.words.specs.Sources.{Walkable}
 use Rattle.words.specs.Effort.{walk_steps}
 use Rattle.words.proofs.Steps.{sources-at}
 use Rattle.rowset.specs.Mask.{mask_count}
 use Rattle.walk.specs.Lent.{way_at, step_at, steps_of}
-use Rattle.walk.specs.Held.{state_of, Agree}
+use Rattle.walk.specs.Held.{state_of}
 use Rattle.walk.specs.Packed.{numbers_of}
 use Rattle.walk.proofs.Held.{working-agree}
 use Rattle.walk.proofs.Packed.{number_at, start-words}
@@ -50,7 +50,12 @@ next-step : (c : In-loop-c) → let i = c.loop-c.c - 1 in
 next-step c = let a = c.args in joined_step a.self a.factors.now (search rules) (c.loop-c.c - 1) (omega arith)
 
 pub returns-then-j-eq0 : goal.returns-then-j-eq0
-returns-then-j-eq0 c = let a = c.args in record { number_value = c.one.ensures ∙ sym (minor-none a.self.n a.i a.j _ (search rules) (search rules) (search rules) c.requires.i_bound.2 c.if-j-eq0.true); steps_value = (empty-counted a.self.n a.i a.j _ c.requires.i_bound.2 c.if-j-eq0.true, omega arith) }
+returns-then-j-eq0 c =
+    let a = c.args in
+    record {
+      number_value = c.one.ensures ∙ sym (minor-none a.self.n a.i a.j _ (search rules) (search rules) (search rules) c.requires.i_bound.2 c.if-j-eq0.true);
+      steps_value = (empty-counted a.self.n a.i a.j _ c.requires.i_bound.2 c.if-j-eq0.true, omega arith);
+    }
 
 pub count-k-requires : goal.count-k-requires
 count-k-requires c = below-256 c.args.self.n c.args.j (search rules) (search rules)
@@ -71,10 +76,11 @@ pub pack-requires : goal.pack-requires
 pack-requires c = rw c.one-2.ensures (omega arith)
 
 pub position_in-requires : goal.position_in-requires
-position_in-requires c =         (below-256 c.args.self.n c.args.j (search rules) (search rules), c.requires.tables.0.placed)
+position_in-requires c = (below-256 c.args.self.n c.args.j (search rules) (search rules), c.requires.tables.0.placed)
 
 pub loop-c-init : goal.loop-c-init
-loop-c-init c =                 let a = c.args in
+loop-c-init c =
+    let a = c.args in
     let v = start-words a.j c.position_in.result c.pack-zero.result c.pack.result _ _
     c.zero.ensures c.one-2.ensures c.pack-zero.ensures c.pack.ensures c.position_in.ensures.value in (
       search rules,
@@ -90,27 +96,58 @@ bounds-self-c c = omega arith
 
 pub walked-steps-requires : goal.walked-steps-requires
 unfolding way_at
-walked-steps-requires c = let a = c.args in let p = (c.requires.sources, c.requires.tables) in let i : ℕ = c.loop-c.c - 1 in let six : length (steps (goal.at.walked-steps-requires c).Start) ≤ 6 = omega (arith, joined_length a.self a.factors.now (search rules)) in let W = joined-working a.self.n c.count-k.result (steps (goal.at.walked-steps-requires c).Start) (columns (goal.at.walked-steps-requires c).Start) p.0 (search rules) (search rules) six c.loop-c.c in record { le_k = (some (goal.at.walked-steps-requires c).After-count-k, few (goal.at.walked-steps-requires c).After-count-k, search rules, omega arith); begin_value = (c.begin-begin.ensures, c.changes-many.ensures.value, c.changes-many.ensures.upper_bound); working = (working-agree c.loop-c.invariant.1 W, sources-at (Walkable a.self.n) (steps (goal.at.walked-steps-requires c).Start) _ i _ p.0 (next-step (goal.at.walked-steps-requires c).In-loop-c)); u_len = (c.loop-c.invariant.2, p.1.0, p.1.1.step i (omega arith)) }
+walked-steps-requires c =
+    let a = c.args in
+    let i : ℕ = c.loop-c.c - 1 in
+    let six : length (steps (goal.at.walked-steps-requires c).Start) ≤ 6 = omega (arith, joined_length a.self a.factors.now (search rules)) in
+    let W = joined-working a.self.n c.count-k.result (steps (goal.at.walked-steps-requires c).Start) (columns (goal.at.walked-steps-requires c).Start)
+    c.requires.sources (search rules) (search rules) six c.loop-c.c in
+    record {
+      le_k = (some (goal.at.walked-steps-requires c).After-count-k, few (goal.at.walked-steps-requires c).After-count-k, search rules, omega arith);
+      begin_value = (c.begin-begin.ensures, c.changes-many.ensures.value, c.changes-many.ensures.upper_bound);
+      working = (
+        working-agree c.loop-c.invariant.1 W,
+        sources-at (Walkable a.self.n) (steps (goal.at.walked-steps-requires c).Start) _ i _
+            c.requires.sources (next-step (goal.at.walked-steps-requires c).In-loop-c),
+      );
+      u_len = (c.loop-c.invariant.2, c.requires.tables.0, c.requires.tables.1.step i (omega arith));
+    }
 
 pub overflow_add-steps : goal.overflow_add-steps
 overflow_add-steps c = omega (arith, c.walked-steps.ensures.value.1, c.loop-c.invariant.4)
 
 pub loop-c-preserved : goal.loop-c-preserved
 unfolding way_at
-loop-c-preserved c =                 let e : c.loop-c.c - 1 + 1 ≡ c.loop-c.c = omega arith in (
+loop-c-preserved c =
+    let e : c.loop-c.c - 1 + 1 ≡ c.loop-c.c = omega arith in (
       omega arith,
-      joined-next (steps (goal.at.loop-c-preserved c).Start) _ (c.loop-c.c - 1) (one_at rounded (columns (goal.at.loop-c-preserved c).Start)) (state_of (numbers_of c.loop-c.v)) _ (search rules)
+      joined-next (steps (goal.at.loop-c-preserved c).Start) _ (c.loop-c.c - 1) (one_at rounded (columns (goal.at.loop-c-preserved c).Start))
+          (state_of (numbers_of c.loop-c.v)) _ (search rules)
           (next-step (goal.at.loop-c-preserved c).In-loop-c) (rw e c.loop-c.invariant.1) c.walked-steps.ensures.agree,
       c.walked-steps.ensures.u_len_2,
-      joined-counted c.args.self.n c.count-k.result (steps (goal.at.loop-c-preserved c).Start) _ (c.loop-c.c - 1) (next-step (goal.at.loop-c-preserved c).In-loop-c) _ _ (rw e c.loop-c.invariant.3)
+      joined-counted c.args.self.n c.count-k.result (steps (goal.at.loop-c-preserved c).Start) _ (c.loop-c.c - 1)
+          (next-step (goal.at.loop-c-preserved c).In-loop-c) _ _ (rw e c.loop-c.invariant.3)
           c.walked-steps.ensures.value.0,
       omega (arith, c.walked-steps.ensures.value.1, c.loop-c.invariant.4),
     )
 
 pub position_in-requires-2 : goal.position_in-requires-2
-position_in-requires-2 c =         (below-256 c.args.self.n c.args.i (search rules) (search rules), c.requires.tables.0.placed)
+position_in-requires-2 c = (below-256 c.args.self.n c.args.i (search rules) (search rules), c.requires.tables.0.placed)
 
 pub returns : goal.returns
-returns c = let a = c.args in let p = c.position_in-2 in let v = c.loop-c.v in let e : c.loop-c.c ≡ 0 = omega arith in let k : mask_count a.i ≡ c.count-k.result = c.requires.i_bound.2 ∙ sym c.count-k.ensures.value in record { number_value = c.unpack.ensures ∙ sym (number_at v p.result c.loop-c.invariant.2 p.ensures.1)
-          ∙ minor-held a.self.n c.count-k.result a.i (steps (goal.at.returns c).Start) (columns (goal.at.returns c).Start) (numbers_of v) p.result (search rules) (search rules)
-          k p.ensures.0 (rw e at c.loop-c.invariant.1); steps_value = (rw e at c.loop-c.invariant.3 ∙ ap (λ (m : ℕ). walk_steps a.self.n m (joined_word a.self.n (steps (goal.at.returns c).Start))) (sym k), omega (arith, c.loop-c.invariant.4)) }
+returns c =
+    let a = c.args in
+    let p = c.position_in-2 in
+    let v = c.loop-c.v in
+    let e : c.loop-c.c ≡ 0 = omega arith in
+    let k : mask_count a.i ≡ c.count-k.result = c.requires.i_bound.2 ∙ sym c.count-k.ensures.value in
+    record {
+      number_value = c.unpack.ensures ∙ sym (number_at v p.result c.loop-c.invariant.2 p.ensures.upper_bound)
+          ∙ minor-held a.self.n c.count-k.result a.i (steps (goal.at.returns c).Start) (columns (goal.at.returns c).Start) (numbers_of v) p.result
+          (search rules) (search rules)
+          k p.ensures.value (rw e at c.loop-c.invariant.1);
+      steps_value = (
+        rw e at c.loop-c.invariant.3 ∙ ap (λ (m : ℕ). walk_steps a.self.n m (joined_word a.self.n (steps (goal.at.returns c).Start))) (sym k),
+        omega (arith, c.loop-c.invariant.4),
+      );
+    }

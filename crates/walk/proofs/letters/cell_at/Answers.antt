@@ -15,13 +15,15 @@ unfolding staged
 is-stage c = c.wide-i.ensures.value
 
 stage : (c : After-wide-i) → Stage c.args.n c.args.t c.wide-i.result
-stage c =             subst (Stage c.args.n c.args.t) (sym (is-stage c)) (stage_at c.args.n c.args.t (search rules) (search rules) (search rules) (omega (arith, middle-few c.args.n (search rules))))
+stage c = subst (Stage c.args.n c.args.t) (sym (is-stage c))
+    (stage_at c.args.n c.args.t (search rules) (search rules) (search rules) (omega (arith, middle-few c.args.n (search rules))))
 
 pub overflow_sub-c : goal.overflow_sub-c
 overflow_sub-c c = let s = stage c in omega arith
 
 pub overflow_mul-c : goal.overflow_mul-c
-overflow_mul-c c =     let s = stage c in
+overflow_mul-c c =
+    let s = stage c in
     let h : c.wide-i.result - 1 ≤ 6 = omega arith in
     omega (arith, mul-le-mul s.high h)
 
@@ -38,10 +40,13 @@ pub overflow_add-result-3 : goal.overflow_add-result-3
 overflow_add-result-3 c = let s = stage c in omega arith
 
 pub returns : goal.returns
-returns c =             let s = stage c in
+returns c =
+    let s = stage c in
     record {
-      below = lower-at c.args.n c.args.t (search rules) (search rules) (search rules) ∙ ap (λ (i : ℕ). lower_move (row_of c.args.n c.args.t i) (column_of c.args.t i)) (sym (is-stage c));
-      above = upper-at c.args.n c.args.t (search rules) (search rules) (search rules) ∙ ap (λ (i : ℕ). upper_move (row_of c.args.n c.args.t i) (column_of c.args.t i)) (sym (is-stage c));
+      below = lower-at c.args.n c.args.t (search rules) (search rules) (search rules) ∙ ap
+          (λ (i : ℕ). lower_move (row_of c.args.n c.args.t i) (column_of c.args.t i)) (sym (is-stage c));
+      above = upper-at c.args.n c.args.t (search rules) (search rules) (search rules) ∙ ap
+          (λ (i : ℕ). upper_move (row_of c.args.n c.args.t i) (column_of c.args.t i)) (sym (is-stage c));
       row_low = omega arith;
       row-high = omega arith;
       column-low = omega arith;

@@ -1,10 +1,6 @@
-use borrow.Author.Rules.{rules}
-use mathlib.Core.Path.{◌≡◌, refl}
+-- The invariant of `source::put_factors`: the first t factors are put.
 use Prim.Native.Nat.{◌-◌, ◌≤◌}
-use native.Mathlib.Omega.{arith}
-use lib.ListN.{length}
-use Rattle.arrays.proofs.Structs.{length-mapped}
-use Rattle.walk.proofs.Lent.{Putting, put-none, put_next, put_all}
+use Rattle.walk.proofs.Lent.{Putting}
 use Rattle.walk.proofs.source.put_factors.Given as goal
 
 abbrev pub invariant-loop-t : goal.invariant-loop-t

@@ -1,11 +1,6 @@
-use borrow.Author.Rules.{rules}
-use mathlib.Core.Path.{◌≡◌, refl, ap, ◌∙◌}
-use Prim.Native.Nat.{◌+◌, ◌-◌, ◌*◌, ◌≤◌, ◌<◌}
-use native.Mathlib.Omega.{arith}
-use Rattle.walk.specs.Letters.{middle}
-use Rattle.walk.specs.Lent.{code_of}
-use Rattle.walk.proofs.Lent.{SpelledTo, spelled_none, spelled-passed, spelled-next, within-few}
-use Rattle.walk.proofs.Spelling.{middle-few}
+-- The invariant of `source::spell`: the letters below t are spelled.
+use Prim.Native.Nat.{◌-◌, ◌≤◌}
+use Rattle.walk.proofs.Lent.{SpelledTo}
 use Rattle.walk.proofs.source.spell.Given as goal
 
 abbrev pub invariant-loop-t : goal.invariant-loop-t
