@@ -26,9 +26,15 @@ pub table_at-requires : goal.table_at-requires
 table_at-requires c = let small = (source (goal.at.table_at-requires c).In_default).small in omega arith
 
 pub carry-requires : goal.carry-requires
-carry-requires c =         let o = source (goal.at.carry-requires c).In_default in
+carry-requires c = let o = source (goal.at.carry-requires c).In_default in
     let fits = c.requires.held _ o.small in
     rw (c.rows_at-n.ensures, c.table_at.ensures) (o.some, fits.few, banded-ranged _ _ fits.banded)
 
 pub returns : goal.returns
-returns c = let a = c.args in let rows = c.rows_at-n.ensures in let table = c.table_at.ensures in let e = (c.carry.ensures.value, (c.carry.ensures.out_after, c.carry.ensures.steady)) in let d = carry-done a.shelf a.place a.items.now a.out.now (accepted (goal.at.returns c).In_default) _ _ rows table _ _ e.0 e.1.0 in record { result_value = d.0; out_after = d.1; steady = e.1.1 }
+returns c =
+    let a = c.args in
+    let e = c.carry.ensures in
+    let d =
+    carry-done a.shelf a.place a.items.now a.out.now (accepted (goal.at.returns c).In_default) _ _ c.rows_at-n.ensures c.table_at.ensures _ _ e.value e.out_after
+    in
+    record { result_value = d.0; out_after = d.1; steady = e.steady }

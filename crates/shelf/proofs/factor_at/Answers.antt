@@ -36,20 +36,20 @@ returns-then-j-lt1 c = simp (le-leb 1 _ c.if-i-lt1.false, lt-leb 1 _ c.if-j-lt1.
 
 pub returns-then-n-i : goal.returns-then-n-i
 unfolding factor_call
-returns-then-n-i c =     simp (
-      le-leb 1 _ c.if-i-lt1.false,
-      le-leb 1 _ c.if-j-lt1.false,
-      lt-leb _ _ (rw c.rows_at-n.ensures at c.if-n-i.true),
-    )
+returns-then-n-i c = simp (
+  le-leb 1 _ c.if-i-lt1.false,
+  le-leb 1 _ c.if-j-lt1.false,
+  lt-leb _ _ (rw c.rows_at-n.ensures at c.if-n-i.true),
+)
 
 pub returns-then-n-j : goal.returns-then-n-j
 unfolding factor_call
-returns-then-n-j c =     simp (
-      le-leb 1 _ c.if-i-lt1.false,
-      le-leb 1 _ c.if-j-lt1.false,
-      le-leb _ _ (rw c.rows_at-n.ensures at c.if-n-i.false),
-      lt-leb _ _ (rw c.rows_at-n.ensures at c.if-n-j.true),
-    )
+returns-then-n-j c = simp (
+  le-leb 1 _ c.if-i-lt1.false,
+  le-leb 1 _ c.if-j-lt1.false,
+  le-leb _ _ (rw c.rows_at-n.ensures at c.if-n-i.false),
+  lt-leb _ _ (rw c.rows_at-n.ensures at c.if-n-j.true),
+)
 
 pub table_at-t-requires : goal.table_at-t-requires
 table_at-t-requires c = small c
@@ -67,9 +67,9 @@ pub bounds-t-i : goal.bounds-t-i
 bounds-t-i c = below (goal.at.bounds-t-i c).Else-n-j
 
 pub exponent-requires : goal.exponent-requires
-exponent-requires c =         factor-exponent _ c.requires _ _ _ (row (goal.at.exponent-requires c).Else-n-j) (column (goal.at.exponent-requires c).Else-n-j) _ c.table_at-t.ensures
+exponent-requires c = factor-exponent _ c.requires _ _ _ (row (goal.at.exponent-requires c).Else-n-j) (column (goal.at.exponent-requires c).Else-n-j) _ c.table_at-t.ensures
 
 pub returns : goal.returns
-returns c =         let e : SFits w64 c.exponent.result = record { sfits = c.exponent.type_inv } in
+returns c = let e : SFits w64 c.exponent.result = record { sfits = c.exponent.type_inv } in
     factor-done _ c.requires _ _ _ (row (goal.at.returns c).Else-n-j) (column (goal.at.returns c).Else-n-j) _ _ (factor-is _ c.requires _ _ _ (row (goal.at.returns c).Else-n-j) (column (goal.at.returns c).Else-n-j) _ c.table_at-t.ensures)
     (to_z-of_z e ∙ c.exponent.ensures)

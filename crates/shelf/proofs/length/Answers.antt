@@ -22,7 +22,7 @@ accepted_at_After_rows_at_n : (c : After-rows_at-n)
 accepted_at_After_rows_at_n c = sym c.source-first.ensures ∙ c.in_default.is
 
 few : (c : After-rows_at-n) → c.rows_at-n.result ≤ 8
-few c =         rw c.rows_at-n.ensures (c.requires.held _ (source-accepted _ _ (accepted_at_After_rows_at_n c)).small).few
+few c = rw c.rows_at-n.ensures (c.requires.held _ (source-accepted _ _ (accepted_at_After_rows_at_n c)).small).few
 
 -- what is answered tells what a write will do
 told : (s : Shelf) (p : ℕ) (f : Report) → f ≡ length_call s p → (f ≡ length_call s p) × Measuring s p f
@@ -38,8 +38,11 @@ pub packed-factors-requires : goal.packed-factors-requires
 packed-factors-requires c = few (goal.at.packed-factors-requires c).After-rows_at-n
 
 pub returns : goal.returns
-returns c = let a = c.args in record { result_value = (told a.shelf a.place _
-    (length-done a.shelf a.place (accepted (goal.at.returns c).In_default) _
-    (bytes_packed _ _ _ _ _ (few (goal.at.returns c).After-rows_at-n) c.rows_at-n.ensures c.table_at.ensures c.packed-factors.ensures) _ c.matrix_length.ensures)).0; measuring = (told a.shelf a.place _
-    (length-done a.shelf a.place (accepted (goal.at.returns c).In_default) _
-    (bytes_packed _ _ _ _ _ (few (goal.at.returns c).After-rows_at-n) c.rows_at-n.ensures c.table_at.ensures c.packed-factors.ensures) _ c.matrix_length.ensures)).1 }
+returns c = let a = c.args in record {
+  result_value = (told a.shelf a.place _
+      (length-done a.shelf a.place (accepted (goal.at.returns c).In_default) _
+      (bytes_packed _ _ _ _ _ (few (goal.at.returns c).After-rows_at-n) c.rows_at-n.ensures c.table_at.ensures c.packed-factors.ensures) _ c.matrix_length.ensures)).0;
+  measuring = (told a.shelf a.place _
+      (length-done a.shelf a.place (accepted (goal.at.returns c).In_default) _
+      (bytes_packed _ _ _ _ _ (few (goal.at.returns c).After-rows_at-n) c.rows_at-n.ensures c.table_at.ensures c.packed-factors.ensures) _ c.matrix_length.ensures)).1;
+}

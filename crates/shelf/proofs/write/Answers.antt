@@ -26,10 +26,10 @@ accepted_at_After_rows_at_n : (c : After-rows_at-n)
 accepted_at_After_rows_at_n c = sym c.source-first.ensures ∙ c.in_default.is
 
 few : (c : After-rows_at-n) → c.rows_at-n.result ≤ 8
-few c =         rw c.rows_at-n.ensures (c.requires.held _ (source-accepted _ _ (accepted_at_After_rows_at_n c)).small).few
+few c = rw c.rows_at-n.ensures (c.requires.held _ (source-accepted _ _ (accepted_at_After_rows_at_n c)).small).few
 
 few_at_After_write_matrix : (c : After-write_matrix) → c.rows_at-n.result ≤ 8
-few_at_After_write_matrix c =         rw c.rows_at-n.ensures (c.requires.held _ (source-accepted _ _ (accepted_at_After_write_matrix c)).small).few
+few_at_After_write_matrix c = rw c.rows_at-n.ensures (c.requires.held _ (source-accepted _ _ (accepted_at_After_write_matrix c)).small).few
 
 -- what is written are the place's bytes
 same : (c : After-write_matrix)
@@ -37,7 +37,7 @@ same : (c : After-write_matrix)
     (take (c.rows_at-n.result * c.rows_at-n.result) c.packed-factors.result)
     ≡ bytes_at c.args.shelf
     c.args.place
-same c =         bytes_packed _ _ _ _ _ (few_at_After_write_matrix c) c.rows_at-n.ensures c.table_at.ensures c.packed-factors.ensures
+same c = bytes_packed _ _ _ _ _ (few_at_After_write_matrix c) c.rows_at-n.ensures c.table_at.ensures c.packed-factors.ensures
 
 pub returns-in-Refused : goal.returns-in-Refused
 returns-in-Refused c = let a = c.args in record { result_value = (write-turned a.shelf a.place a.out.now _ (sym c.source-first.ensures ∙ c.in-Refused.is)).0; out_after = (write-turned a.shelf a.place a.out.now _ (sym c.source-first.ensures ∙ c.in-Refused.is)).1 }
@@ -49,6 +49,9 @@ pub packed-factors-requires : goal.packed-factors-requires
 packed-factors-requires c = few (goal.at.packed-factors-requires c).After-rows_at-n
 
 pub returns : goal.returns
-returns c = let a = c.args in record { result_value = (write_done a.shelf a.place a.out.now (accepted (goal.at.returns c).In_default) _ _ (same (goal.at.returns c).After-write_matrix) c.write_matrix.result c.write_matrix.ensures.result_value
-    c.write_matrix.ensures.out_after).0; out_after = (write_done a.shelf a.place a.out.now (accepted (goal.at.returns c).In_default) _ _ (same (goal.at.returns c).After-write_matrix) c.write_matrix.result c.write_matrix.ensures.result_value
-    c.write_matrix.ensures.out_after).1 }
+returns c = let a = c.args in record {
+  result_value = (write_done a.shelf a.place a.out.now (accepted (goal.at.returns c).In_default) _ _ (same (goal.at.returns c).After-write_matrix) c.write_matrix.result c.write_matrix.ensures.result_value
+      c.write_matrix.ensures.out_after).0;
+  out_after = (write_done a.shelf a.place a.out.now (accepted (goal.at.returns c).In_default) _ _ (same (goal.at.returns c).After-write_matrix) c.write_matrix.result c.write_matrix.ensures.result_value
+      c.write_matrix.ensures.out_after).1;
+}

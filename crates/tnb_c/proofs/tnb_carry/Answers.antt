@@ -17,19 +17,25 @@ carry-requires c = c.is_good.ensures.good c.if-is_good.true
 
 pub returns-then-is_good : goal.returns-then-is_good
 unfolding run
-returns-then-is_good c = record { value = (with-steady _ _ _ _ _ _ (carry-answered _ _ _ _ (c.is_good.ensures.good c.if-is_good.true))
-    (answered _ (carry _ _ _) answer c.is_good.ensures.value c.if-is_good.true (c.carried.ensures ∙ ap status_of c.carry.ensures.result_value))
-    (answered _ (carry _ _ _) (λ (x : Outcome). x.items) c.is_good.ensures.value c.if-is_good.true c.carry.ensures.out_after)).0; out_after = (with-steady _ _ _ _ _ _ (carry-answered _ _ _ _ (c.is_good.ensures.good c.if-is_good.true))
-    (answered _ (carry _ _ _) answer c.is_good.ensures.value c.if-is_good.true (c.carried.ensures ∙ ap status_of c.carry.ensures.result_value))
-    (answered _ (carry _ _ _) (λ (x : Outcome). x.items) c.is_good.ensures.value c.if-is_good.true c.carry.ensures.out_after)).1.0; steady_status = (with-steady _ _ _ _ _ _ (carry-answered _ _ _ _ (c.is_good.ensures.good c.if-is_good.true))
-    (answered _ (carry _ _ _) answer c.is_good.ensures.value c.if-is_good.true (c.carried.ensures ∙ ap status_of c.carry.ensures.result_value))
-    (answered _ (carry _ _ _) (λ (x : Outcome). x.items) c.is_good.ensures.value c.if-is_good.true c.carry.ensures.out_after)).1.1 }
+returns-then-is_good c =
+    let a = c.args in
+    let tested = c.is_good.ensures.value in
+    let good = c.if-is_good.true in
+    let e =
+    with-steady a.shelf a.place a.items.now a.out.now _ _ (carry-answered a.shelf a.place a.items.now a.out.now (c.is_good.ensures.good good))
+    (answered _ (carry a.place a.items.now a.out.now) answer tested good (c.carried.ensures ∙ ap status_of c.carry.ensures.result_value))
+    (answered _ (carry a.place a.items.now a.out.now) (λ (x : Outcome). x.items) tested good c.carry.ensures.out_after)
+    in
+    record { value = e.0; out_after = e.1.0; steady_status = e.1.1 }
 
 pub returns : goal.returns
-returns c = record { value = (with-steady _ _ _ _ _ _ (carry-away _ _ _ _ (sym c.is_good.ensures.value ∙ c.if-is_good.false))
-    (turned-away _ (carry _ _ _) answer c.is_good.ensures.value c.if-is_good.false refl)
-    (turned-away _ (carry _ _ _) (λ (x : Outcome). x.items) c.is_good.ensures.value c.if-is_good.false refl)).0; out_after = (with-steady _ _ _ _ _ _ (carry-away _ _ _ _ (sym c.is_good.ensures.value ∙ c.if-is_good.false))
-    (turned-away _ (carry _ _ _) answer c.is_good.ensures.value c.if-is_good.false refl)
-    (turned-away _ (carry _ _ _) (λ (x : Outcome). x.items) c.is_good.ensures.value c.if-is_good.false refl)).1.0; steady_status = (with-steady _ _ _ _ _ _ (carry-away _ _ _ _ (sym c.is_good.ensures.value ∙ c.if-is_good.false))
-    (turned-away _ (carry _ _ _) answer c.is_good.ensures.value c.if-is_good.false refl)
-    (turned-away _ (carry _ _ _) (λ (x : Outcome). x.items) c.is_good.ensures.value c.if-is_good.false refl)).1.1 }
+returns c =
+    let a = c.args in
+    let tested = c.is_good.ensures.value in
+    let away = c.if-is_good.false in
+    let e =
+    with-steady a.shelf a.place a.items.now a.out.now _ _ (carry-away a.shelf a.place a.items.now a.out.now (sym tested ∙ away))
+    (turned-away _ (carry a.place a.items.now a.out.now) answer tested away refl)
+    (turned-away _ (carry a.place a.items.now a.out.now) (λ (x : Outcome). x.items) tested away refl)
+    in
+    record { value = e.0; out_after = e.1.0; steady_status = e.1.1 }

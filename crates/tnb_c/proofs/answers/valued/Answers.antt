@@ -12,7 +12,7 @@ use borrow.Author.Rules.{rules}
 use Rattle.tnb_c.proofs.answers.valued.Goals as goal
 
 pub returns-in-Value : goal.returns-in-Value
-returns-in-Value c =         let e : SFits w64 c.in-Value.exponent = search rules in
+returns-in-Value c = let e : SFits w64 c.in-Value.exponent = search rules in
     let with_exponent : ℤ → Value = λ (z : ℤ). record { number = 0; offset = 0; mantissa = c.in-Value.mantissa; exponent = z } in
     ap with_exponent (to_z-of_z e) ∙ sym (ap (λ (v' : Valued). value_of (valued_report v')) c.in-Value.is)
 

@@ -6,7 +6,7 @@ use borrow.Author.Rules.{rules}
 use Rattle.tnb_c.proofs.answers.worked.Goals as goal
 
 pub returns-in-Result : goal.returns-in-Result
-returns-in-Result c =         let e : SFits w64 c.in-Result.exponent = search rules in
+returns-in-Result c = let e : SFits w64 c.in-Result.exponent = search rules in
     let t : SFits w64 c.in-Result.rest = search rules in
     let x : SFits w64 c.in-Result.rest_exponent = search rules in
     simp (to_z-of_z e, to_z-of_z t, to_z-of_z x, c.in-Result.is)
