@@ -1,5 +1,4 @@
 -- `answers::put_bounded` meets its contract.
-use borrow.Author.Rules.{rules}
 use Rattle.answers.proofs.put_bounded.Goals as goal
 
 pub returns-in-Bound : goal.returns-in-Bound

@@ -1,7 +1,6 @@
 -- `answers::put_count` meets its contract.
 use Rattle.lines.proofs.Text.{puts-behind}
 use Rattle.answers.proofs.Reports.{count-text}
-use borrow.Author.Rules.{rules}
 use Rattle.answers.proofs.put_count.Goals as goal
 
 pub returns : goal.returns

@@ -1,5 +1,4 @@
 -- `answers::put_foretold` meets its contract.
-use borrow.Author.Rules.{rules}
 use Rattle.answers.proofs.put_foretold.Goals as goal
 
 pub returns-in-Steps : goal.returns-in-Steps

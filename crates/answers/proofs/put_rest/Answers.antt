@@ -2,7 +2,6 @@
 use mathlib.Core.List.{flat_map}
 use Rattle.lines.specs.Ascii.{ascii}
 use Rattle.lines.proofs.Text.{puts-behind}
-use borrow.Author.Rules.{rules}
 use Rattle.answers.proofs.put_rest.Goals as goal
 
 pub returns : goal.returns

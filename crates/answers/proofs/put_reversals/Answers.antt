@@ -1,5 +1,4 @@
 -- `answers::put_reversals` meets its contract.
-use borrow.Author.Rules.{rules}
 use Rattle.answers.proofs.put_reversals.Goals as goal
 
 pub returns-in-Count : goal.returns-in-Count

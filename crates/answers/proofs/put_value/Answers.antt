@@ -1,7 +1,6 @@
 -- `answers::put_value` meets its contract: a space, and the number behind it.
 use Rattle.lines.specs.Ascii.{ascii}
 use Rattle.lines.proofs.Text.{puts-behind}
-use borrow.Author.Rules.{rules}
 use Rattle.answers.proofs.put_value.Goals as goal
 
 pub returns : goal.returns

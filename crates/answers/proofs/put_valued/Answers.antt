@@ -8,8 +8,8 @@ use borrow.Author.Rules.{rules}
 use Rattle.answers.proofs.put_valued.Goals as goal
 
 pub returns-in-Value : goal.returns-in-Value
-returns-in-Value c =             let fits : SFits w64 c.in-Value.exponent = record { sfits = c.known_told-1.given.1.0.1 } in
-        rw c.in-Value.is (puts-behind {a = ascii "number"} c.put-space.ensures (rw (to_z-of_z fits) at c.put_number.ensures))
+returns-in-Value c = let fits : SFits w64 c.in-Value.exponent = search rules in
+    rw c.in-Value.is (puts-behind {a = ascii "number"} c.put-space.ensures (rw (to_z-of_z fits) at c.put_number.ensures))
 
 pub returns-in-Refused : goal.returns-in-Refused
 returns-in-Refused c = rw c.in-Refused.is c.put_refusal.ensures

@@ -1,6 +1,5 @@
 -- `answers::put_verdict` meets its contract.
 use Rattle.answers.proofs.Reports.{word-text}
-use borrow.Author.Rules.{rules}
 use Rattle.answers.proofs.put_verdict.Goals as goal
 
 pub returns-in-Accepted : goal.returns-in-Accepted

@@ -10,9 +10,9 @@ use borrow.Author.Rules.{rules}
 use Rattle.answers.proofs.put_worked.Goals as goal
 
 pub returns-in-Result : goal.returns-in-Result
-returns-in-Result c =                                     let e : SFits w64 c.in-Result.exponent = record { sfits = c.known_told-1.given.1.0.1 } in
-    let t : SFits w64 c.in-Result.rest = record { sfits = c.known_told-1.given.1.1.0.1 } in
-    let x : SFits w64 c.in-Result.rest_exponent = record { sfits = c.known_told-1.given.1.1.1.0.1 } in
+returns-in-Result c = let e : SFits w64 c.in-Result.exponent = search rules in
+    let t : SFits w64 c.in-Result.rest = search rules in
+    let x : SFits w64 c.in-Result.rest_exponent = search rules in
     let result = puts-behind {a = ascii "number"} c.put-space.ensures (rw (to_z-of_z e) at c.put_number-behind.ensures) in
     let values = puts-behind (rw (to_z-of_z t) at c.put_signed_value-second.ensures) (rw (to_z-of_z x) at c.put_signed_value.ensures) in
     rw c.in-Result.is (puts-behind result (puts-behind {a = ascii " rest"} c.put-first.ensures (rw (pair-text _ _) values)))

@@ -1,5 +1,4 @@
 -- `answers::put_written` meets its contract.
-use borrow.Author.Rules.{rules}
 use Rattle.answers.proofs.put_written.Goals as goal
 
 pub returns-in-Length : goal.returns-in-Length

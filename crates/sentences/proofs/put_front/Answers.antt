@@ -2,10 +2,9 @@
 use Rattle.lines.specs.Ascii.{ascii}
 use Rattle.lines.proofs.Text.{puts-behind}
 use Rattle.notices.specs.Sentence.{refusal_text}
-use borrow.Author.Rules.{rules}
 use Rattle.sentences.proofs.put_front.Goals as goal
 
 pub returns : goal.returns
 unfolding refusal_text
-returns c =                     puts-behind {a = ascii "refused "} c.put-first.ensures
+returns c = puts-behind {a = ascii "refused "} c.put-first.ensures
     (puts-behind c.put_whole-middle.ensures (puts-behind {a = ascii " at "} c.put-second.ensures c.put_whole.ensures))

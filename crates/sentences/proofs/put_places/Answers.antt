@@ -1,12 +1,7 @@
 -- `sentences::put_places` meets its contract. The loop's invariant: the places before index i are put, each behind a space.
-use Prim.Native.Nat.{◌-◌}
-use mathlib.Core.List.{◌++◌}
 use native.Mathlib.Omega.{arith}
-use lib.ListN.{length}
 use Rattle.lines.specs.Ascii.{ascii}
-use Rattle.lines.specs.Text.{decimal}
-use Rattle.lines.proofs.Text.{Spelt, puts-behind, spelt-none, spelt-more, spelt-end}
-use borrow.Author.Rules.{rules}
+use Rattle.lines.proofs.Text.{puts-behind, spelt-none, spelt-more, spelt-end}
 use Rattle.sentences.proofs.put_places.Goals as goal
 
 pub loop-i-init : goal.loop-i-init
@@ -16,7 +11,7 @@ pub loop-i-smaller : goal.loop-i-smaller
 loop-i-smaller c = omega arith
 
 pub loop-i-preserved : goal.loop-i-preserved
-loop-i-preserved c =             let place = puts-behind {a = ascii " "} c.put-next.ensures c.put_whole-to.ensures in
+loop-i-preserved c = let place = puts-behind {a = ascii " "} c.put-next.ensures c.put_whole-to.ensures in
     spelt-more _ c.loop-i.invariant 0 (omega arith) place
 
 pub shape_of-out : goal.shape_of-out

@@ -2,10 +2,9 @@
 use Rattle.lines.specs.Ascii.{ascii}
 use Rattle.lines.proofs.Text.{puts-behind}
 use Rattle.notices.specs.Sentence.{sentence_of}
-use borrow.Author.Rules.{rules}
 use Rattle.sentences.proofs.put_sentence.Goals as goal
 
 pub returns : goal.returns
 unfolding sentence_of
-returns c =                     puts-behind c.put_front-space.ensures
+returns c = puts-behind c.put_front-space.ensures
     (puts-behind {a = ascii " "} c.put-reason.ensures (puts-behind c.put-end.ensures c.put_places.ensures))

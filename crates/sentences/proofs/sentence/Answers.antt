@@ -6,7 +6,6 @@ use Rattle.verdict.proofs.Verdicts.{when-passed}
 use Rattle.notices.specs.Sentence.{Notice, notice, is_unsayable}
 use Rattle.notices.specs.Promise.{Bits64}
 use Rattle.notices.proofs.Saying.{sayable, sayable-done, unsayable-done, worded}
-use borrow.Author.Rules.{rules}
 use Rattle.sentences.proofs.sentence.Goals as goal
 use Rattle.sentences.proofs.sentence.Goals.{After-test-verdict, In-Accepted}
 

@@ -7,7 +7,6 @@ use Rattle.verdict.specs.Report.{accepted}
 use Rattle.writer.specs.Encoding.{room_test}
 use Rattle.writer.proofs.Writing.{writing-room, writing-done, writing-refused}
 use Rattle.lines.proofs.Text.{puts_whole}
-use borrow.Author.Rules.{rules}
 use Rattle.sentences.proofs.write.Goals as goal
 use Rattle.sentences.proofs.write.Goals.{After-test-verdict}
 

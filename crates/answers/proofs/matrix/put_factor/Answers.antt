@@ -6,5 +6,5 @@ use borrow.Author.Rules.{rules}
 use Rattle.answers.proofs.matrix.put_factor.Goals as goal
 
 pub returns : goal.returns
-returns c =         let fits : SFits w64 c.args.factor.exponent = record { sfits = c.struct_told-1.given.1.0.1 } in
+returns c = let fits : SFits w64 c.args.factor.exponent = search rules in
     rw (to_z-of_z fits) at c.put_number.ensures

@@ -1,9 +1,7 @@
 -- `answers::put_factors` meets its contract. The loop's invariant: i of the n rows are put.
-use Prim.Native.Nat.{◌-◌}
 use native.Mathlib.Omega.{arith}
-use Rattle.answers.specs.Matrix.{row_text, factors_text}
-use Rattle.answers.proofs.Turns.{Turns, turns-none, turns_more, turns-end}
-use borrow.Author.Rules.{rules}
+use Rattle.answers.specs.Matrix.{factors_text}
+use Rattle.answers.proofs.Turns.{turns-none, turns_more, turns-end}
 use Rattle.answers.proofs.matrix.put_factors.Goals as goal
 
 pub loop-i-init : goal.loop-i-init

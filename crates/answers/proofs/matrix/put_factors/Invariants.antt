@@ -1,8 +1,7 @@
+-- The invariant and the measure in `answers::matrix::put_factors`: i of the n rows are put.
 use Prim.Native.Nat.{◌-◌}
-use native.Mathlib.Omega.{arith}
-use Rattle.answers.specs.Matrix.{row_text, factors_text}
-use Rattle.answers.proofs.Turns.{Turns, turns-none, turns_more, turns-end}
-use borrow.Author.Rules.{rules}
+use Rattle.answers.specs.Matrix.{row_text}
+use Rattle.answers.proofs.Turns.{Turns}
 use Rattle.answers.proofs.matrix.put_factors.Given as goal
 
 abbrev pub invariant-loop-i : goal.invariant-loop-i

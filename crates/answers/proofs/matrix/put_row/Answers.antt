@@ -1,18 +1,16 @@
 -- `answers::put_row` meets its contract. The loop's invariant: j of the n factors are put.
-use Prim.Native.Nat.{◌-◌}
 use mathlib.Core.List.{[]}
 use native.Mathlib.Omega.{arith}
-use Rattle.answers.specs.Matrix.{factor_text, row_text}
+use Rattle.answers.specs.Matrix.{row_text}
 use Rattle.answers.proofs.Reports.{puts-report}
-use Rattle.answers.proofs.Turns.{Turns, turns-none, turns_more, turns-end}
-use borrow.Author.Rules.{rules}
+use Rattle.answers.proofs.Turns.{turns-none, turns_more, turns-end}
 use Rattle.answers.proofs.matrix.put_row.Goals as goal
 
 pub loop-j-init : goal.loop-j-init
 loop-j-init c = turns-none _ _ _ _
 
 pub loop-j-preserved : goal.loop-j-preserved
-loop-j-preserved c =     let factor = puts-report [] c.factor_at.ensures c.put_factor-to.ensures in
+loop-j-preserved c = let factor = puts-report [] c.factor_at.ensures c.put_factor-to.ensures in
     turns_more c.loop-j.invariant (omega arith) factor
 
 pub shape_of-out : goal.shape_of-out

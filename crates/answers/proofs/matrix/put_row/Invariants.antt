@@ -1,10 +1,7 @@
+-- The invariant and the measure in `answers::matrix::put_row`: j of the n factors are put.
 use Prim.Native.Nat.{◌-◌}
-use mathlib.Core.List.{[]}
-use native.Mathlib.Omega.{arith}
-use Rattle.answers.specs.Matrix.{factor_text, row_text}
-use Rattle.answers.proofs.Reports.{puts-report}
-use Rattle.answers.proofs.Turns.{Turns, turns-none, turns_more, turns-end}
-use borrow.Author.Rules.{rules}
+use Rattle.answers.specs.Matrix.{factor_text}
+use Rattle.answers.proofs.Turns.{Turns}
 use Rattle.answers.proofs.matrix.put_row.Given as goal
 
 abbrev pub invariant-loop-j : goal.invariant-loop-j

@@ -7,7 +7,6 @@ use mathlib.Core.List.{List, [], flatten}
 use lib.ListN.{length, get_or, take, drop}
 use Rattle.notices.specs.Reasons.{HasReason, reasons, reason_of}
 use Rattle.notices.proofs.Ends.{ends_from, ends-rise, ends-within, part_at}
-use borrow.Author.Rules.{rules}
 use Rattle.sentences.proofs.reasons.put.Goals as goal
 
 abbrev ends : List ℕ
@@ -38,12 +37,12 @@ cut k h =
 
 pub overflow_cast-from : goal.overflow_cast-from
 unfolding reasons ends_from flatten
-overflow_cast-from c =     let b = cut c.args.number c.requires in
+overflow_cast-from c = let b = cut c.args.number c.requires in
     record { fits = omega (arith, b.start, b.stop) }
 
 pub overflow_cast-to : goal.overflow_cast-to
 unfolding reasons ends_from flatten
-overflow_cast-to c =     let b = cut c.args.number c.requires in
+overflow_cast-to c = let b = cut c.args.number c.requires in
     record { fits = omega (arith, b.stop) }
 
 pub slice_bounds-put-count : goal.slice_bounds-put-count
@@ -60,4 +59,4 @@ slice_bounds-put-end c = (cut c.args.number c.requires).stop
 
 pub returns : goal.returns
 unfolding reasons ends_from flatten
-returns c =         rw (cut c.args.number c.requires).part at c.put.ensures
+returns c = rw (cut c.args.number c.requires).part at c.put.ensures
