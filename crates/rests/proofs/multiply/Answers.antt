@@ -12,7 +12,7 @@ use Rattle.rests.proofs.Products.{product-start, product-stop, result_fits}
 use Rattle.rests.proofs.multiply.Goals as goal
 
 pub overflow_mul-a : goal.overflow_mul-a
-overflow_mul-a c =         omega (arith, product-fits _ _ c.requires.first.high c.requires.second.high)
+overflow_mul-a c = omega (arith, product-fits _ _ c.requires.first.high c.requires.second.high)
 
 pub overflow_sub-number : goal.overflow_sub-number
 overflow_sub-number c = rw c.mul-number.ensures.value (omega (arith, product-start _ _ c.requires))
@@ -21,11 +21,11 @@ pub power-requires : goal.power-requires
 power-requires c = rw c.mul-number.ensures.value (omega (arith, product-stop _ _ c.requires))
 
 pub overflow_mul-number : goal.overflow_mul-number
-overflow_mul-number c =         rw (c.power.ensures, c.mul-number.ensures.value) (omega (arith, result_fits _ _ c.requires))
+overflow_mul-number c = rw (c.power.ensures, c.mul-number.ensures.value) (omega (arith, result_fits _ _ c.requires))
 
 pub returns : goal.returns
 unfolding product_rest
-returns c =                     let x = c.args.a.x + c.args.b.x - bias in
+returns c = let x = c.args.a.x + c.args.b.x - bias in
     ap₂ (λ (n : Number) (t' : Rest). record { number = n; rest = t' }) c.mul-number.ensures.value
     (c.difference.ensures
     ∙ ap (λ (u : ℕ). rest_of (c.args.a.m * c.args.b.m) (c.mul-number.result.m * u) x) c.power.ensures

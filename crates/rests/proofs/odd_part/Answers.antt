@@ -27,6 +27,6 @@ pub overflow_add-result : goal.overflow_add-result
 overflow_add-result c = omega (arith, few c)
 
 pub returns : goal.returns
-returns c =     let a = c.args in
+returns c = let a = c.args in
     ap (λ (t : ℕ). record { negative = a.negative; odd = a.n / 2 ^ t; x = a.x + t }) (word-twos a.n (positive c) c.ranges.n.fits)
     ∙ sym (odd-some a.negative a.n a.x (positive c))

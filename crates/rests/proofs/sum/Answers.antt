@@ -15,10 +15,10 @@ use Rattle.rests.proofs.sum.Goals.{After-power}
 -- the result in units of the first operand's last place
 units : (c : After-power) → let r = sum_of c.args.a c.args.b in
     c.add-number.result.m * c.power.result ≡ r.m * 2 ^ (r.x - c.args.a.x)
-units c =         ap (λ (u : ℕ). c.add-number.result.m * u) c.power.ensures ∙ ap (λ (n : Number). n.m * 2 ^ (n.x - c.args.a.x)) c.add-number.ensures.value
+units c = ap (λ (u : ℕ). c.add-number.result.m * u) c.power.ensures ∙ ap (λ (n : Number). n.m * 2 ^ (n.x - c.args.a.x)) c.add-number.ensures.value
 
 pub returns-then-k-gt32 : goal.returns-then-k-gt32
-returns-then-k-gt32 c =         ap₂ (λ (n : Number) (t' : Rest). record { number = n; rest = t' }) c.add-number.ensures.value
+returns-then-k-gt32 c = ap₂ (λ (n : Number) (t' : Rest). record { number = n; rest = t' }) c.add-number.ensures.value
     (c.odd_part.ensures ∙ sym (far-rest _ _ c.requires.0 c.requires.1 c.if-k-gt32.true))
 
 pub overflow_sub-number : goal.overflow_sub-number
@@ -28,17 +28,17 @@ pub power-requires : goal.power-requires
 power-requires c = rw c.add-number.ensures.value (omega (arith, sum-stop _ _ c.requires.0 c.requires.1))
 
 pub overflow_mul-more : goal.overflow_mul-more
-overflow_mul-more c =         omega (arith, units (goal.at.overflow_mul-more c).After-power, more-word _ _ c.requires.0 c.requires.1)
+overflow_mul-more c = omega (arith, units (goal.at.overflow_mul-more c).After-power, more-word _ _ c.requires.0 c.requires.1)
 
 pub overflow_sub-more : goal.overflow_sub-more
-overflow_sub-more c =         omega (arith, units (goal.at.overflow_sub-more c).After-power, more-fits _ _ c.requires.0 c.requires.1)
+overflow_sub-more c = omega (arith, units (goal.at.overflow_sub-more c).After-power, more-fits _ _ c.requires.0 c.requires.1)
 
 pub overflow_mul-more-2 : goal.overflow_mul-more-2
-overflow_mul-more-2 c =             let e = ap₂ (λ (u v : ℕ). (u - c.args.a.m) * v) (units (goal.at.overflow_mul-more-2 c).After-power) c.power-2.ensures in
+overflow_mul-more-2 c = let e = ap₂ (λ (u v : ℕ). (u - c.args.a.m) * v) (units (goal.at.overflow_mul-more-2 c).After-power) c.power-2.ensures in
     omega (arith, e, more-small _ _ c.requires.0 c.requires.1, c.requires.0.second.high)
 
 pub returns : goal.returns
-returns c =                     ap₂ (λ (n : Number) (t' : Rest). record { number = n; rest = t' }) c.add-number.ensures.value
+returns c = ap₂ (λ (n : Number) (t' : Rest). record { number = n; rest = t' }) c.add-number.ensures.value
     (c.difference.ensures
     ∙ ap₂ (λ (u v : ℕ). rest_of c.args.b.m ((u - c.args.a.m) * v) c.args.b.x) (units (goal.at.returns c).After-power) c.power-2.ensures
     ∙ sym (sum-rest c.args.a c.args.b c.requires.0 c.requires.1))

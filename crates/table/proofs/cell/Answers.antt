@@ -13,11 +13,11 @@ below : (c : Else-n-j) → c.args.k / 8 * c.args.n + c.args.k % 8 < 64
 below c = square-cell-below _ c.args.numbers _ c.requires c.if-n-i.false c.if-n-j.false
 
 pub returns-then-n-i : goal.returns-then-n-i
-returns-then-n-i c =     let a = c.args in
+returns-then-n-i c = let a = c.args in
     c.zero.ensures ∙ past-rows a.n (square_of a.n a.numbers) a.k c.if-n-i.true
 
 pub returns-then-n-j : goal.returns-then-n-j
-returns-then-n-j c =     let a = c.args in
+returns-then-n-j c = let a = c.args in
     c.zero-then-n-j.ensures ∙ past-columns a.n (square_of a.n a.numbers) a.k c.if-n-i.false c.if-n-j.true
 
 pub overflow_mul-result : goal.overflow_mul-result
@@ -33,4 +33,4 @@ pub bounds-numbers-i : goal.bounds-numbers-i
 bounds-numbers-i c = below c
 
 pub returns : goal.returns
-returns c =         square-cell _ c.args.numbers _ c.requires c.if-n-i.false c.if-n-j.false (search rules)
+returns c = square-cell _ c.args.numbers _ c.requires c.if-n-i.false c.if-n-j.false (search rules)

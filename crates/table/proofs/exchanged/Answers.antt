@@ -13,7 +13,7 @@ pub loop-k-init : goal.loop-k-init
 loop-k-init c = filled_none zero_number _ 64 _ refl
 
 pub loop-k-preserved : goal.loop-k-preserved
-loop-k-preserved c =         filled_more zero_number _ 64 c.loop-k.invariant c.loop-k-test.true _ (exchanged-cell _ _ (search rules) c.loop-k-test.true)
+loop-k-preserved c = filled_more zero_number _ 64 c.loop-k.invariant c.loop-k-test.true _ (exchanged-cell _ _ (search rules) c.loop-k-test.true)
 
 pub returns : goal.returns
 returns c = table_filled 8 _ c.loop-k.invariant c.loop-k-test.false

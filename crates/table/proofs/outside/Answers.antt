@@ -18,17 +18,17 @@ pub loop-k-init : goal.loop-k-init
 loop-k-init c = (search rules, λ i h. absurd (omega arith))
 
 pub returns-then-not-in_range : goal.returns-then-not-in_range
-returns-then-not-in_range c =         sym (outside-some absent c.args.t _ (search rules) (sym c.in_range.ensures ∙ not-true _ (ap not c.if-not-in_range.true)))
+returns-then-not-in_range c = sym (outside-some absent c.args.t _ (search rules) (sym c.in_range.ensures ∙ not-true _ (ap not c.if-not-in_range.true)))
 
 pub loop-k-preserved : goal.loop-k-preserved
-loop-k-preserved c =     (
-      omega arith,
-      λ i h.
-          elim (ℕ_discrete i c.loop-k.k) [
-            | yes e ↦ rw e (sym c.in_range.ensures ∙ not-false _ (ap not c.if-not-in_range.false))
-            | no e ↦ c.loop-k.invariant.1 i (omega arith)
-          ],
-    )
+loop-k-preserved c = (
+  omega arith,
+  λ i h.
+      elim (ℕ_discrete i c.loop-k.k) [
+        | yes e ↦ rw e (sym c.in_range.ensures ∙ not-false _ (ap not c.if-not-in_range.false))
+        | no e ↦ c.loop-k.invariant.1 i (omega arith)
+      ],
+)
 
 pub returns : goal.returns
 returns c = sym (outside-all absent c.args.t (λ i h. c.loop-k.invariant.1 i (omega (arith, c.loop-k-test.false))))

@@ -51,7 +51,7 @@ pub loop-k-smaller : goal.loop-k-smaller
 loop-k-smaller c = omega (arith, c.loop-k-test.true)
 
 pub loop-k-preserved : goal.loop-k-preserved
-loop-k-preserved c =             (omega arith, packed_more _ _ c.requires _ c.loop-k-test.true (search rules) _ c.loop-k.invariant.1)
+loop-k-preserved c = (omega arith, packed_more _ _ c.requires _ c.loop-k-test.true (search rules) _ c.loop-k.invariant.1)
 
 pub returns : goal.returns
 returns c = c.loop-k.invariant.1 ∙ packed_all _ _ c.requires _ c.loop-k-test.false
