@@ -148,10 +148,12 @@ module _ (n p : ℕ) (ln : n ≤ 8) (lp : p < 2 ^ n) (v : List Bool) (st : Start
           let J : RowSet = leading P (count S) in
           let j : length J ≡ n = length-among P (rows (count P) 1 (count S)) (length-rows (count P) 1 (count S)) ∙ of_mask-length n p in
           h.same S e
-          ∙ walk_at n (count S) ln (transposed_word (present_steps n L)) (transposed-rows n (present_steps n L) (joined-rows n (each_steps nonzero L))) (state_of v)
+          ∙ walk_at n (count S) ln (transposed_word (present_steps n L)) (transposed-rows n (present_steps n L) (joined-rows n (each_steps nonzero L)))
+          (state_of v)
           (one_at presence J) (start-one (count S) (at_most S l)) S e refl
           ∙ minor-turned n ln (present_steps n L) (joined-rows n (each_steps nonzero L))
-          (told-letters n (joined_word n L) (present_steps n L) (letters-joined WeightTold EntryTold n L (each_steps nonzero L) (told-steps n L walkable))) J S j e
+          (told-letters n (joined_word n L) (present_steps n L) (letters-joined WeightTold EntryTold n L (each_steps nonzero L) (told-steps n L walkable)))
+          J S j e
           ∙ minor-presence n L walkable J S j;
     }
 

@@ -192,5 +192,6 @@ module _ (n : ℕ) where
   unfolding minor
   minor-turned ln W r t I J i j =
       sym (one-meets J (walk presence (transposed_word W) (one_at presence I)) j) ∙ sym (walk_meets ln W r t (one_at presence J) (one_at presence I))
-      ∙ same_truth _ _ (meets-swap (walk presence W (one_at presence J)) (one_at presence I)) (meets-swap (one_at presence I) (walk presence W (one_at presence J)))
+      ∙ same_truth _ _ (meets-swap (walk presence W (one_at presence J)) (one_at presence I))
+      (meets-swap (one_at presence I) (walk presence W (one_at presence J)))
       ∙ one-meets I (walk presence W (one_at presence J)) i

@@ -28,8 +28,10 @@ abbrev table_at_After_factor_in_w : (c : After-factor_in-w) → List Number
 table_at_After_factor_in_w c = table_in c.args.factors.now c.args.c
 
 pub returns-then-t-middle : goal.returns-then-t-middle
-returns-then-t-middle c =         let a = c.args in
-    present-still a.n a.way (table (goal.at.returns-then-t-middle c).Start) c.requires.source.0 (search rules) (search rules) a.t (search rules) a.turned (state_of a.v)
+returns-then-t-middle c =
+    let a = c.args in
+    present-still a.n a.way (table (goal.at.returns-then-t-middle c).Start) c.requires.source.0 (search rules) (search rules) a.t (search rules) a.turned
+    (state_of a.v)
     (c.if-t-middle.true ∙ c.middle.ensures.value)
 
 -- not the letter in the middle
@@ -50,38 +52,46 @@ factor_in-w-requires c = omega (arith, c.letter_in-l.ensures.move_within.place)
 
 -- the letter's factor
 factor : (c : After-factor_in-w) → c.factor_in-w.result ≡ get_or (table_at_After_factor_in_w c) c.letter_in-l.result.at zero_number
-factor c =     let a = c.args in
+factor c =
+    let a = c.args in
     let m = c.letter_in-l in
-    c.factor_in-w.ensures ∙ sym (factor-at a.factors.now a.c m.result.at m.ensures.1.place)
+    c.factor_in-w.ensures ∙ sym (factor-at a.factors.now a.c m.result.at m.ensures.move_within.place)
 
 factor_at_Else_w_eq0 : (c : Else-w-eq0) → c.factor_in-w.result ≡ get_or (table_at_Else_w_eq0 c) c.letter_in-l.result.at zero_number
-factor_at_Else_w_eq0 c =     let a = c.args in
+factor_at_Else_w_eq0 c =
+    let a = c.args in
     let m = c.letter_in-l in
-    c.factor_in-w.ensures ∙ sym (factor-at a.factors.now a.c m.result.at m.ensures.1.place)
+    c.factor_in-w.ensures ∙ sym (factor-at a.factors.now a.c m.result.at m.ensures.move_within.place)
 
 pub returns-then-w-eq0 : goal.returns-then-w-eq0
-returns-then-w-eq0 c =             let a = c.args in
+returns-then-w-eq0 c =
+    let a = c.args in
     let m = c.letter_in-l in
-    present-skipped a.n a.way (table (goal.at.returns-then-w-eq0 c).Start) c.requires.source.0 (search rules) (search rules) a.t (search rules) a.turned (state_of a.v)
-    (apart (goal.at.returns-then-w-eq0 c).Else-t-middle) m.result m.ensures.0 (factor-no (table (goal.at.returns-then-w-eq0 c).Start) m.result.at _ (factor (goal.at.returns-then-w-eq0 c).After-factor_in-w) c.if-w-eq0.true)
+    present-skipped a.n a.way (table (goal.at.returns-then-w-eq0 c).Start) c.requires.source.0 (search rules) (search rules) a.t (search rules) a.turned
+    (state_of a.v)
+    (apart (goal.at.returns-then-w-eq0 c).Else-t-middle) m.result m.ensures.value
+    (factor-no (table (goal.at.returns-then-w-eq0 c).Start) m.result.at _ (factor (goal.at.returns-then-w-eq0 c).After-factor_in-w) c.if-w-eq0.true)
 
 -- a letter whose factor is not zero, turned or not, is a move
 moves : (c : Else-w-eq0) (turned : Bool) → let a = c.args in let m = c.letter_in-l.result in
     act presence (letter_if turned (present_letter a.n a.way (table_at_Else_w_eq0 c) a.t)) (state_of a.v)
     ≡ moved presence (to_if turned m) (from_if turned m) true (state_of a.v)
-moves c turned =             let a = c.args in
+moves c turned =
+    let a = c.args in
     let m = c.letter_in-l in
     present-moved a.n a.way (table_at_Else_w_eq0 c) c.requires.source.0 (search rules) (search rules) a.t (search rules) turned (state_of a.v)
-    (apart_at_Else_w_eq0 c) m.result m.ensures.0 true (factor-yes (table_at_Else_w_eq0 c) m.result.at _ (factor_at_Else_w_eq0 c) c.if-w-eq0.false)
+    (apart_at_Else_w_eq0 c) m.result m.ensures.value true (factor-yes (table_at_Else_w_eq0 c) m.result.at _ (factor_at_Else_w_eq0 c) c.if-w-eq0.false)
 
 pub moved-requires : goal.moved-requires
-moved-requires c =         (search rules, omega arith, omega arith, omega arith, omega arith)
+moved-requires c = (search rules, omega arith, omega arith, omega arith, omega arith)
 
 pub returns-then-turned : goal.returns-then-turned
-returns-then-turned c =         rw c.if-turned.true (subst (Agree c.args.n (state_of c.moved.result)) (sym (moves (goal.at.returns-then-turned c).Else-w-eq0 true)) c.moved.ensures)
+returns-then-turned c = rw c.if-turned.true
+    (subst (Agree c.args.n (state_of c.moved.result)) (sym (moves (goal.at.returns-then-turned c).Else-w-eq0 true)) c.moved.ensures)
 
 pub moved-requires-2 : goal.moved-requires-2
-moved-requires-2 c =         (search rules, omega arith, omega arith, omega arith, omega arith)
+moved-requires-2 c = (search rules, omega arith, omega arith, omega arith, omega arith)
 
 pub returns : goal.returns
-returns c =         rw c.if-turned.false (subst (Agree c.args.n (state_of c.moved-2.result)) (sym (moves (goal.at.returns c).Else-w-eq0 false)) c.moved-2.ensures)
+returns c = rw c.if-turned.false
+    (subst (Agree c.args.n (state_of c.moved-2.result)) (sym (moves (goal.at.returns c).Else-w-eq0 false)) c.moved-2.ensures)

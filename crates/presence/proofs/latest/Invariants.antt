@@ -1,13 +1,8 @@
-use borrow.Author.Rules.{rules}
-use mathlib.Core.Path.{◌≡◌, sym, ap, ◌∙◌}
+-- The invariant of `latest`: no mask from s on passes.
+use mathlib.Core.Path.{◌≡◌}
 use mathlib.Core.Bool.{false}
-use Prim.Native.Nat.{ℕ, ◌+◌, ◌-◌, ◌^◌, ◌≤◌, ◌<◌}
-use native.Mathlib.Omega.{arith}
-use lib.Pow.{pow_mono, pow_pos}
-use Rattle.rowset.specs.Mask.{mask_count, mask_among}
-use Rattle.presence.specs.Held.{held_at}
-use Rattle.rowset.proofs.Shifts.{shift-exact}
-use Rattle.presence.proofs.Search.{passes, count-few, passes-held, fails-count, search-next, search-found, search-none}
+use Prim.Native.Nat.{ℕ, ◌-◌, ◌^◌, ◌≤◌, ◌<◌}
+use Rattle.presence.proofs.Search.{passes}
 use Rattle.presence.proofs.latest.Given as goal
 
 abbrev pub invariant-loop-s : goal.invariant-loop-s

@@ -1,11 +1,7 @@
-use borrow.Author.Rules.{rules}
-use mathlib.Core.Path.{◌≡◌, sym, ap, ◌∙◌}
-use mathlib.Core.Bool.{Bool, ◌||◌}
-use Prim.Native.Nat.{ℕ, ◌+◌, ◌-◌, ◌^◌, ◌≤◌}
-use mathlib.Core.Logic.{⊎_elim}
-use native.Mathlib.Omega.{arith}
-use Rattle.presence.specs.Held.{held_at}
-use Rattle.presence.proofs.Letter.{all-masks, new_if, Gone, gone-none, gone-skip, gone-set, gone-all}
+-- The invariant of `moved`: the masks below s are gone through.
+use mathlib.Core.Path.{◌≡◌}
+use Prim.Native.Nat.{◌-◌, ◌^◌, ◌≤◌}
+use Rattle.presence.proofs.Letter.{Gone}
 use Rattle.presence.proofs.moved.Given as goal
 
 abbrev pub invariant-loop-s : goal.invariant-loop-s

@@ -1,5 +1,4 @@
 -- `moves` meets its contract.
-use borrow.Author.Rules.{rules}
 use mathlib.Core.Path.{sym, ap, ap₂, ◌∙◌}
 use mathlib.Core.Bool.{Bool, not, ◌&&◌}
 use Rattle.rowset.specs.Mask.{mask_has, mask_moves}
@@ -11,4 +10,4 @@ returns-then-has c = sym (ap₂ (λ (x y : Bool). x && not y) (sym c.has.ensures
 
 pub returns-else-has : goal.returns-else-has
 unfolding mask_moves
-returns-else-has c =     sym (ap (λ (x : Bool). x && not (mask_has c.args.o c.args.s)) (sym c.has.ensures ∙ c.if-has.false))
+returns-else-has c = sym (ap (λ (x : Bool). x && not (mask_has c.args.o c.args.s)) (sym c.has.ensures ∙ c.if-has.false))

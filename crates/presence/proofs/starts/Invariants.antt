@@ -1,10 +1,8 @@
-use borrow.Author.Rules.{rules}
-use mathlib.Core.Path.{◌≡◌, ap, ◌∙◌}
+-- The invariant of `starts`: the sets of fewer than c rows are there.
+use mathlib.Core.Path.{◌≡◌}
 use Prim.Native.Nat.{◌+◌, ◌-◌, ◌≤◌, ◌<◌}
-use native.Mathlib.Omega.{arith}
-use Rattle.rowset.specs.Mask.{mask_count, mask_run, mask_among}
-use Rattle.presence.proofs.Search.{count-few}
-use Rattle.presence.proofs.Starting.{Started, started_none, leading-count, started-next, started-all}
+use Rattle.rowset.specs.Mask.{mask_count}
+use Rattle.presence.proofs.Starting.{Started}
 use Rattle.presence.proofs.starts.Given as goal
 
 abbrev pub invariant-loop-c : goal.invariant-loop-c

@@ -2,20 +2,18 @@
 use borrow.Author.Rules.{rules}
 use mathlib.Core.Path.{◌≡◌}
 use mathlib.Core.List.{List, ◌∷◌}
-use Prim.Native.Nat.{ℕ, ◌+◌, ◌-◌, ◌≤◌}
+use Prim.Native.Nat.{ℕ, ◌+◌, ◌-◌}
 use native.Mathlib.Omega.{arith}
 use lib.ListN.{drop}
 use Rattle.number.specs.declared.Number.{Number}
 use Rattle.words.specs.Operation.{Step}
-use Rattle.words.specs.Walk.{walk}
 use Rattle.words.specs.Sources.{Walkable}
 use Rattle.words.proofs.Steps.{sources-at}
 use Rattle.walk.specs.Lent.{way_at, step_at, steps_of}
 use Rattle.walk.proofs.Sweep.{below-256}
 use Rattle.walk.proofs.Minors.{joined-none, joined_step}
-use Rattle.presence.specs.Presence.{presence}
-use Rattle.presence.specs.Held.{state_of, Agree, Starts}
-use Rattle.presence.proofs.Walking.{present_steps, joined-start, joined-next}
+use Rattle.presence.specs.Held.{state_of}
+use Rattle.presence.proofs.Walking.{joined-start, joined-next}
 use Rattle.presence.proofs.Telling.{tells}
 use Rattle.presence.proofs.swept.Goals as goal
 use Rattle.presence.proofs.swept.Goals.{In-loop-c, Start}
@@ -31,7 +29,8 @@ pub starts-v-requires : goal.starts-v-requires
 starts-v-requires c = below-256 c.args.word.n c.args.p (search rules) (search rules)
 
 pub loop-c-init : goal.loop-c-init
-loop-c-init c =         let a = c.args in (
+loop-c-init c =
+    let a = c.args in (
       search rules,
       c.starts-v.ensures,
       joined-start (steps (goal.at.loop-c-init c).Start) a.word.count (state_of c.starts-v.result)
@@ -48,18 +47,31 @@ next-step c = let a = c.args in joined_step a.word a.factors.now (search rules) 
 
 pub walked-u-requires : goal.walked-u-requires
 unfolding way_at
-walked-u-requires c = let i : ℕ = c.loop-c.c - 1 in record { le_n = (search rules, search rules, omega arith); source = (sources-at (Walkable c.args.word.n) (steps (goal.at.walked-u-requires c).Start) _ i _ c.requires.sources.0 (next-step (goal.at.walked-u-requires c).In-loop-c), c.requires.sources.1.step i (omega arith)) }
+walked-u-requires c =
+    let i : ℕ = c.loop-c.c - 1 in
+    record {
+      le_n = (search rules, search rules, omega arith);
+      source = (
+        sources-at (Walkable c.args.word.n) (steps (goal.at.walked-u-requires c).Start) _ i _ c.requires.sources.0
+            (next-step (goal.at.walked-u-requires c).In-loop-c),
+        c.requires.sources.1.step i (omega arith),
+      );
+    }
 
 pub loop-c-preserved : goal.loop-c-preserved
 unfolding way_at
-loop-c-preserved c =                 let e : c.loop-c.c - 1 + 1 ≡ c.loop-c.c = omega arith in (
+loop-c-preserved c =
+    let e : c.loop-c.c - 1 + 1 ≡ c.loop-c.c = omega arith in (
       omega arith,
       c.loop-c.invariant.1,
-      joined-next (steps (goal.at.loop-c-preserved c).Start) _ (c.loop-c.c - 1) (state_of c.starts-v.result) (state_of c.loop-c.v) _ (next-step (goal.at.loop-c-preserved c).In-loop-c) (rw e c.loop-c.invariant.2)
+      joined-next (steps (goal.at.loop-c-preserved c).Start) _ (c.loop-c.c - 1) (state_of c.starts-v.result) (state_of c.loop-c.v) _
+          (next-step (goal.at.loop-c-preserved c).In-loop-c) (rw e c.loop-c.invariant.2)
           c.walked-u.ensures,
     )
 
 pub returns : goal.returns
-returns c =             let a = c.args in
+returns c =
+    let a = c.args in
     let e : c.loop-c.c ≡ 0 = omega arith in
-    tells a.word.n a.p (search rules) (search rules) _ c.loop-c.invariant.1 (steps (goal.at.returns c).Start) c.requires.sources.0 c.loop-c.v (rw e at c.loop-c.invariant.2)
+    tells a.word.n a.p (search rules) (search rules) _ c.loop-c.invariant.1 (steps (goal.at.returns c).Start) c.requires.sources.0 c.loop-c.v
+    (rw e at c.loop-c.invariant.2)

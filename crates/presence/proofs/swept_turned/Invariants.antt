@@ -1,28 +1,21 @@
-use borrow.Author.Rules.{rules}
-use mathlib.Core.Path.{◌≡◌, refl, ap, ◌∙◌}
-use mathlib.Core.List.{List, ◌∷◌}
-use Prim.Native.Nat.{ℕ, ◌+◌, ◌-◌, ◌≤◌}
-use native.Mathlib.Omega.{arith}
+-- The invariant of `swept_turned`: the transposed words of the steps from number c on are still to be walked.
+use mathlib.Core.Path.{◌≡◌}
+use Prim.Native.Nat.{◌-◌, ◌≤◌}
 use lib.ListN.{drop}
-use Rattle.number.specs.declared.Number.{Number}
-use Rattle.words.specs.Operation.{Step}
 use Rattle.words.specs.Word.{transposed_word}
 use Rattle.words.specs.Walk.{walk}
-use Rattle.words.specs.Sources.{Walkable}
-use Rattle.words.proofs.Steps.{sources-at}
-use Rattle.walk.specs.Lent.{way_at, step_at, steps_of}
-use Rattle.walk.proofs.Sweep.{below-256}
-use Rattle.walk.proofs.Minors.{joined-none, joined_step}
+use Rattle.walk.specs.Lent.{steps_of}
 use Rattle.presence.specs.Presence.{presence}
 use Rattle.presence.specs.Held.{state_of, Agree, Starts}
-use Rattle.presence.proofs.Walking.{present_steps, agree_refl, turned-joined-end, turned-joined-next}
-use Rattle.presence.proofs.Telling.{tells-turned}
+use Rattle.presence.proofs.Walking.{present_steps}
 use Rattle.presence.proofs.swept_turned.Given as goal
 
 abbrev pub invariant-loop-c : goal.invariant-loop-c
-invariant-loop-c l =     let L = steps_of l.word l.factors in
+invariant-loop-c l =
+    let L = steps_of l.word l.factors in
     (l.c ≤ l.c-end) × (l.c-end ≡ l.word.count) × Starts l.p l.initial.v
-    × Agree l.n (walk presence (transposed_word (present_steps l.n (drop l.c L))) (state_of l.v)) (walk presence (transposed_word (present_steps l.n L)) (state_of l.initial.v))
+    × Agree l.n (walk presence (transposed_word (present_steps l.n (drop l.c L))) (state_of l.v))
+    (walk presence (transposed_word (present_steps l.n L)) (state_of l.initial.v))
 
 abbrev pub decreases-loop-c : goal.decreases-loop-c
 decreases-loop-c l = l.c-end - l.c

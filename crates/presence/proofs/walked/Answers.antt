@@ -2,12 +2,11 @@
 use borrow.Author.Rules.{rules}
 use mathlib.Core.Path.{◌≡◌, sym, subst}
 use mathlib.Core.List.{List}
-use Prim.Native.Nat.{ℕ, ◌+◌, ◌-◌, ◌*◌, ◌≤◌}
+use Prim.Native.Nat.{ℕ, ◌+◌, ◌-◌, ◌*◌}
 use native.Mathlib.Omega.{arith}
 use lib.ListN.{drop}
 use Rattle.words.specs.Walk.{walk}
 use Rattle.number.specs.declared.Number.{Number}
-use Rattle.walk.specs.Letters.{middle}
 use Rattle.walk.specs.Lent.{table_in}
 use Rattle.presence.specs.Presence.{presence}
 use Rattle.presence.specs.Held.{state_of, Agree, present_word, present_letter}
@@ -21,7 +20,8 @@ abbrev table : (c : Start) → List Number
 table c = table_in c.args.factors.now c.args.c
 
 pub loop-t-init : goal.loop-t-init
-loop-t-init c =         let a = c.args in
+loop-t-init c =
+    let a = c.args in
     let m = c.middle.ensures.value in (
       omega arith,
       walk_start (present_word a.n a.way (table (goal.at.loop-t-init c).Start)) (2 * c.middle.result + 1) (state_of a.v)
@@ -33,7 +33,8 @@ act-x-requires c = record { le_n = (search rules, search rules, search rules, om
 
 pub loop-t-preserved : goal.loop-t-preserved
 unfolding present_letter
-loop-t-preserved c =         let a = c.args in
+loop-t-preserved c =
+    let a = c.args in
     let t = c.loop-t.t in
     let X = present_word a.n a.way (table (goal.at.loop-t-preserved c).Start) in
     let e : t - 1 + 1 ≡ t = omega arith in
@@ -46,5 +47,6 @@ loop-t-preserved c =         let a = c.args in
     )
 
 pub returns : goal.returns
-returns c =     let e : c.loop-t.t ≡ 0 = omega arith in
+returns c =
+    let e : c.loop-t.t ≡ 0 = omega arith in
     rw e at c.loop-t.invariant.1

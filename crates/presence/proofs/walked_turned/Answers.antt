@@ -1,17 +1,13 @@
 -- `walked_turned` meets its contract. The invariant: the letters from t on are still to be applied.
 use borrow.Author.Rules.{rules}
-use mathlib.Core.Path.{◌≡◌}
 use mathlib.Core.List.{List}
-use Prim.Native.Nat.{◌+◌, ◌-◌, ◌*◌, ◌≤◌}
 use native.Mathlib.Omega.{arith}
-use lib.ListN.{drop}
 use Rattle.words.specs.Word.{transposed_word}
 use Rattle.words.specs.Walk.{walk}
 use Rattle.number.specs.declared.Number.{Number}
-use Rattle.walk.specs.Letters.{middle}
 use Rattle.walk.specs.Lent.{table_in}
 use Rattle.presence.specs.Presence.{presence}
-use Rattle.presence.specs.Held.{state_of, Agree, present_word, present_letter}
+use Rattle.presence.specs.Held.{state_of, present_word, present_letter}
 use Rattle.presence.proofs.Spelled.{present-length}
 use Rattle.presence.proofs.Walking.{agree_refl, turned-end, turned-next}
 use Rattle.presence.proofs.walked_turned.Goals as goal
@@ -29,7 +25,8 @@ act-x-requires c = record { le_n = (search rules, search rules, search rules, om
 
 pub loop-t-preserved : goal.loop-t-preserved
 unfolding present_letter
-loop-t-preserved c =         let a = c.args in
+loop-t-preserved c =
+    let a = c.args in
     let t = c.loop-t.t in
     let X = present_word a.n a.way (table (goal.at.loop-t-preserved c).Start) in
     let l = present-length a.n a.way (table (goal.at.loop-t-preserved c).Start) c.requires.source.0 (search rules) (search rules) in
@@ -41,7 +38,8 @@ loop-t-preserved c =         let a = c.args in
     )
 
 pub returns : goal.returns
-returns c =         let a = c.args in
+returns c =
+    let a = c.args in
     let i = c.loop-t.invariant in
     turned-end (present_word a.n a.way (table (goal.at.returns c).Start)) c.loop-t.t (state_of c.loop-t.u)
     (walk presence (transposed_word (present_word a.n a.way (table (goal.at.returns c).Start))) (state_of a.v))

@@ -1,10 +1,6 @@
-use mathlib.Core.Path.{refl}
+-- The invariant of `full::no_zero`: no factor before number t is zero.
 use Prim.Native.Nat.{◌-◌, ◌*◌, ◌≤◌}
-use native.Mathlib.Omega.{arith}
-use mathlib.Core.Bool.{false≢true}
-use mathlib.Core.Logic.{⊎_elim}
-use borrow.Author.Rules.{rules}
-use Rattle.presence.proofs.NoZeros.{Passed, passed_none, passed-next, passed-all, zero-found}
+use Rattle.presence.proofs.NoZeros.{Passed}
 use Rattle.presence.proofs.full.no_zero.Given as goal
 
 abbrev pub invariant-loop-t : goal.invariant-loop-t
