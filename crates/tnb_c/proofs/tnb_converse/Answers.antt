@@ -12,7 +12,18 @@ converse-requires c = c.is_good.ensures.good c.if-is_good.true
 
 pub returns-then-is_good : goal.returns-then-is_good
 unfolding run
-returns-then-is_good c = let a = c.args in let passed = c.if-is_good.true in let good = c.is_good.ensures.good passed in let own = c.operated.ensures ∙ ap answer_of c.converse.ensures.result_value in let ran = answered a.shelf (converse a.source a.target) answer_of c.is_good.ensures.value passed own in record { value = (with-demand _ a.target _ _ _ ran (converse-answered a.shelf good a.source a.target)).0; answered = (with-demand _ a.target _ _ _ ran (converse-answered a.shelf good a.source a.target)).1 }
+returns-then-is_good c =
+    let a = c.args in
+    let passed = c.if-is_good.true in
+    let good = c.is_good.ensures.good passed in
+    let own = c.operated.ensures ∙ ap answer_of c.converse.ensures.result_value in
+    let ran = answered a.shelf (converse a.source a.target) answer_of c.is_good.ensures.value passed own in
+    let met = with-demand _ a.target _ _ _ ran (converse-answered a.shelf good a.source a.target) in
+    record { value = met.0; answered = met.1 }
 
 pub returns : goal.returns
-returns c = record { value = turned-away _ (converse _ _) answer_of c.is_good.ensures.value c.if-is_good.false c.foreign.ensures; answered = away-answered _ _ _ _ _ c.foreign.ensures }
+returns c =
+    record {
+      value = turned-away _ (converse _ _) answer_of c.is_good.ensures.value c.if-is_good.false c.foreign.ensures;
+      answered = away-answered _ _ _ _ _ c.foreign.ensures;
+    }

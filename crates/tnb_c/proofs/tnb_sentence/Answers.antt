@@ -8,5 +8,12 @@ use borrow.Author.Rules.{rules}
 use Rattle.tnb_c.proofs.tnb_sentence.Goals as goal
 
 pub returns : goal.returns
-returns c = let handed = notice c.args.number c.args.offset c.args.places.now in let bits : Bits64 handed =
-    record { number = c.ranges.number.fits; offset = c.ranges.offset.fits; places = λ i. (c.type_inv.places i).fits } in let report = c.written.ensures ∙ ap length_of c.sentence.ensures.result_value in record { value = report; out_after = c.sentence.ensures.out_after; sentence_answer = sentence-answered handed c.args.out.now bits _ _ report c.sentence.ensures.out_after }
+returns c =
+    let handed = notice c.args.number c.args.offset c.args.places.now in
+    let bits : Bits64 handed = record { number = c.ranges.number.fits; offset = c.ranges.offset.fits; places = λ i. (c.type_inv.places i).fits } in
+    let report = c.written.ensures ∙ ap length_of c.sentence.ensures.result_value in
+    record {
+      value = report;
+      out_after = c.sentence.ensures.out_after;
+      sentence_answer = sentence-answered handed c.args.out.now bits _ _ report c.sentence.ensures.out_after;
+    }

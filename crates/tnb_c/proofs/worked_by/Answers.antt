@@ -4,4 +4,6 @@ use borrow.Author.Rules.{rules}
 use Rattle.tnb_c.proofs.worked_by.Goals as goal
 
 pub returns : goal.returns
-returns c = record { value = (logged-answer _ _ _ c.arithmetic.result c.arithmetic.ensures.result_value c.arithmetic.ensures.logged c.worked.ensures).0; logged_answer = (logged-answer _ _ _ c.arithmetic.result c.arithmetic.ensures.result_value c.arithmetic.ensures.logged c.worked.ensures).1 }
+returns c =
+    let met = logged-answer _ _ _ c.arithmetic.result c.arithmetic.ensures.result_value c.arithmetic.ensures.logged c.worked.ensures in
+    record { value = met.0; logged_answer = met.1 }

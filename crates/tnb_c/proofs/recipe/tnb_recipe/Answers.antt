@@ -15,8 +15,20 @@ perform_recipe-requires c = c.is_good.ensures.good c.if-is_good.true
 
 pub returns-then-is_good : goal.returns-then-is_good
 unfolding run recipe_by
-returns-then-is_good c = let a = c.args in let r = recipe_by a.steps.now in let passed = c.if-is_good.true in let good = c.is_good.ensures.good passed in let own = c.operated.ensures
-    ∙ ap answer_of (c.perform_recipe.ensures.result_value ∙ ap (λ (x : Recipe). recipe_call a.shelf x a.target) c.recipe-made.ensures) in let ran = answered a.shelf (recipe r a.target) answer_of c.is_good.ensures.value passed own in record { value = (with-demand _ a.target _ _ _ ran (recipe-answered a.shelf good r a.target refl)).0; answered = (with-demand _ a.target _ _ _ ran (recipe-answered a.shelf good r a.target refl)).1 }
+returns-then-is_good c =
+    let a = c.args in
+    let r = recipe_by a.steps.now in
+    let passed = c.if-is_good.true in
+    let good = c.is_good.ensures.good passed in
+    let own =
+    c.operated.ensures ∙ ap answer_of (c.perform_recipe.ensures.result_value ∙ ap (λ (x : Recipe). recipe_call a.shelf x a.target) c.recipe-made.ensures) in
+    let ran = answered a.shelf (recipe r a.target) answer_of c.is_good.ensures.value passed own in
+    let met = with-demand _ a.target _ _ _ ran (recipe-answered a.shelf good r a.target refl) in
+    record { value = met.0; answered = met.1 }
 
 pub returns : goal.returns
-returns c = record { value = turned-away _ (recipe _ _) answer_of c.is_good.ensures.value c.if-is_good.false c.foreign.ensures; answered = away-answered _ _ _ _ _ c.foreign.ensures }
+returns c =
+    record {
+      value = turned-away _ (recipe _ _) answer_of c.is_good.ensures.value c.if-is_good.false c.foreign.ensures;
+      answered = away-answered _ _ _ _ _ c.foreign.ensures;
+    }
