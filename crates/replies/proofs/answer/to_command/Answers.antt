@@ -1,5 +1,5 @@
--- `replies::answer::to_command` meets its contract: what each arm answers stands in Arms; what the calls ask for is found.
-use borrow.Author.Rules.{rules}
+-- WHAT EACH WORD OF THE CONSOLE ANSWERS: `replies::answer::to_command` meets its contract. At each arm the promise of the call that it makes is the reply that
+-- the definition has for the word. What a build did goes through `told-as`; masks are what `mask` makes of a number.
 use mathlib.Core.Path.{refl}
 use Rattle.lines.specs.Ascii.{ascii}
 use Rattle.shelf.specs.Run.{run}

@@ -1,5 +1,4 @@
 -- `replies::answer::to_line` meets its contract: the answer, and the end of its line behind it.
-use borrow.Author.Rules.{rules}
 use mathlib.Core.Path.{sym}
 use Rattle.lines.specs.Ascii.{ascii}
 use Rattle.lines.proofs.Text.{puts-behind}

@@ -1,6 +1,5 @@
 -- `replies::answer::to_request` meets its contract.
 use Rattle.replies.specs.Replies.{reply_to}
-use borrow.Author.Rules.{rules}
 use Rattle.replies.proofs.answer.to_request.Goals as goal
 
 pub returns : goal.returns

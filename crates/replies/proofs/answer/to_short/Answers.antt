@@ -1,5 +1,4 @@
 -- `replies::answer::to_short` meets its contract.
-use borrow.Author.Rules.{rules}
 use Rattle.replies.proofs.answer.to_short.Goals as goal
 
 pub returns : goal.returns

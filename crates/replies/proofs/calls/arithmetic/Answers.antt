@@ -2,7 +2,6 @@
 use mathlib.Core.Path.{refl}
 use Rattle.shelf.specs.Run.{run}
 use Rattle.replies.proofs.Replies.{replied}
-use borrow.Author.Rules.{rules}
 use Rattle.replies.proofs.calls.arithmetic.Goals as goal
 
 pub returns : goal.returns

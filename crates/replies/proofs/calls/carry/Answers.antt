@@ -5,7 +5,6 @@ use mathlib.Core.Path.{◌≡◌}
 use lib.IntN.{pos}
 use lib.ListN.{replicate, length-replicate}
 use Rattle.replies.proofs.Lent.{items-lent}
-use borrow.Author.Rules.{rules}
 use Rattle.replies.proofs.calls.carry.Goals as goal
 
 pub returns : goal.returns

@@ -4,7 +4,6 @@ use Rattle.lines.proofs.Text.{puts-behind}
 use Rattle.shelf.specs.Run.{run}
 use Rattle.answers.proofs.Reports.{puts-report}
 use Rattle.replies.proofs.Replies.{replied, carry-keeps}
-use borrow.Author.Rules.{rules}
 use Rattle.replies.proofs.calls.carry_to.Goals as goal
 
 pub returns : goal.returns

@@ -1,7 +1,6 @@
 -- `replies::calls::changed` meets its contract.
 use mathlib.Core.Path.{refl}
 use Rattle.replies.proofs.Replies.{replied}
-use borrow.Author.Rules.{rules}
 use Rattle.replies.proofs.calls.changed.Goals as goal
 
 pub returns : goal.returns

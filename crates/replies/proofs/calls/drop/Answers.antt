@@ -2,7 +2,6 @@
 use Rattle.lines.specs.Ascii.{ascii}
 use Rattle.shelf.specs.Run.{run}
 use Rattle.replies.proofs.Replies.{told-as}
-use borrow.Author.Rules.{rules}
 use Rattle.replies.proofs.calls.drop.Goals as goal
 
 pub returns : goal.returns

@@ -1,7 +1,6 @@
 -- `replies::calls::filled` meets its contract.
 use mathlib.Core.Path.{refl}
 use Rattle.replies.proofs.Replies.{replied}
-use borrow.Author.Rules.{rules}
 use Rattle.replies.proofs.calls.filled.Goals as goal
 
 pub returns : goal.returns

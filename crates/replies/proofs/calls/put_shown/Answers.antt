@@ -1,7 +1,6 @@
 -- `replies::calls::put_shown` meets its contract.
 use borrow.Author.Tests.{lt-ltb, le-ltb}
 use Rattle.replies.specs.Calls.{show_text}
-use borrow.Author.Rules.{rules}
 use Rattle.replies.proofs.calls.put_shown.Goals as goal
 
 pub returns-then-place-gt7 : goal.returns-then-place-gt7

@@ -4,7 +4,6 @@ use Rattle.lines.specs.Ascii.{ascii}
 use Rattle.shelf.specs.Run.{run}
 use Rattle.answers.proofs.Reports.{puts-report}
 use Rattle.replies.proofs.Replies.{replied}
-use borrow.Author.Rules.{rules}
 use Rattle.replies.proofs.calls.reversals.Goals as goal
 
 pub returns : goal.returns

@@ -4,7 +4,6 @@ use mathlib.Core.Path.{refl}
 use Rattle.notices.specs.Sentence.{notice}
 use Rattle.shelf.specs.Run.{run, sentence}
 use Rattle.replies.proofs.Replies.{bytes-as}
-use borrow.Author.Rules.{rules}
 use Rattle.replies.proofs.calls.sentence_to.Goals as goal
 
 pub returns : goal.returns

@@ -1,7 +1,6 @@
 -- `replies::calls::show` meets its contract: the shelf stays.
 use mathlib.Core.Path.{refl}
 use Rattle.replies.proofs.Replies.{replied}
-use borrow.Author.Rules.{rules}
 use Rattle.replies.proofs.calls.show.Goals as goal
 
 pub returns : goal.returns

@@ -3,7 +3,6 @@ use Prim.Native.Nat.{◌-◌, ◌≤◌}
 use native.Mathlib.Omega.{arith}
 use mathlib.Core.Path.{◌≡◌}
 use Rattle.replies.proofs.Lent.{take-replicate}
-use borrow.Author.Rules.{rules}
 use Rattle.replies.proofs.calls.write.Goals as goal
 
 pub returns : goal.returns

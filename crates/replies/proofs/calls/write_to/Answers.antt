@@ -2,7 +2,6 @@
 use Rattle.lines.specs.Ascii.{ascii}
 use Rattle.shelf.specs.Run.{run, write}
 use Rattle.replies.proofs.Replies.{bytes-as, write_keeps}
-use borrow.Author.Rules.{rules}
 use Rattle.replies.proofs.calls.write_to.Goals as goal
 
 pub returns : goal.returns

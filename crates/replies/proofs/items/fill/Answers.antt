@@ -1,9 +1,7 @@
 -- `replies::items::fill` meets its contract. The loop's invariant: the numbers before index k are set.
-use Prim.Native.Nat.{◌-◌}
 use native.Mathlib.Omega.{arith}
-use lib.ListN.{length, length-set}
-use Rattle.replies.proofs.Lent.{Filled, filled_none, filled_more, filled-end}
-use borrow.Author.Rules.{rules}
+use lib.ListN.{length-set}
+use Rattle.replies.proofs.Lent.{filled_none, filled_more, filled-end}
 use Rattle.replies.proofs.items.fill.Goals as goal
 
 pub loop-list-init : goal.loop-list-init

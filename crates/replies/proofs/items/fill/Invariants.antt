@@ -1,8 +1,7 @@
+-- The invariant and the measure in `replies::items::fill`: the numbers before index k are set.
 use Prim.Native.Nat.{◌-◌}
-use native.Mathlib.Omega.{arith}
-use lib.ListN.{length, length-set}
-use Rattle.replies.proofs.Lent.{Filled, filled_none, filled_more, filled-end}
-use borrow.Author.Rules.{rules}
+use lib.ListN.{length}
+use Rattle.replies.proofs.Lent.{Filled}
 use Rattle.replies.proofs.items.fill.Given as goal
 
 abbrev pub invariant-loop-list : goal.invariant-loop-list

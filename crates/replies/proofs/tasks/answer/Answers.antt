@@ -2,7 +2,6 @@
 use Rattle.lines.specs.Ascii.{ascii}
 use Rattle.shelf.specs.Run.{run}
 use Rattle.replies.proofs.Replies.{performed-as, report-as}
-use borrow.Author.Rules.{rules}
 use Rattle.replies.proofs.tasks.answer.Goals as goal
 
 pub returns-in-Direct : goal.returns-in-Direct

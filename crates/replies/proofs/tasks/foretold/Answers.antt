@@ -1,7 +1,6 @@
 -- `replies::tasks::foretold` meets its contract: the shelf stays.
 use mathlib.Core.Path.{refl}
 use Rattle.replies.proofs.Replies.{replied}
-use borrow.Author.Rules.{rules}
 use Rattle.replies.proofs.tasks.foretold.Goals as goal
 
 pub returns : goal.returns

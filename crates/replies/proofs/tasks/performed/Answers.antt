@@ -1,7 +1,6 @@
 -- `replies::tasks::performed` meets its contract.
 use mathlib.Core.Path.{refl}
 use Rattle.replies.proofs.Replies.{replied}
-use borrow.Author.Rules.{rules}
 use Rattle.replies.proofs.tasks.performed.Goals as goal
 
 pub returns : goal.returns

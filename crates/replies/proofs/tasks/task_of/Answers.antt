@@ -1,5 +1,4 @@
 -- `replies::tasks::task_of` meets its contract.
-use borrow.Author.Rules.{rules}
 use Rattle.replies.proofs.tasks.task_of.Goals as goal
 
 pub returns-in-Product : goal.returns-in-Product
