@@ -13,20 +13,20 @@ use Rattle.reversals.proofs.count.Goals as goal
 use Rattle.reversals.proofs.count.Goals.{After-turn-found}
 
 pub loop-k-init : goal.loop-k-init
-loop-k-init c =     (omega arith, omega arith, omega (arith, ap (λ (a : Signed). reversals_behind a (take c.args.n c.args.v)) c.zero-last.ensures))
+loop-k-init c = (omega arith, omega arith, omega (arith, ap (λ (a : Signed). reversals_behind a (take c.args.n c.args.v)) c.zero-last.ensures))
 
 turned : (c : After-turn-found) → c.turn-found.result ≤ 1
-turned c =     omega (
-      arith,
-      c.turn-found.ensures,
-      turn-le c.loop-k.last (get_or c.args.v c.loop-k.k unset),
-    )
+turned c = omega (
+  arith,
+  c.turn-found.ensures,
+  turn-le c.loop-k.last (get_or c.args.v c.loop-k.k unset),
+)
 
 pub overflow_add-found : goal.overflow_add-found
 overflow_add-found c = record { fits = omega (arith, turned c, c.loop-k.invariant.1) }
 
 pub loop-k-preserved : goal.loop-k-preserved
-loop-k-preserved c =         let h : c.loop-k.k < c.args.n = c.loop-k-test.true in
+loop-k-preserved c = let h : c.loop-k.k < c.args.n = c.loop-k-test.true in
     let g : length c.args.v ≡ 8 = search rules in (
       omega arith,
       omega (arith, turned (goal.at.loop-k-preserved c).After-turn-found, c.loop-k.invariant.1),
@@ -37,8 +37,8 @@ loop-k-preserved c =         let h : c.loop-k.k < c.args.n = c.loop-k-test.true 
 
 pub returns : goal.returns
 unfolding reversals_behind
-returns c =         omega (
-      arith,
-      c.loop-k.invariant.2,
-      ap (reversals_behind c.loop-k.last) (front-end c.args.v c.args.n c.loop-k.k c.loop-k-test.false),
-    )
+returns c = omega (
+  arith,
+  c.loop-k.invariant.2,
+  ap (reversals_behind c.loop-k.last) (front-end c.args.v c.args.n c.loop-k.k c.loop-k-test.false),
+)

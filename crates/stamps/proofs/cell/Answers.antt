@@ -7,13 +7,13 @@ use borrow.Author.Rules.{rules}
 use Rattle.stamps.proofs.cell.Goals as goal
 
 pub returns-then-stamps-i : goal.returns-then-stamps-i
-returns-then-stamps-i c =     let a = c.args in
+returns-then-stamps-i c = let a = c.args in
     c.zero.ensures ∙ past-rows _ (built_factors a.stamps.now) a.k c.if-stamps-i.true
 
 pub returns-then-stamps-j : goal.returns-then-stamps-j
-returns-then-stamps-j c =     let a = c.args in
+returns-then-stamps-j c = let a = c.args in
     c.zero-then-stamps-j.ensures ∙ past-columns _ (built_factors a.stamps.now) a.k c.if-stamps-i.false c.if-stamps-j.true
 
 pub returns : goal.returns
-returns c =     let a = c.args in
+returns c = let a = c.args in
     c.factor.ensures ∙ sym (padded-in _ (built_factors a.stamps.now) _ _ (omega arith) (omega arith))

@@ -8,18 +8,18 @@ use borrow.Author.Rules.{rules}
 use Rattle.stamps.proofs.factor.Goals as goal
 
 pub natural-requires : goal.natural-requires
-natural-requires c =         c.requires.0.rising.positive c.args.i (c.requires.1, c.requires.2)
+natural-requires c = c.requires.0.rising.positive c.args.i (c.requires.1, c.requires.2)
 
 pub returns-then-i-j : goal.returns-then-i-j
-returns-then-i-j c =     let a = c.args in
+returns-then-i-j c = let a = c.args in
     c.natural.ensures ∙ built-above a.stamps.now a.i a.j c.if-i-j.true
 
 pub returns-then-i-j-2 : goal.returns-then-i-j-2
-returns-then-i-j-2 c =         let a = c.args in
+returns-then-i-j-2 c = let a = c.args in
     c.product.ensures ∙ built-on a.stamps.now a.i a.j c.requires.1 c.if-i-j-2.true
 
 pub div-requires : goal.div-requires
-div-requires c =             let a = c.args in
+div-requires c = let a = c.args in
     let h = c.requires in
     let upper = product-ranged _ h.0 a.i (a.i - a.j + 1) (a.j - 1) (omega arith) (omega arith) h.2 in
     let lower = product-ranged _ h.0 (a.i - 1) (a.i - a.j) (a.j - 1) (omega arith) (omega arith) (omega arith) in
@@ -27,6 +27,6 @@ div-requires c =             let a = c.args in
     (rw c.product-above.ensures upper, rw c.product-below.ensures lower, rw c.product-below.ensures nonzero)
 
 pub returns : goal.returns
-returns c =             let a = c.args in
+returns c = let a = c.args in
     c.div.ensures.value ∙ ap₂ quotient_of c.product-above.ensures c.product-below.ensures
     ∙ built-below a.stamps.now a.i a.j c.requires.3 (omega arith)

@@ -16,10 +16,10 @@ unfolding product_from
 loop-k-init c = (omega arith, c.one-p.ensures)
 
 pub less-requires : goal.less-requires
-less-requires c =         (c.requires.0, omega arith, omega (arith, c.loop-k-test.true), c.requires.3)
+less-requires c = (c.requires.0, omega arith, omega (arith, c.loop-k-test.true), c.requires.3)
 
 pub mul-p-requires : goal.mul-p-requires
-mul-p-requires c =             let a = c.args in
+mul-p-requires c = let a = c.args in
     let h = c.requires in
     let k = c.loop-k.k in (
       rw c.loop-k.invariant.1 (product-ranged _ h.0 a.i a.from k h.1 (omega (arith, c.loop-k-test.true)) h.3),
@@ -28,9 +28,9 @@ mul-p-requires c =             let a = c.args in
 
 pub loop-k-preserved : goal.loop-k-preserved
 unfolding product_from
-loop-k-preserved c =             (omega (arith, c.loop-k-test.true), rw add-one (c.mul-p.ensures.value ∙ ap₂ product_of c.loop-k.invariant.1 c.less.ensures))
+loop-k-preserved c = (omega (arith, c.loop-k-test.true), rw add-one (c.mul-p.ensures.value ∙ ap₂ product_of c.loop-k.invariant.1 c.less.ensures))
 
 pub returns : goal.returns
-returns c =     let a = c.args in
+returns c = let a = c.args in
     let end : c.loop-k.k ≡ a.count = le_antisymm c.loop-k.invariant.0 c.loop-k-test.false in
     c.loop-k.invariant.1 ∙ ap (λ (k : ℕ). product_from rounded a.from k (less_number a.stamps.now a.i)) end

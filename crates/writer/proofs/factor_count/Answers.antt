@@ -12,5 +12,5 @@ pub returns-then-n-lt9 : goal.returns-then-n-lt9
 returns-then-n-lt9 c = omega (arith, square-small c.args.n c.if-n-lt9.true)
 
 pub returns-else-n-lt9 : goal.returns-else-n-lt9
-returns-else-n-lt9 c =     let h : 9 * 9 ≤ c.args.n * c.args.n = mul-le-mul c.if-n-lt9.false c.if-n-lt9.false in
+returns-else-n-lt9 c = let h : 9 * 9 ≤ c.args.n * c.args.n = mul-le-mul c.if-n-lt9.false c.if-n-lt9.false in
     omega arith

@@ -69,11 +69,11 @@ pub slice_bounds-put-start : goal.slice_bounds-put-start
 slice_bounds-put-start c = omega (arith, left (goal.at.slice_bounds-put-start c).After-put-at)
 
 pub put-requires-2 : goal.put-requires-2
-put-requires-2 c =         let whole = ap length (part-is c.put-at.new.out c.put-at.result) ∙ length-drop c.put-at.result c.put-at.new.out in
+put-requires-2 c = let whole = ap length (part-is c.put-at.new.out c.put-at.result) ∙ length-drop c.put-at.result c.put-at.new.out in
     omega (arith, ap (λ (v : ℕ). length (bytes_of v)) c.minus-2.ensures, left (goal.at.put-requires-2 c).After-put-at)
 
 pub overflow_add-result : goal.overflow_add-result
-overflow_add-result c =         omega (arith, left (goal.at.overflow_add-result c).After-put-at, c.put-2.ensures.value ∙ ap (λ (v : ℕ). length (bytes_of v)) c.minus-2.ensures)
+overflow_add-result c = omega (arith, left (goal.at.overflow_add-result c).After-put-at, c.put-2.ensures.value ∙ ap (λ (v : ℕ). length (bytes_of v)) c.minus-2.ensures)
 
 pub returns : goal.returns
 returns c = let v = ap bytes_of c.minus-2.ensures in let two = rw v at c.put-2.ensures.out_after in record { value = rw (width (goal.at.returns c).After-put-at, c.put-2.ensures.value, v, split (goal.at.returns c).Else-a-eq0, length-append); out_after = rw (split (goal.at.returns c).Else-a-eq0) (sets-two (out (goal.at.returns c).Else-a-eq0) (code (goal.at.returns c).Else-a-eq0) (mantissa (goal.at.returns c).Else-a-eq0) _ _ _ (width (goal.at.returns c).After-put-at) (omega (arith, width (goal.at.returns c).After-put-at, room (goal.at.returns c).Else-a-eq0)) (one (goal.at.returns c).After-put-at) two) }

@@ -23,11 +23,11 @@ long_at_After_a_1 : (c : After-a-1) → length c.args.numbers ≡ 64
 long_at_After_a_1 c = search (rules, length-mapped)
 
 kept : (c : After-put-at) → length c.put-at.new.out ≡ length c.args.out.now
-kept c =     let a = c.args in
+kept c = let a = c.args in
     ap length c.put-at.ensures.out_after ∙ length-sets a.out.now 0 (bytes_of a.n)
 
 kept_at_After_a_1 : (c : After-a-1) → length c.put-at.new.out ≡ length c.args.out.now
-kept_at_After_a_1 c =     let a = c.args in
+kept_at_After_a_1 c = let a = c.args in
     ap length c.put-at.ensures.out_after ∙ length-sets a.out.now 0 (bytes_of a.n)
 
 abbrev factors : (c : After-a-1) → List Number
@@ -40,10 +40,10 @@ same : (c : After-a-1) → get_or (factors c) c.loop-k.k unread ≡ get_or c.arg
 same c = factors-at c.args.n c.args.numbers (long_at_After_a_1 c) c.loop-k.k (omega arith)
 
 room : (c : After-a-1) → c.loop-k.at + length (factor_bytes (get_or c.args.numbers c.loop-k.k unread)) ≤ length c.loop-k.out
-room c =         written-room (factors c) c.loop-k.invariant _ (more c) (same c) (omega (arith, kept_at_After_a_1 c, encoding-length c.args.n (factors c), c.put-at.ensures.value, c.requires))
+room c = written-room (factors c) c.loop-k.invariant _ (more c) (same c) (omega (arith, kept_at_After_a_1 c, encoding-length c.args.n (factors c), c.put-at.ensures.value, c.requires))
 
 pub put-at-requires : goal.put-at-requires
-put-at-requires c =         omega (arith, encoding-length c.args.n (square_factors c.args.n c.args.numbers), c.requires)
+put-at-requires c = omega (arith, encoding-length c.args.n (square_factors c.args.n c.args.numbers), c.requires)
 
 pub loop-k-init : goal.loop-k-init
 loop-k-init c = written_none _ _ _
@@ -58,18 +58,21 @@ pub slice_bounds-put_factor-start : goal.slice_bounds-put_factor-start
 slice_bounds-put_factor-start c = omega (arith, room c)
 
 pub put_factor-at-requires : goal.put_factor-at-requires
-put_factor-at-requires c =         let whole = ap length (part-is c.loop-k.out c.loop-k.at) ∙ length-drop c.loop-k.at c.loop-k.out in
+put_factor-at-requires c = let whole = ap length (part-is c.loop-k.out c.loop-k.at) ∙ length-drop c.loop-k.at c.loop-k.out in
     omega (arith, room (goal.at.put_factor-at-requires c).After-a-1)
 
 pub overflow_add-at : goal.overflow_add-at
 overflow_add-at c = omega (arith, room (goal.at.overflow_add-at c).After-a-1, c.put_factor-at.ensures.value)
 
 pub loop-k-preserved : goal.loop-k-preserved
-loop-k-preserved c =             written-more (factors (goal.at.loop-k-preserved c).After-a-1) c.loop-k.invariant _ (more (goal.at.loop-k-preserved c).After-a-1) (same (goal.at.loop-k-preserved c).After-a-1) _ _ (omega (arith, room (goal.at.loop-k-preserved c).After-a-1)) c.put_factor-at.ensures.value c.put_factor-at.ensures.out_after
+loop-k-preserved c = written-more (factors (goal.at.loop-k-preserved c).After-a-1) c.loop-k.invariant _ (more (goal.at.loop-k-preserved c).After-a-1) (same (goal.at.loop-k-preserved c).After-a-1) _ _ (omega (arith, room (goal.at.loop-k-preserved c).After-a-1)) c.put_factor-at.ensures.value c.put_factor-at.ensures.out_after
 
 pub shape_of-out : goal.shape_of-out
 shape_of-out c = c.loop-k.invariant.kept ∙ kept (goal.at.shape_of-out c).After-put-at
 
 pub returns : goal.returns
-returns c = let f = square_factors c.args.n c.args.numbers in let h = factors-length c.args.n c.args.numbers (long (goal.at.returns c).Start) in record { value = counted-all f c.loop-k.invariant.counted (omega arith) ∙ rw (encoding-length, c.put-at.ensures.value); out_after = written_all f c.loop-k.invariant (omega arith)
-          ∙ encoding-sets c.args.n f c.args.out.now c.put-at.new.out c.put-at.result c.put-at.ensures.value c.put-at.ensures.out_after }
+returns c = let f = square_factors c.args.n c.args.numbers in let h = factors-length c.args.n c.args.numbers (long (goal.at.returns c).Start) in record {
+  value = counted-all f c.loop-k.invariant.counted (omega arith) ∙ rw (encoding-length, c.put-at.ensures.value);
+  out_after = written_all f c.loop-k.invariant (omega arith)
+      ∙ encoding-sets c.args.n f c.args.out.now c.put-at.new.out c.put-at.result c.put-at.ensures.value c.put-at.ensures.out_after;
+}

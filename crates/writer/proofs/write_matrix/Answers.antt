@@ -36,7 +36,7 @@ fits : (c : In-Accepted) → room_test (out_at_In_Accepted c) (bytes_at_In_Accep
 fits c = sym (tested_at_In_Accepted c) ∙ c.in-Accepted.is
 
 pub put_matrix-requires : goal.put_matrix-requires
-put_matrix-requires c =         writing-room (out (goal.at.put_matrix-requires c).After-test-verdict) (bytes (goal.at.put_matrix-requires c).After-test-verdict) (fits (goal.at.put_matrix-requires c).In-Accepted)
+put_matrix-requires c = writing-room (out (goal.at.put_matrix-requires c).After-test-verdict) (bytes (goal.at.put_matrix-requires c).After-test-verdict) (fits (goal.at.put_matrix-requires c).In-Accepted)
 
 pub returns-in-Accepted : goal.returns-in-Accepted
 returns-in-Accepted c = let d = writing-done (out (goal.at.returns-in-Accepted c).After-test-verdict) (bytes (goal.at.returns-in-Accepted c).After-test-verdict) (fits (goal.at.returns-in-Accepted c).In-Accepted) in record { result_value = ap (λ (k : ℕ). accepted (pos k ∷ [])) c.put_matrix.ensures.value ∙ d.0; out_after = c.put_matrix.ensures.out_after ∙ d.1 }

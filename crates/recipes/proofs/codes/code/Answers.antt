@@ -14,7 +14,7 @@ overflow_add-result-then-place-lt8 c = omega (arith, way-few c.args.way, c.way_c
 
 pub returns-then-place-lt8 : goal.returns-then-place-lt8
 unfolding step_code
-returns-then-place-lt8 c =     let a = c.args in
+returns-then-place-lt8 c = let a = c.args in
     ap (λ (k : ℕ). 4 * (a.place + 1) + k) c.way_code.ensures
     ∙ ap (λ (b : Bool). 4 * (cond b a.place 8 + 1) + way_code a.way) (sym (lt-ltb a.place 8 c.if-place-lt8.true))
 
@@ -23,6 +23,6 @@ overflow_add-result-2 c = omega (arith, way-few c.args.way, c.way_code-2.ensures
 
 pub returns : goal.returns
 unfolding step_code
-returns c =     let a = c.args in
+returns c = let a = c.args in
     ap (λ (k : ℕ). 36 + k) c.way_code-2.ensures
     ∙ ap (λ (b : Bool). 4 * (cond b a.place 8 + 1) + way_code a.way) (sym (le-ltb a.place 8 c.if-place-lt8.false))

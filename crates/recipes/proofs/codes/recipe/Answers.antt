@@ -32,6 +32,6 @@ loop-c-preserved c = filled_more (taken Plain 0) _ 6 c.loop-c.invariant c.loop-c
 
 pub returns : goal.returns
 unfolding recipe_by
-returns c =         ap (λ (l : List RecipeStep). let r : Recipe = record { steps = l; count = length c.args.codes.now } in r)
+returns c = ap (λ (l : List RecipeStep). let r : Recipe = record { steps = l; count = length c.args.codes.now } in r)
     (filled-all (taken Plain 0) (λ i. step_by (get_or c.args.codes.now i 0)) 6 c.loop-c.invariant c.loop-c-test.false _ refl
     (numbered-slot (λ i. step_by (get_or c.args.codes.now i 0))))

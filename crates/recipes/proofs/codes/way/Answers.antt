@@ -15,6 +15,6 @@ pub returns-then-k-eq2 : goal.returns-then-k-eq2
 returns-then-k-eq2 c = sym (ap way_by c.if-k-eq2.true)
 
 pub returns : goal.returns
-returns c =     let a = c.args in
+returns c = let a = c.args in
     let e : a.code % 4 ≡ 3 = omega (arith, c.if-k-eq0.false, c.if-k-eq1.false, c.if-k-eq2.false) in
     sym (ap way_by e)
