@@ -29,7 +29,8 @@ use Rattle.lists.proofs.Vectors.{vector-here, vector-other}
 -- a letter makes of vectors that agree such vectors
 module _ (n : ℕ) (v w : ℕ → Signed) (h : SameItems n v w) where
   moved-agree : (a o : ℕ) (x : Signed) → In n o →
-      SameItems n (λ i. cond (eqb i a) (signed_sum (v i) (signed_product x (v o))) (v i)) (λ i. cond (eqb i a) (signed_sum (w i) (signed_product x (w o))) (w i))
+      SameItems n (λ i. cond (eqb i a) (signed_sum (v i) (signed_product x (v o))) (v i))
+      (λ i. cond (eqb i a) (signed_sum (w i) (signed_product x (w o))) (w i))
   moved-agree a o x p i l = ap₂ (λ y z. cond (eqb i a) (signed_sum y (signed_product x z)) y) (h i l) (h o p)
 
   letter-agree : (l : Letter Signed) → RangedLetter n l → SameItems n (carry_letter signed_arithmetic l v) (carry_letter signed_arithmetic l w)

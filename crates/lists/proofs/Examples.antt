@@ -14,7 +14,8 @@ use Rattle.lists.specs.Lists.{carried_vector, any_outside, items_after_carry, re
 use Rattle.lists.specs.Examples.{list_table}
 
 pub examples : AllHold list_table
-unfolding list_table storable signed_item list_of list_numbers opposite reversals_behind carried_vector any_outside items_after_carry reversals_call first_behind
+unfolding list_table storable signed_item list_of list_numbers opposite reversals_behind carried_vector any_outside items_after_carry reversals_call
+    first_behind
     ascending descending word carry carry_letter signed_round signed_sum signed_product with_sign
     round_by renormalised sum_by product_by in_range xor size lib.Ieee.span lib.Ieee.climb
 examples = (refl, (refl, (refl, (refl, (refl, (refl, (refl, (refl, (refl, (refl, (refl, (refl, (refl, (refl, (refl, tt)))))))))))))))

@@ -3,7 +3,6 @@
 use mathlib.Core.Path.{◌≡◌, sym, ap, ap₂, ◌∙◌, subst}
 use mathlib.Core.List.{List}
 use native.Mathlib.Omega.{arith}
-use borrow.Author.Rules.{rules}
 use lib.IntN.{ℤ}
 use lib.ListN.{get_or}
 use Rattle.verdict.specs.declared.Verdict.TheVariants.{Accepted}
@@ -36,12 +35,16 @@ list_at_In_Accepted c = read_is 2 2 _ _ (omega arith) c.read-list.ensures
 
 tested : (c : After-test-v-3) → c.test-v-3.result ≡ first_of (arithmetic_tests (given c))
 unfolding first_behind
-tested c =         let e : c.test-v-3.result ≡ first_of (tests (given c) c.read-list.result (list_at_After_test_v_3 c) c.read-list.result.proper (get_or c.read-list.result.items 0 unset) (get_or c.read-list.result.items 1 unset)) = cc in
+tested c =
+    let e : c.test-v-3.result ≡ first_of (tests (given c) c.read-list.result (list_at_After_test_v_3 c) c.read-list.result.proper
+    (get_or c.read-list.result.items 0 unset) (get_or c.read-list.result.items 1 unset)) = cc in
     e ∙ judged (given c) c.read-list.result (list_at_After_test_v_3 c)
 
 tested_at_In_Accepted : (c : In-Accepted) → c.test-v-3.result ≡ first_of (arithmetic_tests (given_at_In_Accepted c))
 unfolding first_behind
-tested_at_In_Accepted c =         let e : c.test-v-3.result ≡ first_of (tests (given_at_In_Accepted c) c.read-list.result (list_at_In_Accepted c) c.read-list.result.proper (get_or c.read-list.result.items 0 unset) (get_or c.read-list.result.items 1 unset)) = cc in
+tested_at_In_Accepted c =
+    let e : c.test-v-3.result ≡ first_of (tests (given_at_In_Accepted c) c.read-list.result (list_at_In_Accepted c) c.read-list.result.proper
+    (get_or c.read-list.result.items 0 unset) (get_or c.read-list.result.items 1 unset)) = cc in
     e ∙ judged (given_at_In_Accepted c) c.read-list.result (list_at_In_Accepted c)
 
 -- where the tests passed
@@ -55,12 +58,26 @@ second-read : (c : In-Accepted) → get_or c.read-list.result.items 1 unset ≡ 
 second-read c = item-read _ _ (list_at_In_Accepted c) 1 (omega arith) (accepted-proper _ _ (list_at_In_Accepted c) (passed c))
 
 pub work-requires : goal.work-requires
-work-requires c = rw (first_read c, second-read c) (accepted-two (given (goal.at.work-requires c).In-Accepted) (passed c)).numbers
+work-requires c =
+    let p = (goal.at.work-requires c).In-Accepted in
+    rw (first_read p, second-read p) (accepted-two (given_at_In_Accepted p) (passed p)).numbers
 
 pub returns-in-Accepted : goal.returns-in-Accepted
-returns-in-Accepted c = let z = given (goal.at.returns-in-Accepted c).In-Accepted in let e : c.told.result ≡ result_of (worked_by c.args.operator (first_item z).size (second_item z).size) =
+returns-in-Accepted c =
+    let p = (goal.at.returns-in-Accepted c).In-Accepted in
+    let o = c.args.operator in
+    let z = given_at_In_Accepted p in
+    let e : c.told.result ≡ result_of (worked_by o (first_item z).size (second_item z).size) =
     c.told.ensures ∙ ap result_of c.work.ensures.value
-    ∙ ap₂ (λ a b. result_of (worked_by c.args.operator a.size b.size)) (first_read (goal.at.returns-in-Accepted c).After-work-arg-in-Accepted-1) (second-read (goal.at.returns-in-Accepted c).After-work-arg-in-Accepted-1) in record { result_value = ap worked_report e ∙ answered c.args.operator z (passed (goal.at.returns-in-Accepted c).After-work-arg-in-Accepted-1); logged = subst (Logged c.args.operator z) (sym e) (logged z (accepted-two z (passed (goal.at.returns-in-Accepted c).After-work-arg-in-Accepted-1)) c.args.operator) }
+    ∙ ap₂ (λ a b. result_of (worked_by o a.size b.size)) (first_read p) (second-read p) in
+    record {
+      result_value = ap worked_report e ∙ answered o z (passed p);
+      logged = subst (Logged o z) (sym e) (logged z (accepted-two z (passed p)) o);
+    }
 
 pub returns-in-Refused : goal.returns-in-Refused
-returns-in-Refused c = record { result_value = turned_down _ (given (goal.at.returns-in-Refused c).After-test-v-3) _ (sym (tested (goal.at.returns-in-Refused c).After-test-v-3) ∙ c.in-Refused.is); logged = tt }
+returns-in-Refused c = record {
+  result_value = turned_down _ (given (goal.at.returns-in-Refused c).After-test-v-3) _
+      (sym (tested (goal.at.returns-in-Refused c).After-test-v-3) ∙ c.in-Refused.is);
+  logged = tt;
+}

@@ -1,12 +1,8 @@
-use borrow.Author.Rules.{rules}
-use mathlib.Core.Path.{◌≡◌, refl, sym, ap, ◌∙◌}
+-- The invariant of `any_outside`: no item before k is outside.
+use mathlib.Core.Path.{◌≡◌}
 use Prim.Native.Nat.{◌-◌, ◌≤◌}
-use native.Mathlib.Omega.{arith}
-use lib.ListN.{length, drop, take}
+use lib.ListN.{drop, take}
 use Rattle.lists.specs.Lists.{any_outside}
-use Rattle.arrays.proofs.Fronts.{front-end}
-use Rattle.items.proofs.Fronts.{unset}
-use Rattle.lists.proofs.Fronts.{outside-here, outside-later}
 use Rattle.lists.proofs.any_outside.Given as goal
 
 abbrev pub invariant-loop-k : goal.invariant-loop-k

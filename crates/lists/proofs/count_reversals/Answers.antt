@@ -1,5 +1,4 @@
 -- `count_reversals` meets its contract: its one test is that of the definition, and a proper list's items are the first ones read.
-use borrow.Author.Rules.{rules}
 use mathlib.Core.Path.{◌≡◌, sym, ap, ◌∙◌}
 use mathlib.Core.Bool.{not}
 use mathlib.Core.List.{[], ◌∷◌}
@@ -25,8 +24,10 @@ tested : (c : After-test-verdict) → c.test-verdict.result ≡ when (not c.read
 tested c = c.test-verdict.ensures
 
 pub returns-in-Accepted : goal.returns-in-Accepted
-returns-in-Accepted c =         ap (λ (k : ℕ). accepted (pos k ∷ [])) c.count-found.ensures
-    ∙ reversals-counted _ _ (list (goal.at.returns-in-Accepted c).After-read-list) (sym (tested (goal.at.returns-in-Accepted c).After-test-verdict) ∙ c.in-Accepted.is)
+returns-in-Accepted c = ap (λ (k : ℕ). accepted (pos k ∷ [])) c.count-found.ensures
+    ∙ reversals-counted _ _ (list (goal.at.returns-in-Accepted c).After-read-list)
+    (sym (tested (goal.at.returns-in-Accepted c).After-test-verdict) ∙ c.in-Accepted.is)
 
 pub returns-in-Refused : goal.returns-in-Refused
-returns-in-Refused c =         reversals-refused _ _ (list (goal.at.returns-in-Refused c).After-read-list) _ (sym (tested (goal.at.returns-in-Refused c).After-test-verdict) ∙ c.in-Refused.is)
+returns-in-Refused c = reversals-refused _ _ (list (goal.at.returns-in-Refused c).After-read-list) _
+    (sym (tested (goal.at.returns-in-Refused c).After-test-verdict) ∙ c.in-Refused.is)

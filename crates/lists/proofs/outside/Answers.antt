@@ -1,6 +1,5 @@
 -- `outside` meets its contract.
 use borrow.Author.Tests.{eq-eqb, ne_eqb}
-use borrow.Author.Rules.{rules}
 use Rattle.lists.proofs.outside.Goals as goal
 
 pub returns-then-size-eq0 : goal.returns-then-size-eq0

@@ -18,15 +18,18 @@ use Rattle.lists.proofs.carrying.added.Goals.{After-times, Start}
 
 -- the items that are read
 to_is : (c : Start) → get_or c.args.v (c.args.to - 1) unset ≡ vector_of c.args.v c.args.to
-to_is c =     let e : length c.args.v ≡ 8 = search rules in
+to_is c =
+    let e : length c.args.v ≡ 8 = search rules in
     read-any c.args.v (c.args.to - 1) unset zero_signed (omega (arith, c.requires.le_to))
 
 from_is : (c : Start) → get_or c.args.v (c.args.from - 1) unset ≡ vector_of c.args.v c.args.from
-from_is c =     let e : length c.args.v ≡ 8 = search rules in
+from_is c =
+    let e : length c.args.v ≡ 8 = search rules in
     read-any c.args.v (c.args.from - 1) unset zero_signed (omega (arith, c.requires.le_to))
 
 from_is_at_After_times : (c : After-times) → get_or c.args.v (c.args.from - 1) unset ≡ vector_of c.args.v c.args.from
-from_is_at_After_times c =     let e : length c.args.v ≡ 8 = search rules in
+from_is_at_After_times c =
+    let e : length c.args.v ≡ 8 = search rules in
     read-any c.args.v (c.args.from - 1) unset zero_signed (omega (arith, c.requires.le_to))
 
 product_is : (c : After-times) →
@@ -35,14 +38,19 @@ product_is : (c : After-times) →
 product_is c = c.times.ensures ∙ ap (λ (x : Signed). signed_product x (plain c.args.w)) (from_is_at_After_times c)
 
 pub times-requires : goal.times-requires
-times-requires c =         (subst (SignedRanged reach) (sym (from_is (goal.at.times-requires c).Start)) (signed-ranged-more (omega arith) c.requires.signed_ranged.1), ranged-more (omega arith) c.requires.signed_ranged.2)
+times-requires c = (
+  subst (SignedRanged reach) (sym (from_is (goal.at.times-requires c).Start))
+      (signed-ranged-more (omega arith) c.requires.signed_ranged.1),
+  ranged-more (omega arith) c.requires.signed_ranged.2,
+)
 
 pub add-requires : goal.add-requires
-add-requires c =     (
-      subst (SignedRanged reach) (sym (to_is (goal.at.add-requires c).Start)) (signed-ranged-more (omega arith) c.requires.signed_ranged.0),
-      subst (SignedRanged reach) (sym (product_is c))
-          (signed-ranged-more (omega arith) (product-reach (omega arith) c.requires.signed_ranged.1 (signed-ranged-plain c.requires.signed_ranged.2))),
-    )
+add-requires c = (
+  subst (SignedRanged reach) (sym (to_is (goal.at.add-requires c).Start)) (signed-ranged-more (omega arith) c.requires.signed_ranged.0),
+  subst (SignedRanged reach) (sym (product_is c))
+      (signed-ranged-more (omega arith) (product-reach (omega arith) c.requires.signed_ranged.1 (signed-ranged-plain c.requires.signed_ranged.2))),
+)
 
 pub returns : goal.returns
-returns c =         ap (set c.args.v (c.args.to - 1)) (c.add.ensures ∙ ap₂ signed_sum (to_is (goal.at.returns c).Start) (product_is (goal.at.returns c).After-times))
+returns c = ap (set c.args.v (c.args.to - 1))
+    (c.add.ensures ∙ ap₂ signed_sum (to_is (goal.at.returns c).Start) (product_is (goal.at.returns c).After-times))

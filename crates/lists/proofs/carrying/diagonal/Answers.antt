@@ -1,7 +1,7 @@
 -- `diagonal` meets its contract. The invariant: the first k items are multiplied by their entries.
 use borrow.Author.Rules.{rules}
 use mathlib.Core.Path.{◌≡◌, sym, ap₂, ◌∙◌, subst}
-use Prim.Native.Nat.{ℕ, ◌+◌, ◌-◌, ◌*◌, ◌≤◌, ◌<◌}
+use Prim.Native.Nat.{ℕ, ◌+◌, ◌*◌, ◌<◌}
 use native.Mathlib.Omega.{arith}
 use lib.ListN.{length, get_or}
 use Rattle.number.specs.Number.{Ranged, reach}
@@ -22,13 +22,14 @@ loop-k-init c = (omega arith, scaled-none c.requires.items_ranged.0.eight)
 
 -- the entry read
 entry : (c : After-w-1) →
-        get_or c.args.b (c.loop-k.k * 9) absent ≡ factors_of c.args.b (c.loop-k.k + 1) (c.loop-k.k + 1)
-entry c =         let e : length c.args.b ≡ 64 = search rules in
+    get_or c.args.b (c.loop-k.k * 9) absent ≡ factors_of c.args.b (c.loop-k.k + 1) (c.loop-k.k + 1)
+entry c =
+    let e : length c.args.b ≡ 64 = search rules in
     entry-is c.args.b c.loop-k.k (omega (arith, c.loop-k-test.true, c.requires.n_bound)) e
 
 pub times-requires : goal.times-requires
-times-requires c =         let h : c.loop-k.k < c.args.n = c.loop-k-test.true in
-    (
+times-requires c =
+    let h : c.loop-k.k < c.args.n = c.loop-k-test.true in (
       subst (SignedRanged reach) (sym (scaled-old c.loop-k.invariant.1 (omega arith) unset))
           (signed-ranged-more (omega arith) (c.requires.items_ranged.0.ranged (c.loop-k.k + 1) (omega arith, omega arith))),
       subst (Ranged reach) (sym (entry c))
@@ -36,7 +37,8 @@ times-requires c =         let h : c.loop-k.k < c.args.n = c.loop-k-test.true in
     )
 
 pub loop-k-preserved : goal.loop-k-preserved
-loop-k-preserved c =         let h : c.loop-k.k < c.args.n = c.loop-k-test.true in (
+loop-k-preserved c =
+    let h : c.loop-k.k < c.args.n = c.loop-k-test.true in (
       omega arith,
       scaled-next c.loop-k.invariant.1 (omega (arith, c.requires.n_bound)) c.times.result
           (c.times.ensures ∙ ap₂ (λ (x : Signed) (w : Number). signed_product x (plain w))
@@ -44,6 +46,7 @@ loop-k-preserved c =         let h : c.loop-k.k < c.args.n = c.loop-k-test.true 
     )
 
 pub returns : goal.returns
-returns c =         let a = c.args in
+returns c =
+    let a = c.args in
     let e : c.loop-k.k ≡ a.n = omega (arith, c.loop-k.invariant.0, c.loop-k-test.false) in
     subst (λ (k : ℕ). Scaled k (factors_of a.b) a.v c.loop-k.u) e c.loop-k.invariant.1

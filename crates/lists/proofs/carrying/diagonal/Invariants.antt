@@ -1,18 +1,7 @@
-use borrow.Author.Rules.{rules}
-use mathlib.Core.Path.{◌≡◌, sym, ap₂, ◌∙◌, subst}
-use Prim.Native.Nat.{ℕ, ◌+◌, ◌-◌, ◌*◌, ◌≤◌, ◌<◌}
-use native.Mathlib.Omega.{arith}
-use lib.ListN.{length, get_or}
-use Rattle.number.specs.Number.{Ranged, reach}
-use Rattle.number.specs.Signed.{plain, signed_product, SignedRanged}
-use Rattle.number.specs.declared.Number.{Number}
-use Rattle.number.specs.declared.signed.Signed.{Signed}
-use Rattle.number.proofs.Reach.{ranged-more}
-use Rattle.number.proofs.SignedReach.{signed-ranged-more}
-use Rattle.table.specs.Table.{factors_of, absent}
+-- The invariant of `carrying::diagonal`: the first k items are multiplied by their entries.
+use Prim.Native.Nat.{◌-◌, ◌≤◌}
+use Rattle.table.specs.Table.{factors_of}
 use Rattle.lists.specs.Carrying.{Scaled}
-use Rattle.items.proofs.Fronts.{unset}
-use Rattle.lists.proofs.Scaled.{entry-is, scaled-none, scaled-old, scaled-next}
 use Rattle.lists.proofs.carrying.diagonal.Given as goal
 
 abbrev pub invariant-loop-k : goal.invariant-loop-k

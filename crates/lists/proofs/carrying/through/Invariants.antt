@@ -1,20 +1,10 @@
-use borrow.Author.Rules.{rules}
-use mathlib.Core.Path.{◌≡◌, sym, ap, ◌∙◌, subst}
-use Prim.Native.Nat.{ℕ, ◌+◌, ◌-◌, ◌*◌, ◌≤◌, ◌<◌}
-use native.Mathlib.Omega.{arith}
+-- The invariant of `carrying::through`: the items are carried through the letters from t on.
+use Prim.Native.Nat.{◌+◌, ◌*◌, ◌≤◌}
 use lib.ListN.{drop}
-use Rattle.number.specs.Signed.{zero_signed}
-use Rattle.words.specs.Word.{D}
 use Rattle.walk.specs.Letters.{middle}
 use Rattle.table.specs.Table.{factors_of}
-use Rattle.items.specs.Items.{ItemsRanged}
-use Rattle.items.proofs.Fronts.{items-ranged-more}
 use Rattle.lists.specs.Lists.{signed_word}
-use Rattle.lists.specs.Carrying.{Carries, letter_of, working_reach}
-use Rattle.lists.proofs.LetterReach.{ranged-letters, word-reach}
-use Rattle.lists.proofs.Carried.{carries-start, carries-letter, carries-ranged}
-use Rattle.lists.proofs.Spelled.{signed-length}
-use Rattle.lists.proofs.FirstItems.{carries-list}
+use Rattle.lists.specs.Carrying.{Carries}
 use Rattle.lists.proofs.carrying.through.Given as goal
 
 abbrev pub invariant-loop-t : goal.invariant-loop-t
