@@ -26,19 +26,28 @@ joined-requires-in-Converse c = rw c.one-in-Converse.ensures (c.requires, omega 
 
 pub returns-in-Product : goal.returns-in-Product
 unfolding forecast_call
-returns-in-Product c = record { result_value = (told (goal.at.returns-in-Product c).Start _ (rw c.two.ensures at c.joined.ensures ∙ sym (ap (forecast_call _) c.in-Product.is))).0; foretelling = (told (goal.at.returns-in-Product c).Start _ (rw c.two.ensures at c.joined.ensures ∙ sym (ap (forecast_call _) c.in-Product.is))).1 }
+returns-in-Product c =
+    let met = told (goal.at.returns-in-Product c).Start _ (rw c.two.ensures at c.joined.ensures ∙ sym (ap (forecast_call _) c.in-Product.is)) in
+    record { result_value = met.0; foretelling = met.1 }
 
 pub returns-in-Inverse : goal.returns-in-Inverse
 unfolding forecast_call
-returns-in-Inverse c = record { result_value = (told (goal.at.returns-in-Inverse c).Start _ (rw c.one.ensures at c.joined-in-Inverse.ensures ∙ sym (ap (forecast_call _) c.in-Inverse.is))).0; foretelling = (told (goal.at.returns-in-Inverse c).Start _ (rw c.one.ensures at c.joined-in-Inverse.ensures ∙ sym (ap (forecast_call _) c.in-Inverse.is))).1 }
+returns-in-Inverse c =
+    let met = told (goal.at.returns-in-Inverse c).Start _ (rw c.one.ensures at c.joined-in-Inverse.ensures ∙ sym (ap (forecast_call _) c.in-Inverse.is)) in
+    record { result_value = met.0; foretelling = met.1 }
 
 pub returns-in-Converse : goal.returns-in-Converse
 unfolding forecast_call
-returns-in-Converse c = record { result_value = (told (goal.at.returns-in-Converse c).Start _ (rw c.one-in-Converse.ensures at c.joined-in-Converse.ensures ∙ sym (ap (forecast_call _) c.in-Converse.is))).0; foretelling = (told (goal.at.returns-in-Converse c).Start _ (rw c.one-in-Converse.ensures at c.joined-in-Converse.ensures ∙ sym (ap (forecast_call _) c.in-Converse.is))).1 }
+returns-in-Converse c =
+    let met =
+    told (goal.at.returns-in-Converse c).Start _ (rw c.one-in-Converse.ensures at c.joined-in-Converse.ensures ∙ sym (ap (forecast_call _) c.in-Converse.is)) in
+    record { result_value = met.0; foretelling = met.1 }
 
 pub returns-in-Transpose : goal.returns-in-Transpose
 unfolding forecast_call
-returns-in-Transpose c = record { result_value = (told (goal.at.returns-in-Transpose c).Start _ (c.transpose.ensures ∙ sym (ap (forecast_call _) c.in-Transpose.is))).0; foretelling = (told (goal.at.returns-in-Transpose c).Start _ (c.transpose.ensures ∙ sym (ap (forecast_call _) c.in-Transpose.is))).1 }
+returns-in-Transpose c =
+    let met = told (goal.at.returns-in-Transpose c).Start _ (c.transpose.ensures ∙ sym (ap (forecast_call _) c.in-Transpose.is)) in
+    record { result_value = met.0; foretelling = met.1 }
 
 pub returns-in-Submatrix : goal.returns-in-Submatrix
 unfolding forecast_call
@@ -55,4 +64,6 @@ returns-in-Submatrix c = record {
 
 pub returns-in-Schur : goal.returns-in-Schur
 unfolding forecast_call
-returns-in-Schur c = record { result_value = (told (goal.at.returns-in-Schur c).Start _ (c.schur.ensures ∙ sym (ap (forecast_call _) c.in-Schur.is))).0; foretelling = (told (goal.at.returns-in-Schur c).Start _ (c.schur.ensures ∙ sym (ap (forecast_call _) c.in-Schur.is))).1 }
+returns-in-Schur c =
+    let met = told (goal.at.returns-in-Schur c).Start _ (c.schur.ensures ∙ sym (ap (forecast_call _) c.in-Schur.is)) in
+    record { result_value = met.0; foretelling = met.1 }

@@ -24,7 +24,9 @@ told b f e = (e, recipe-tells b.args.shelf b.requires b.args.recipe (long b) f e
 
 pub returns-then-miscounted : goal.returns-then-miscounted
 unfolding recipe_forecast
-returns-then-miscounted c = record { result_value = (told (goal.at.returns-then-miscounted c).Start _ (told-refused _ _ _ (when-refused 18 _ (sym c.miscounted.ensures ∙ c.if-miscounted.true)))).0; foretelling = (told (goal.at.returns-then-miscounted c).Start _ (told-refused _ _ _ (when-refused 18 _ (sym c.miscounted.ensures ∙ c.if-miscounted.true)))).1 }
+returns-then-miscounted c =
+    let met = told (goal.at.returns-then-miscounted c).Start _ (told-refused _ _ _ (when-refused 18 _ (sym c.miscounted.ensures ∙ c.if-miscounted.true))) in
+    record { result_value = met.0; foretelling = met.1 }
 
 pub joined-requires : goal.joined-requires
 joined-requires c = let h = counted c.args.recipe.count (sym c.miscounted.ensures ∙ c.if-miscounted.false) in
@@ -32,4 +34,6 @@ joined-requires c = let h = counted c.args.recipe.count (sym c.miscounted.ensure
 
 pub returns : goal.returns
 unfolding recipe_forecast
-returns c = record { result_value = (told (goal.at.returns c).Start _ (c.joined.ensures ∙ told-behind _ 18 _ (sym c.miscounted.ensures ∙ c.if-miscounted.false))).0; foretelling = (told (goal.at.returns c).Start _ (c.joined.ensures ∙ told-behind _ 18 _ (sym c.miscounted.ensures ∙ c.if-miscounted.false))).1 }
+returns c =
+    let met = told (goal.at.returns c).Start _ (c.joined.ensures ∙ told-behind _ 18 _ (sym c.miscounted.ensures ∙ c.if-miscounted.false)) in
+    record { result_value = met.0; foretelling = met.1 }

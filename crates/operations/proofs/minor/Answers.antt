@@ -84,7 +84,10 @@ pub exponent-requires : goal.exponent-requires
 exponent-requires c = in-range-small _ (ranged c)
 
 pub returns : goal.returns
-returns c = let a = c.args in
+returns c =
+    let a = c.args in
     let f : SFits w64 c.exponent.result = record { sfits = c.exponent.type_inv } in
-    ap₂ (λ (x : Number) (e' : ℤ). let r : Report = valued_report (Value x.m e') in r) (value (goal.at.returns c).After-minor-a) (to_z-of_z f ∙ c.exponent.ensures ∙ ap exponent_of (value (goal.at.returns c).After-minor-a))
-    ∙ minor-done a.shelf a.place a.rows a.columns (passed (goal.at.returns c).In_default) (sym (ap in_range (value (goal.at.returns c).After-minor-a)) ∙ ranged (goal.at.returns c).Else-not-in_range)
+    ap₂ (λ (x : Number) (e' : ℤ). let r : Report = valued_report (Value x.m e') in r) (value (goal.at.returns c).After-minor-a)
+    (to_z-of_z f ∙ c.exponent.ensures ∙ ap exponent_of (value (goal.at.returns c).After-minor-a))
+    ∙ minor-done a.shelf a.place a.rows a.columns (passed (goal.at.returns c).In_default)
+    (sym (ap in_range (value (goal.at.returns c).After-minor-a)) ∙ ranged (goal.at.returns c).Else-not-in_range)

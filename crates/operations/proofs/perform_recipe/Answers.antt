@@ -18,14 +18,13 @@ long c = search (rules, length-mapped)
 
 pub returns-then-miscounted : goal.returns-then-miscounted
 unfolding kept
-returns-then-miscounted c = let a = c.args in let ready = recipe-ready a.shelf c.requires a.recipe a.target (long (goal.at.returns-then-miscounted c).Start) in record {
-  result_value = (operation-done _ a.target _ _ ready a.shelf c.requires (turned_down (record { number = 18; offset = 0 })) _
-      (operation-turned _ a.target _ _ ready _ (when-refused 18 _ (sym c.miscounted.ensures ∙ c.if-miscounted.true))) (refl, c.requires)).0;
-  good = (operation-done _ a.target _ _ ready a.shelf c.requires (turned_down (record { number = 18; offset = 0 })) _
-      (operation-turned _ a.target _ _ ready _ (when-refused 18 _ (sym c.miscounted.ensures ∙ c.if-miscounted.true))) (refl, c.requires)).1.0;
-  promised = (operation-done _ a.target _ _ ready a.shelf c.requires (turned_down (record { number = 18; offset = 0 })) _
-      (operation-turned _ a.target _ _ ready _ (when-refused 18 _ (sym c.miscounted.ensures ∙ c.if-miscounted.true))) (refl, c.requires)).1.1;
-}
+returns-then-miscounted c =
+    let a = c.args in
+    let ready = recipe-ready a.shelf c.requires a.recipe a.target (long (goal.at.returns-then-miscounted c).Start) in
+    let met =
+    operation-done _ a.target _ _ ready a.shelf c.requires (turned_down (record { number = 18; offset = 0 })) _
+    (operation-turned _ a.target _ _ ready _ (when-refused 18 _ (sym c.miscounted.ensures ∙ c.if-miscounted.true))) (refl, c.requires) in
+    record { result_value = met.0; good = met.1.0; promised = met.1.1 }
 
 pub joined-requires : goal.joined-requires
 joined-requires c = let h = counted c.args.recipe.count (sym c.miscounted.ensures ∙ c.if-miscounted.false) in

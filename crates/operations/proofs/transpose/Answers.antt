@@ -7,4 +7,7 @@ pub keep-requires : goal.keep-requires
 keep-requires c = (c.requires, c.transposed.ensures.keepable)
 
 pub returns : goal.returns
-returns c = let a = c.args in record { result_value = (transpose-kept a.shelf a.source a.target _ _ c.transposed.ensures.value (c.keep.ensures.value, c.keep.ensures.good)).0; good = (transpose-kept a.shelf a.source a.target _ _ c.transposed.ensures.value (c.keep.ensures.value, c.keep.ensures.good)).1 }
+returns c =
+    let a = c.args in
+    let met = transpose-kept a.shelf a.source a.target _ _ c.transposed.ensures.value (c.keep.ensures.value, c.keep.ensures.good) in
+    record { result_value = met.0; good = met.1 }

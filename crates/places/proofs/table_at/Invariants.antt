@@ -1,3 +1,4 @@
+-- The loop of `table_at`: the first k numbers of the place are read, and how many are left.
 use Rattle.table.specs.Table.{absent}
 use Rattle.arrays.proofs.Structs.{length-mapped}
 use Prim.Native.Nat.{◌+◌, ◌*◌, ◌-◌}

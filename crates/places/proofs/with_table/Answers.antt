@@ -30,5 +30,12 @@ loop-k-preserved c = let a = c.args in
 
 pub returns : goal.returns
 unfolding with_table
-returns c = let a = c.args in let l = c.loop-k in let e : l.k ≡ 64 = omega arith in let t : take l.k a.t ≡ a.t = take_all l.k a.t (search rules) in let same : _ ≡ with_table a.shelf a.place a.n a.t =
-    shelf-fields _ _ (l.invariant.1 ∙ ap (sets a.shelf.numbers (a.place * 64)) t) (ap (λ (x : List ℕ). set x a.place a.n) l.invariant.2) in let p = c.requires in record { value = same; good = subst Good (sym same) (good-put a.shelf p.0 a.place a.n a.t p.1 p.2) }
+returns c =
+    let a = c.args in
+    let l = c.loop-k in
+    let e : l.k ≡ 64 = omega arith in
+    let t : take l.k a.t ≡ a.t = take_all l.k a.t (search rules) in
+    let same : _ ≡ with_table a.shelf a.place a.n a.t =
+    shelf-fields _ _ (l.invariant.1 ∙ ap (sets a.shelf.numbers (a.place * 64)) t) (ap (λ (x : List ℕ). set x a.place a.n) l.invariant.2) in
+    let p = c.requires in
+    record { value = same; good = subst Good (sym same) (good-put a.shelf p.0 a.place a.n a.t p.1 p.2) }

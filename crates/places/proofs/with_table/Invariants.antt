@@ -1,3 +1,4 @@
+-- The loop of `with_table`: the first k numbers of the table are put, and the sizes are as they were; how many are left.
 use Prim.Native.Nat.{ℕ, ◌+◌, ◌*◌, ◌-◌, ◌≤◌}
 use native.Mathlib.Omega.{arith}
 use mathlib.Core.Path.{◌≡◌, refl, sym, ap, subst, ◌∙◌}
@@ -14,7 +15,8 @@ use borrow.Author.Rules.{rules}
 use Rattle.places.proofs.with_table.Given as goal
 
 abbrev pub invariant-loop-k : goal.invariant-loop-k
-invariant-loop-k l = (l.k ≤ 64) × (l.left.numbers ≡ sets l.initial.left.numbers (l.place * 64) (take l.k l.t)) × (l.left.sizes ≡ l.initial.left.sizes) × (length l.initial.left.numbers ≡ 512)
+invariant-loop-k l =
+    (l.k ≤ 64) × (l.left.numbers ≡ sets l.initial.left.numbers (l.place * 64) (take l.k l.t)) × (l.left.sizes ≡ l.initial.left.sizes) × (length l.initial.left.numbers ≡ 512)
 
 abbrev pub decreases-loop-k : goal.decreases-loop-k
 decreases-loop-k l = 64 - l.k

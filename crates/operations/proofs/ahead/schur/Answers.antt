@@ -50,4 +50,6 @@ pub of_sizes-requires : goal.of_sizes-requires
 of_sizes-requires c = let r = rows c in (omega arith, omega (arith, r.1), r.2, omega (arith, r.1, r.2))
 
 pub returns : goal.returns
-returns c = told-steps _ _ _ (passed (goal.at.returns c).In_default) (c.of_sizes.ensures ∙ ap (λ (n : ℕ). result_steps (λ p. minor_foretold 1 n (c.args.k + p)) (n - c.args.k)) (rows (goal.at.returns c).In_default).0)
+returns c =
+    told-steps _ _ _ (passed (goal.at.returns c).In_default) (c.of_sizes.ensures
+    ∙ ap (λ (n : ℕ). result_steps (λ p. minor_foretold 1 n (c.args.k + p)) (n - c.args.k)) (rows (goal.at.returns c).In_default).0)

@@ -48,7 +48,12 @@ pub returns-in-Refused : goal.returns-in-Refused
 returns-in-Refused c = told-refused _ _ _ (sym (tested (goal.at.returns-in-Refused c).After-test-v) ∙ c.in-Refused.is)
 
 pub of_sizes-requires : goal.of_sizes-requires
-of_sizes-requires c = (omega arith, omega (arith, c.rows_at-n.ensures, (fit (goal.at.of_sizes-requires c).In_default).0.some), omega (arith, c.rows_at-n.ensures, few (goal.at.of_sizes-requires c).In_default), omega (arith, c.count.ensures.upper_bound))
+of_sizes-requires c = (
+  omega arith,
+  omega (arith, c.rows_at-n.ensures, (fit (goal.at.of_sizes-requires c).In_default).0.some),
+  omega (arith, c.rows_at-n.ensures, few (goal.at.of_sizes-requires c).In_default),
+  omega (arith, c.count.ensures.upper_bound),
+)
 
 pub returns : goal.returns
 returns c = told-steps _ _ _ (passed (goal.at.returns c).In_default)

@@ -1,3 +1,4 @@
+-- The loop of `effort::of_sizes`: the first p terms of the sum, which stays small, and how many are left.
 use borrow.Author.Rules.{rules}
 use mathlib.Core.Path.{◌≡◌, refl, sym, ap, ◌∙◌}
 use Prim.Native.Nat.{ℕ, ◌+◌, ◌-◌, ◌*◌, ◌≤◌}

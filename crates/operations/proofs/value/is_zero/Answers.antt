@@ -22,7 +22,11 @@ pub put_step-plain-requires : goal.put_step-plain-requires
 put_step-plain-requires c = made-ready (made_none c.no_steps-none.ensures) c.requires.le_n.0 c.requires.le_n.1 (omega arith)
 
 pub present-held-requires : goal.present-held-requires
-present-held-requires c = let made = made-next (step_of Plain c.args.factors) (made_none c.no_steps-none.ensures) (c.put_step-plain.ensures.prepared, c.put_step-plain.ensures.b_after) in record { le_n = (made_told made c.args.j c.requires.le_n.0 c.requires.le_n.1 (omega arith) c.requires.i_bound.1 (c.requires.le_n.2, tt)).0; sources = (made_told made c.args.j c.requires.le_n.0 c.requires.le_n.1 (omega arith) c.requires.i_bound.1 (c.requires.le_n.2, tt)).1 }
+present-held-requires c =
+    let made =
+    made-next (step_of Plain c.args.factors) (made_none c.no_steps-none.ensures) (c.put_step-plain.ensures.prepared, c.put_step-plain.ensures.b_after) in
+    let met = made_told made c.args.j c.requires.le_n.0 c.requires.le_n.1 (omega arith) c.requires.i_bound.1 (c.requires.le_n.2, tt) in
+    record { le_n = met.0; sources = met.1 }
 
 pub bounds-held-i : goal.bounds-held-i
 bounds-held-i c = let h : 2 ^ c.args.n ≤ 2 ^ 8 = pow_mono c.requires.le_n.1 in
@@ -30,9 +34,11 @@ bounds-held-i c = let h : 2 ^ c.args.n ≤ 2 ^ 8 = pow_mono c.requires.le_n.1 in
 
 pub returns : goal.returns
 unfolding held_at joined_word
-returns c = let a = c.args in
+returns c =
+    let a = c.args in
     let made = made-next (step_of Plain a.factors) (made_none c.no_steps-none.ensures) (c.put_step-plain.ensures.prepared, c.put_step-plain.ensures.b_after) in
     let n = made.rows_are in
-    let told = told-whole c.put_step-plain.result.n a.i a.j _ c.present-held.result (rw n c.requires.le_n.1) (rw n c.requires.i_bound.0) (rw n c.requires.i_bound.1)
+    let told =
+    told-whole c.put_step-plain.result.n a.i a.j _ c.present-held.result (rw n c.requires.le_n.1) (rw n c.requires.i_bound.0) (rw n c.requires.i_bound.1)
     c.requires.i_bound.2 c.present-held.ensures in
     ap not (told ∙ ap nonzero (made-minor made a.i a.j)) ∙ twice _

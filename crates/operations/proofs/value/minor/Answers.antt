@@ -12,7 +12,12 @@ pub put_step-plain-requires : goal.put_step-plain-requires
 put_step-plain-requires c = made-ready (made_none c.no_steps-none.ensures) c.requires.le_n.0 c.requires.le_n.1 (omega arith)
 
 pub minor-worked-requires : goal.minor-worked-requires
-minor-worked-requires c = let made = made-next (step_of Plain c.args.factors) (made_none c.no_steps-none.ensures) (c.put_step-plain.ensures.prepared, c.put_step-plain.ensures.b_after) in record { le_n = (made-asked made c.args.i c.args.j c.requires.le_n.0 c.requires.le_n.1 (omega arith) c.requires.i_bound (c.requires.le_n.2, tt) c.tables-tables.ensures).0; i_bound = (made-asked made c.args.i c.args.j c.requires.le_n.0 c.requires.le_n.1 (omega arith) c.requires.i_bound (c.requires.le_n.2, tt) c.tables-tables.ensures).1.0; sources = (made-asked made c.args.i c.args.j c.requires.le_n.0 c.requires.le_n.1 (omega arith) c.requires.i_bound (c.requires.le_n.2, tt) c.tables-tables.ensures).1.1.0; tables = (made-asked made c.args.i c.args.j c.requires.le_n.0 c.requires.le_n.1 (omega arith) c.requires.i_bound (c.requires.le_n.2, tt) c.tables-tables.ensures).1.1.1 }
+minor-worked-requires c =
+    let made =
+    made-next (step_of Plain c.args.factors) (made_none c.no_steps-none.ensures) (c.put_step-plain.ensures.prepared, c.put_step-plain.ensures.b_after) in
+    let met =
+    made-asked made c.args.i c.args.j c.requires.le_n.0 c.requires.le_n.1 (omega arith) c.requires.i_bound (c.requires.le_n.2, tt) c.tables-tables.ensures in
+    record { le_n = met.0; i_bound = met.1.0; sources = met.1.1.0; tables = met.1.1.1 }
 
 pub returns : goal.returns
 unfolding joined_word

@@ -14,11 +14,18 @@ unfolding first_behind
 judged c = c.test-v.ensures ∙ ap₂ (λ v b. or_else v (when b 15)) c.target-v.ensures c.mistimed.ensures
 
 pub returns-in-Refused : goal.returns-in-Refused
-returns-in-Refused c = let a = c.args in record { value = (build-turned a.shelf a.target a.stamps.now _ _ (sym (judged (goal.at.returns-in-Refused c).After-test-v) ∙ c.in-Refused.is) c.turned_down.ensures).0; keepable = (build-turned a.shelf a.target a.stamps.now _ _ (sym (judged (goal.at.returns-in-Refused c).After-test-v) ∙ c.in-Refused.is) c.turned_down.ensures).1 }
+returns-in-Refused c =
+    let a = c.args in
+    let met =
+    build-turned a.shelf a.target a.stamps.now _ _ (sym (judged (goal.at.returns-in-Refused c).After-test-v) ∙ c.in-Refused.is) c.turned_down.ensures in
+    record { value = met.0; keepable = met.1 }
 
 pub table-factors-requires : goal.table-factors-requires
 table-factors-requires c = let a = c.args in
     (build-accepted a.shelf a.target a.stamps.now (sym (judged (goal.at.table-factors-requires c).After-test-v) ∙ c.in_default.is)).1
 
 pub returns : goal.returns
-returns c = let a = c.args in record { value = (build-worked a.shelf a.target a.stamps.now _ (sym (judged (goal.at.returns c).After-test-v) ∙ c.in_default.is) c.table-factors.ensures).0; keepable = (build-worked a.shelf a.target a.stamps.now _ (sym (judged (goal.at.returns c).After-test-v) ∙ c.in_default.is) c.table-factors.ensures).1 }
+returns c =
+    let a = c.args in
+    let met = build-worked a.shelf a.target a.stamps.now _ (sym (judged (goal.at.returns c).After-test-v) ∙ c.in_default.is) c.table-factors.ensures in
+    record { value = met.0; keepable = met.1 }

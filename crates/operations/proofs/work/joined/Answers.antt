@@ -35,7 +35,9 @@ ready-where c e = let a = c.args in joined-ready a.shelf a.recipe (long c) c.req
 ready-where_at_After_rows_at_n : (c : After-rows_at-n)
     → (let a = c.args in first_of (sources_to (rows_at a.shelf) (places_in a.recipe) a.target) ≡ Accepted
     → Ready a.target (joined_rows a.shelf a.recipe) (joined_at a.shelf a.recipe))
-ready-where_at_After_rows_at_n c e = let a = c.args in joined-ready a.shelf a.recipe (long_at_After_rows_at_n c) c.requires.1 c.requires.2 a.target e c.requires.0
+ready-where_at_After_rows_at_n c e =
+    let a = c.args in
+    joined-ready a.shelf a.recipe (long_at_After_rows_at_n c) c.requires.1 c.requires.2 a.target e c.requires.0
 
 ready-where_at_In_default : (c : In_default)
     → (let a = c.args in first_of (sources_to (rows_at a.shelf) (places_in a.recipe) a.target) ≡ Accepted
@@ -68,24 +70,37 @@ returns-in-Refused c = record {
 }
 
 pub put_steps-word-requires : goal.put_steps-word-requires
-put_steps-word-requires c = let a = c.args in let z = size (goal.at.put_steps-word-requires c).After-rows_at-n in record { le_n = (z.0, z.1, c.requires.2, joined_small a.shelf a.recipe (long (goal.at.put_steps-word-requires c).Start) c.requires.1 c.requires.2 a.target (accepted (goal.at.put_steps-word-requires c).In_default)); l_len = (refl, refl) }
+put_steps-word-requires c =
+    let a = c.args in
+    let z = size (goal.at.put_steps-word-requires c).After-rows_at-n in
+    record {
+      le_n = (
+        z.0,
+        z.1,
+        c.requires.2,
+        joined_small a.shelf a.recipe (long (goal.at.put_steps-word-requires c).Start) c.requires.1 c.requires.2 a.target
+            (accepted (goal.at.put_steps-word-requires c).In_default),
+      );
+      l_len = (refl, refl);
+    }
 
 pub run-all-requires : goal.run-all-requires
 run-all-requires c = (omega arith, (size (goal.at.run-all-requires c).After-rows_at-n).1)
 
 pub work-requires : goal.work-requires
-work-requires c = let a = c.args in
+work-requires c =
+    let a = c.args in
     run-proper a.target (joined_rows a.shelf a.recipe) (joined_at a.shelf a.recipe) (rw c.rows_at-n.ensures at c.put_steps-word.ensures)
-    (all-sets _ _ _ (ready (goal.at.work-requires c).In_default).few (rw c.rows_at-n.ensures at c.run-all.ensures.value)) (ready (goal.at.work-requires c).In_default)
+    (all-sets _ _ _ (ready (goal.at.work-requires c).In_default).few (rw c.rows_at-n.ensures at c.run-all.ensures.value))
+    (ready (goal.at.work-requires c).In_default)
 
 pub returns : goal.returns
-returns c = let a = c.args in record {
-  value = (answered-ranged _ a.target _ _ (ready-where (goal.at.returns c).Start) _ _ (accepted (goal.at.returns c).In_default)
-      (c.work.ensures
-      ∙ run-result a.target (joined_rows a.shelf a.recipe) (joined_at a.shelf a.recipe) (rw c.rows_at-n.ensures at c.put_steps-word.ensures)
-      (all-sets _ _ _ (ready (goal.at.returns c).In_default).few (rw c.rows_at-n.ensures at c.run-all.ensures.value)) (ready (goal.at.returns c).In_default)) c.ranged.ensures).0;
-  keepable = (answered-ranged _ a.target _ _ (ready-where (goal.at.returns c).Start) _ _ (accepted (goal.at.returns c).In_default)
-      (c.work.ensures
-      ∙ run-result a.target (joined_rows a.shelf a.recipe) (joined_at a.shelf a.recipe) (rw c.rows_at-n.ensures at c.put_steps-word.ensures)
-      (all-sets _ _ _ (ready (goal.at.returns c).In_default).few (rw c.rows_at-n.ensures at c.run-all.ensures.value)) (ready (goal.at.returns c).In_default)) c.ranged.ensures).1;
-}
+returns c =
+    let a = c.args in
+    let met =
+    answered-ranged _ a.target _ _ (ready-where (goal.at.returns c).Start) _ _ (accepted (goal.at.returns c).In_default)
+    (c.work.ensures
+    ∙ run-result a.target (joined_rows a.shelf a.recipe) (joined_at a.shelf a.recipe) (rw c.rows_at-n.ensures at c.put_steps-word.ensures)
+    (all-sets _ _ _ (ready (goal.at.returns c).In_default).few (rw c.rows_at-n.ensures at c.run-all.ensures.value)) (ready (goal.at.returns c).In_default))
+    c.ranged.ensures in
+    record { value = met.0; keepable = met.1 }

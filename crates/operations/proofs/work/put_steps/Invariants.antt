@@ -1,3 +1,4 @@
+-- The loop of `put_steps`: the first c steps are put (`Put`), and how many are left.
 use Prim.Native.Nat.{◌-◌, ◌≤◌}
 use native.Mathlib.Omega.{arith}
 use mathlib.Core.Path.{◌≡◌}

@@ -81,7 +81,11 @@ rows_at_After_run_all c = let r = ready_at_After_run_all c in
     (c.rows_at-n.ensures, omega (arith, c.rows_at-n.ensures, r.some), omega (arith, c.rows_at-n.ensures, r.few))
 
 pub returns-in-Refused : goal.returns-in-Refused
-returns-in-Refused c = record { value = (answered-turned _ c.args.target _ _ (ready-where (goal.at.returns-in-Refused c).Start) _ _ (sym (tested (goal.at.returns-in-Refused c).After-test-v) ∙ c.in-Refused.is) c.turned_down.ensures).0; keepable = (answered-turned _ c.args.target _ _ (ready-where (goal.at.returns-in-Refused c).Start) _ _ (sym (tested (goal.at.returns-in-Refused c).After-test-v) ∙ c.in-Refused.is) c.turned_down.ensures).1 }
+returns-in-Refused c =
+    let met =
+    answered-turned _ c.args.target _ _ (ready-where (goal.at.returns-in-Refused c).Start) _ _
+    (sym (tested (goal.at.returns-in-Refused c).After-test-v) ∙ c.in-Refused.is) c.turned_down.ensures in
+    record { value = met.0; keepable = met.1 }
 
 pub table_at-b-requires : goal.table_at-b-requires
 table_at-b-requires c = let a = c.args in (one-accepted a.shelf a.source a.target (some c).0).0.small
@@ -99,17 +103,23 @@ sets : (c : After-run-all) → (let a = c.args in
 sets c = schur-sets _ _ _ _ (ready_at_After_run_all c).few (some_at_After_run_all c).1.1 (rw (rows_at_After_run_all c).0 at c.run-all.ensures.value)
 
 pub work-requires : goal.work-requires
-work-requires c = let a = c.args in
-    let made = made-next (step_of Plain c.table_at-b.result) (made_none c.no_steps-none.ensures) (c.put_step-plain.ensures.prepared, c.put_step-plain.ensures.b_after) in
+work-requires c =
+    let a = c.args in
+    let made =
+    made-next (step_of Plain c.table_at-b.result) (made_none c.no_steps-none.ensures) (c.put_step-plain.ensures.prepared, c.put_step-plain.ensures.b_after) in
     run-proper a.target (rows_at a.shelf a.source) (schur_at a.shelf a.source a.k)
-    (rw ((rows (goal.at.work-requires c).In_default).0, c.table_at-b.ensures) at made) (sets (goal.at.work-requires c).After-run-all) (ready (goal.at.work-requires c).In_default)
+    (rw ((rows (goal.at.work-requires c).In_default).0, c.table_at-b.ensures) at made) (sets (goal.at.work-requires c).After-run-all)
+    (ready (goal.at.work-requires c).In_default)
 
 pub returns : goal.returns
-returns c = let a = c.args in let made = made-next (step_of Plain c.table_at-b.result) (made_none c.no_steps-none.ensures) (c.put_step-plain.ensures.prepared, c.put_step-plain.ensures.b_after) in record {
-  value = (answered-ranged _ a.target _ _ (ready-where (goal.at.returns c).Start) _ _ (accepted (goal.at.returns c).In_default)
-      (c.work.ensures ∙ run-result a.target (rows_at a.shelf a.source) (schur_at a.shelf a.source a.k)
-      (rw ((rows (goal.at.returns c).In_default).0, c.table_at-b.ensures) at made) (sets (goal.at.returns c).After-run-all) (ready (goal.at.returns c).In_default)) c.ranged.ensures).0;
-  keepable = (answered-ranged _ a.target _ _ (ready-where (goal.at.returns c).Start) _ _ (accepted (goal.at.returns c).In_default)
-      (c.work.ensures ∙ run-result a.target (rows_at a.shelf a.source) (schur_at a.shelf a.source a.k)
-      (rw ((rows (goal.at.returns c).In_default).0, c.table_at-b.ensures) at made) (sets (goal.at.returns c).After-run-all) (ready (goal.at.returns c).In_default)) c.ranged.ensures).1;
-}
+returns c =
+    let a = c.args in
+    let made =
+    made-next (step_of Plain c.table_at-b.result) (made_none c.no_steps-none.ensures) (c.put_step-plain.ensures.prepared, c.put_step-plain.ensures.b_after) in
+    let met =
+    answered-ranged _ a.target _ _ (ready-where (goal.at.returns c).Start) _ _ (accepted (goal.at.returns c).In_default)
+    (c.work.ensures
+    ∙ run-result a.target (rows_at a.shelf a.source) (schur_at a.shelf a.source a.k)
+    (rw ((rows (goal.at.returns c).In_default).0, c.table_at-b.ensures) at made) (sets (goal.at.returns c).After-run-all)
+    (ready (goal.at.returns c).In_default)) c.ranged.ensures in
+    record { value = met.0; keepable = met.1 }

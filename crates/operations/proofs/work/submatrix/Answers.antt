@@ -62,19 +62,21 @@ sets : (c : In_default)
 sets c = let f = (fit c).1 in chosen-sets _ _ _ _ (ready c).few f.rows f.columns f.counts
 
 pub work-requires : goal.work-requires
-work-requires c = let a = c.args in
-    let made = made-next (step_of Plain c.table_at-b.result) (made_none c.no_steps-none.ensures) (c.put_step-word.ensures.prepared, c.put_step-word.ensures.b_after) in
-    run-proper a.target (rows_at a.shelf a.source) (submatrix_at a.shelf a.source a.rows a.columns)
-    (rw (c.rows_at-n.ensures, c.table_at-b.ensures) at made) (sets (goal.at.work-requires c).In_default) (ready (goal.at.work-requires c).In_default)
+work-requires c =
+    let a = c.args in
+    let made =
+    made-next (step_of Plain c.table_at-b.result) (made_none c.no_steps-none.ensures) (c.put_step-word.ensures.prepared, c.put_step-word.ensures.b_after) in
+    run-proper a.target (rows_at a.shelf a.source) (submatrix_at a.shelf a.source a.rows a.columns) (rw (c.rows_at-n.ensures, c.table_at-b.ensures) at made)
+    (sets (goal.at.work-requires c).In_default) (ready (goal.at.work-requires c).In_default)
 
 pub returns : goal.returns
-returns c = let a = c.args in let made = made-next (step_of Plain c.table_at-b.result) (made_none c.no_steps-none.ensures) (c.put_step-word.ensures.prepared, c.put_step-word.ensures.b_after) in record {
-  value = (answered-ranged _ a.target _ _ (submatrix-ready a.shelf c.requires.0 a.source a.rows a.columns a.target) _ _
-      (accepted (goal.at.returns c).In_default)
-      (c.work.ensures ∙ run-result a.target (rows_at a.shelf a.source) (submatrix_at a.shelf a.source a.rows a.columns)
-      (rw (c.rows_at-n.ensures, c.table_at-b.ensures) at made) (sets (goal.at.returns c).In_default) (ready (goal.at.returns c).In_default)) c.ranged.ensures).0;
-  keepable = (answered-ranged _ a.target _ _ (submatrix-ready a.shelf c.requires.0 a.source a.rows a.columns a.target) _ _
-      (accepted (goal.at.returns c).In_default)
-      (c.work.ensures ∙ run-result a.target (rows_at a.shelf a.source) (submatrix_at a.shelf a.source a.rows a.columns)
-      (rw (c.rows_at-n.ensures, c.table_at-b.ensures) at made) (sets (goal.at.returns c).In_default) (ready (goal.at.returns c).In_default)) c.ranged.ensures).1;
-}
+returns c =
+    let a = c.args in
+    let made =
+    made-next (step_of Plain c.table_at-b.result) (made_none c.no_steps-none.ensures) (c.put_step-word.ensures.prepared, c.put_step-word.ensures.b_after) in
+    let met =
+    answered-ranged _ a.target _ _ (submatrix-ready a.shelf c.requires.0 a.source a.rows a.columns a.target) _ _ (accepted (goal.at.returns c).In_default)
+    (c.work.ensures
+    ∙ run-result a.target (rows_at a.shelf a.source) (submatrix_at a.shelf a.source a.rows a.columns) (rw (c.rows_at-n.ensures, c.table_at-b.ensures) at made)
+    (sets (goal.at.returns c).In_default) (ready (goal.at.returns c).In_default)) c.ranged.ensures in
+    record { value = met.0; keepable = met.1 }

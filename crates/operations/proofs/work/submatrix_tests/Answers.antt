@@ -42,12 +42,11 @@ table_at-b-requires c = let a = c.args in
     (chosen-fit a.shelf a.source a.rows a.columns a.target (passed c)).0.small
 
 pub is_zero-requires : goal.is_zero-requires
-is_zero-requires c = let a = c.args in let p = chosen-fit a.shelf a.source a.rows a.columns a.target (passed (goal.at.is_zero-requires c).In_default) in record {
-  le_n = (minor-workable a.shelf a.source a.rows a.columns _ _ _ _ c.rows_at-n.ensures refl refl c.table_at-b.ensures
-      c.requires.0 p.0 p.1).0;
-  i_bound = (minor-workable a.shelf a.source a.rows a.columns _ _ _ _ c.rows_at-n.ensures refl refl c.table_at-b.ensures
-      c.requires.0 p.0 p.1).1;
-}
+is_zero-requires c =
+    let a = c.args in
+    let p = chosen-fit a.shelf a.source a.rows a.columns a.target (passed (goal.at.is_zero-requires c).In_default) in
+    let met = minor-workable a.shelf a.source a.rows a.columns _ _ _ _ c.rows_at-n.ensures refl refl c.table_at-b.ensures c.requires.0 p.0 p.1 in
+    record { le_n = met.0; i_bound = met.1 }
 
 pub returns : goal.returns
 returns c = let a = c.args in

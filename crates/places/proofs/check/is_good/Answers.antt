@@ -27,7 +27,12 @@ loop-k-init c = (search rules, c.loop-p.invariant)
 
 pub returns-then-not-sound : goal.returns-then-not-sound
 unfolding rows_at
-returns-then-not-sound c = let failed = sym c.sound.ensures ∙ not-true _ (ap not c.if-not-sound.true) in record { value = sym (number-failed _ c.loop-p.p (search rules) c.loop-k.k (search rules) _ c.back.ensures.value failed); good = λ h. absurd (false≢true h) }
+returns-then-not-sound c =
+    let failed = sym c.sound.ensures ∙ not-true _ (ap not c.if-not-sound.true) in
+    record {
+      value = sym (number-failed _ c.loop-p.p (search rules) c.loop-k.k (search rules) _ c.back.ensures.value failed);
+      good = λ h. absurd (false≢true h);
+    }
 
 pub loop-k-preserved : goal.loop-k-preserved
 unfolding rows_at
@@ -39,7 +44,8 @@ loop-k-2-init c = (search rules, search rules, gathered_none _ (subst (Passed _ 
 
 pub loop-k-2-preserved : goal.loop-k-2-preserved
 unfolding rows_at
-loop-k-2-preserved c = (search rules, search rules, gathered-more _ c.loop-k-2.invariant.2 (search rules) c.loop-k-2.invariant.0 (search rules) _ c.fault-faults.ensures)
+loop-k-2-preserved c =
+    (search rules, search rules, gathered-more _ c.loop-k-2.invariant.2 (search rules) c.loop-k-2.invariant.0 (search rules) _ c.fault-faults.ensures)
 
 pub returns-then-faults-ne0 : goal.returns-then-faults-ne0
 returns-then-faults-ne0 c = record { value = sym (c.loop-k-2.invariant.2.some c.if-faults-ne0.true); good = λ h. absurd (false≢true h) }
@@ -50,4 +56,6 @@ loop-p-preserved c = let w = c.loop-k-2.invariant.2.none c.if-faults-ne0.false i
     place-passed _ _ (search rules) (subst (Passed _ _) (omega arith) w) c.if-n-gt8.false
 
 pub returns : goal.returns
-returns c = let e = all-passed _ _ c.loop-p.invariant (search rules) in record { value = sym e; good = λ h. tested-good _ (search (rules, length-mapped)) (search (rules, length-mapped)) e }
+returns c =
+    let e = all-passed _ _ c.loop-p.invariant (search rules) in
+    record { value = sym e; good = λ h. tested-good _ (search (rules, length-mapped)) (search (rules, length-mapped)) e }

@@ -1,3 +1,4 @@
+-- The loops of `is_good`: what is passed, and behind a place's rows what was gathered; how many numbers or places are left.
 use Prim.Native.Nat.{◌-◌, ◌*◌, ◌≤◌}
 use native.Mathlib.Omega.{arith}
 use mathlib.Core.Path.{sym, subst, ◌∙◌}

@@ -1,3 +1,4 @@
+-- The loop of `faults_of`: what any of the first c places has, and how many are left.
 use Prim.Native.Nat.{ℕ, ◌-◌, ◌≤◌, ◌<◌}
 use native.Mathlib.Omega.{arith}
 use mathlib.Core.Path.{◌≡◌, refl, ap, ◌∙◌}
@@ -16,14 +17,17 @@ use Rattle.places.proofs.Recipes.{any-more, any-all}
 use borrow.Author.Rules.{rules}
 use Rattle.places.proofs.judge.faults_of.Given as goal
 
+-- of other rows than n
 abbrev pub unlike : Shelf → ℕ → ℕ → Bool
 unlike s n p = not (eqb n (rows_at s p))
 
+-- whether any of the first c steps has what f asks of its place
 abbrev pub Any : (ℕ → Bool) → List RecipeStep → ℕ → Bool → Type 0
 Any f L c b = b ≡ any_of f (map place_of (take c L))
 
 abbrev pub invariant-loop-c : goal.invariant-loop-c
-invariant-loop-c l = (l.c ≤ l.c-end) × Any above l.steps l.c l.above × Any (empty (rows_at l.shelf)) l.steps l.c l.empty × Any (unlike l.shelf l.first) l.steps l.c l.unlike
+invariant-loop-c l =
+    (l.c ≤ l.c-end) × Any above l.steps l.c l.above × Any (empty (rows_at l.shelf)) l.steps l.c l.empty × Any (unlike l.shelf l.first) l.steps l.c l.unlike
 
 abbrev pub decreases-loop-c : goal.decreases-loop-c
 decreases-loop-c l = l.c-end - l.c
