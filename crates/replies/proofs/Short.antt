@@ -88,7 +88,8 @@ by-short : (s : Shelf) → Good s → (c : Command) (v bytes : List ℕ) (items 
 unfolding reply_by Short
 by-short s g Load v bytes items wholes h = told-short s _ (ascii "loaded") (omega arith)
 by-short s g Write v bytes items wholes h =
-    told-bytes s _ (ascii "wrote") (omega arith) (omega (arith, write-length s (get_or v 0 0) (lent_bytes (lent_count (get_or v 1 0))), lent-bytes (get_or v 1 0)))
+    told-bytes s _ (ascii "wrote") (omega arith)
+    (omega (arith, write-length s (get_or v 0 0) (lent_bytes (lent_count (get_or v 1 0))), lent-bytes (get_or v 1 0)))
 by-short s g Length v bytes items wholes h = told-short s _ (ascii "length") (omega arith)
 by-short s g Drop v bytes items wholes h = told-short s _ (ascii "dropped") (omega arith)
 by-short s g (Operation mode kind) v bytes items wholes h = operation-short s mode kind v

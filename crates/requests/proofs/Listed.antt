@@ -70,7 +70,8 @@ module _ {A : Type 0} {f : List ℕ → Option (List A)} {k : ℕ} {line : List 
 
       module _ (m : count < 16) where
         passed-word : spelled_list f 16 (words_at line at)
-            ≡ appended (some (take (count * k) list)) (appended (f (word_at line next)) (spelled_list f (16 - (count + 1)) (words_at line (next_word line next))))
+            ≡ appended (some (take (count * k) list))
+            (appended (f (word_at line next)) (spelled_list f (16 - (count + 1)) (words_at line (next_word line next))))
         unfolding spelled_list
         passed-word =
             let z : 16 - count ≡ suc (16 - (count + 1)) = omega arith in

@@ -56,7 +56,8 @@ module _ {line letters : List ℕ} {at : ℕ} {values : List ℕ} {next k : ℕ}
   module _ (h : k < 4) where
     numbered_step : letter_numbers letters (words_at line at)
         ≡ ahead (take k values)
-        (one_more (number_by (get_or letters k 0) line next) (letter_numbers (drop (suc k) letters) (words_at line (index_behind (get_or letters k 0) line next))))
+        (one_more (number_by (get_or letters k 0) line next)
+        (letter_numbers (drop (suc k) letters) (words_at line (index_behind (get_or letters k 0) line next))))
     unfolding letter_numbers
     numbered_step = p.same ∙ rw (drop-cons letters k 0 (omega (arith, p)), first-word line next, words_left_lem (get_or letters k 0) line next)
 

@@ -1,5 +1,5 @@
--- What stands behind a request's numbers: nothing (`nothing_left`), bytes (`bytes_read_lem`), two items (`two-read`); the request by its parts (`request-is`); and
--- how many bytes it has at most (`request-bytes`).
+-- What stands behind a request's numbers: nothing (`nothing_left`), bytes (`bytes_read_lem`), two items (`two-read`); the request by its parts (`request-is`);
+-- and how many bytes it has at most (`request-bytes`).
 use Prim.Native.Nat.{ℕ, ◌*◌, ◌/◌, ◌≤◌, ◌<◌}
 use native.Mathlib.Nat.{zero-add}
 use native.Mathlib.Omega.{arith}
@@ -179,7 +179,8 @@ list-few : {A : Type 0} (ask : List A → Asked) → ((l : List A) → FewBytes 
 list-few ask h (some l) = h l
 list-few ask h none = omega arith
 
-words-few : (command : Command) (t : Tail) (values : List ℕ) (ws : List (List ℕ)) → FewBytes (with_tail command t (some (record { values = values; left = ws })))
+words-few : (command : Command) (t : Tail) (values : List ℕ) (ws : List (List ℕ))
+    → FewBytes (with_tail command t (some (record { values = values; left = ws })))
 words-few command None values [] = omega arith
 words-few command None values (w ∷ ws) = omega arith
 words-few command Bytes values [] = omega arith

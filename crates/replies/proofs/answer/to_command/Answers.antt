@@ -33,11 +33,14 @@ returns-in-Recipe c = record { good = c.recipe.ensures.good; replied = rw c.in-R
 
 pub returns-in-Build : goal.returns-in-Build
 unfolding reply_by run
-returns-in-Build c = record { good = c.filled.ensures.good; replied = rw c.in-Build.is (told-as (ascii "bound") _ c.build.ensures.result_value c.filled.ensures.replied) }
+returns-in-Build c =
+    record { good = c.filled.ensures.good; replied = rw c.in-Build.is (told-as (ascii "bound") _ c.build.ensures.result_value c.filled.ensures.replied) }
 
 pub returns-in-Minor : goal.returns-in-Minor
 unfolding reply_by
-returns-in-Minor c = let call = rw (c.mask.ensures, c.mask-in-Minor.ensures) at c.minor.ensures.replied in record { good = c.minor.ensures.good; replied = rw c.in-Minor.is call }
+returns-in-Minor c =
+    let call = rw (c.mask.ensures, c.mask-in-Minor.ensures) at c.minor.ensures.replied in
+    record { good = c.minor.ensures.good; replied = rw c.in-Minor.is call }
 
 pub returns-in-Carry : goal.returns-in-Carry
 unfolding reply_by

@@ -6,4 +6,9 @@ use Rattle.replies.proofs.Replies.{replied}
 use Rattle.replies.proofs.answer.to_line.Goals as goal
 
 pub returns : goal.returns
-returns c = record { good = c.after.ensures.good; replied = replied (sym c.answered-done.ensures.replied.shelf) c.after.ensures.shelf_value (puts-behind {b = ascii "\n"} c.answered-done.ensures.replied.text c.put.ensures) }
+returns c =
+    record {
+      good = c.after.ensures.good;
+      replied = replied (sym c.answered-done.ensures.replied.shelf) c.after.ensures.shelf_value
+          (puts-behind {b = ascii "\n"} c.answered-done.ensures.replied.text c.put.ensures);
+    }

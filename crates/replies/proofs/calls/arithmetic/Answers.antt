@@ -6,4 +6,6 @@ use Rattle.replies.proofs.calls.arithmetic.Goals as goal
 
 pub returns : goal.returns
 unfolding run
-returns c = let text = rw c.arithmetic-answer.ensures.result_value at c.put_worked.ensures in record { good = c.after.ensures.good; replied = replied refl c.after.ensures.shelf_value text }
+returns c =
+    let text = rw c.arithmetic-answer.ensures.result_value at c.put_worked.ensures in
+    record { good = c.after.ensures.good; replied = replied refl c.after.ensures.shelf_value text }

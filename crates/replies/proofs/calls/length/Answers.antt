@@ -8,4 +8,6 @@ use Rattle.replies.proofs.calls.length.Goals as goal
 
 pub returns : goal.returns
 unfolding run
-returns c = let text = puts-report (ascii "length") c.length-answer.ensures.result_value c.put_written.ensures in record { good = c.after.ensures.good; replied = replied refl c.after.ensures.shelf_value text }
+returns c =
+    let text = puts-report (ascii "length") c.length-answer.ensures.result_value c.put_written.ensures in
+    record { good = c.after.ensures.good; replied = replied refl c.after.ensures.shelf_value text }

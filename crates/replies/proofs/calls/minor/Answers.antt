@@ -8,4 +8,6 @@ use Rattle.replies.proofs.calls.minor.Goals as goal
 
 pub returns : goal.returns
 unfolding run
-returns c = let text = puts-report (ascii "number") c.minor-answer.ensures c.put_valued.ensures in record { good = c.after.ensures.good; replied = replied refl c.after.ensures.shelf_value text }
+returns c =
+    let text = puts-report (ascii "number") c.minor-answer.ensures c.put_valued.ensures in
+    record { good = c.after.ensures.good; replied = replied refl c.after.ensures.shelf_value text }

@@ -8,4 +8,6 @@ use Rattle.replies.proofs.calls.reversals.Goals as goal
 
 pub returns : goal.returns
 unfolding run
-returns c = let text = puts-report (ascii "reversals") c.count_reversals-answer.ensures c.put_reversals.ensures in record { good = c.after.ensures.good; replied = replied refl c.after.ensures.shelf_value text }
+returns c =
+    let text = puts-report (ascii "reversals") c.count_reversals-answer.ensures c.put_reversals.ensures in
+    record { good = c.after.ensures.good; replied = replied refl c.after.ensures.shelf_value text }

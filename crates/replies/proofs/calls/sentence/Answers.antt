@@ -6,4 +6,10 @@ use Rattle.replies.proofs.Lent.{take-replicate}
 use Rattle.replies.proofs.calls.sentence.Goals as goal
 
 pub returns : goal.returns
-returns c = let e : c.lent-n.result - 0 ≡ c.lent-n.result = omega arith in let few : c.lent-n.result ≤ 512 = omega (arith, c.lent-n.ensures) in record { good = c.sentence_to.ensures.good; replied = rw (e, take-replicate c.lent-n.result 512 0xa5 few, c.lent-n.ensures) at c.sentence_to.ensures.replied }
+returns c =
+    let e : c.lent-n.result - 0 ≡ c.lent-n.result = omega arith in
+    let few : c.lent-n.result ≤ 512 = omega (arith, c.lent-n.ensures) in
+    record {
+      good = c.sentence_to.ensures.good;
+      replied = rw (e, take-replicate c.lent-n.result 512 0xa5 few, c.lent-n.ensures) at c.sentence_to.ensures.replied;
+    }

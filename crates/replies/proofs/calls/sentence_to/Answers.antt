@@ -8,4 +8,10 @@ use Rattle.replies.proofs.calls.sentence_to.Goals as goal
 
 pub returns : goal.returns
 unfolding run
-returns c = let handed = notice c.before.args.number c.before.args.offset c.before.args.places.now in record { good = c.wrote.ensures.good; replied = bytes-as (ascii "wrote") (run c.before.args.shelf (sentence handed c.before.args.bytes.now)) refl c.sentence-written.ensures.result_value c.sentence-written.ensures.out_after c.wrote.ensures.replied }
+returns c =
+    let handed = notice c.args.number c.args.offset c.args.places.now in
+    record {
+      good = c.wrote.ensures.good;
+      replied = bytes-as (ascii "wrote") (run c.args.shelf (sentence handed c.args.bytes.now)) refl
+          c.sentence-written.ensures.result_value c.sentence-written.ensures.out_after c.wrote.ensures.replied;
+    }

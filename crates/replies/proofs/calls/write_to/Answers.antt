@@ -6,4 +6,9 @@ use Rattle.replies.proofs.calls.write_to.Goals as goal
 
 pub returns : goal.returns
 unfolding run
-returns c = record { good = c.wrote.ensures.good; replied = bytes-as (ascii "wrote") (run _ (write _ _)) (write_keeps _ _ _) c.write-written.ensures.result_value c.write-written.ensures.out_after c.wrote.ensures.replied }
+returns c =
+    record {
+      good = c.wrote.ensures.good;
+      replied = bytes-as (ascii "wrote") (run _ (write _ _)) (write_keeps _ _ _)
+          c.write-written.ensures.result_value c.write-written.ensures.out_after c.wrote.ensures.replied;
+    }

@@ -6,8 +6,12 @@ use Rattle.replies.proofs.tasks.answer.Goals as goal
 
 pub returns-in-Direct : goal.returns-in-Direct
 unfolding run
-returns-in-Direct c = let is = rw c.task_of-task.ensures at c.perform.ensures.result_value in record { good = c.performed.ensures.good; replied = rw c.in-Direct.is (performed-as _ is c.performed.ensures.replied) }
+returns-in-Direct c =
+    let is = rw c.task_of-task.ensures at c.perform.ensures.result_value in
+    record { good = c.performed.ensures.good; replied = rw c.in-Direct.is (performed-as _ is c.performed.ensures.replied) }
 
 pub returns-in-Foretold : goal.returns-in-Foretold
 unfolding run
-returns-in-Foretold c = let is = rw c.task_of-task.ensures at c.forecast.ensures.result_value in record { good = c.foretold.ensures.good; replied = rw c.in-Foretold.is (report-as (ascii "steps") is c.foretold.ensures.replied) }
+returns-in-Foretold c =
+    let is = rw c.task_of-task.ensures at c.forecast.ensures.result_value in
+    record { good = c.foretold.ensures.good; replied = rw c.in-Foretold.is (report-as (ascii "steps") is c.foretold.ensures.replied) }
