@@ -30,15 +30,15 @@ pub loop-i-init : goal.loop-i-init
 loop-i-init c = passed_none _
 
 pub returns-then-s-i : goal.returns-then-s-i
-returns-then-s-i c = record { value = (group-found _ _ (bytes (goal.at.returns-then-s-i c).At-loop-i) (passed-end c.loop-i.invariant (search rules) c.if-s-i.true)).0; inside = (group-found _ _ (bytes (goal.at.returns-then-s-i c).At-loop-i) (passed-end c.loop-i.invariant (search rules) c.if-s-i.true)).1 }
+returns-then-s-i c =
+    let met = group-found _ _ (bytes (goal.at.returns-then-s-i c).At-loop-i) (passed-end c.loop-i.invariant (search rules) c.if-s-i.true) in
+    record { value = met.0; inside = met.1 }
 
 pub returns-then-i-ne0 : goal.returns-then-i-ne0
-returns-then-i-ne0 c = record {
-  value = (group-found _ _ (bytes (goal.at.returns-then-i-ne0 c).At-loop-i)
-      (passed-zero c.loop-i.invariant c.wide-b.result (omega arith) (omega arith) c.wide-b.ensures c.if-b-eq0.true c.if-i-ne0.true)).0;
-  inside = (group-found _ _ (bytes (goal.at.returns-then-i-ne0 c).At-loop-i)
-      (passed-zero c.loop-i.invariant c.wide-b.result (omega arith) (omega arith) c.wide-b.ensures c.if-b-eq0.true c.if-i-ne0.true)).1;
-}
+returns-then-i-ne0 c =
+    let met = group-found _ _ (bytes (goal.at.returns-then-i-ne0 c).At-loop-i)
+    (passed-zero c.loop-i.invariant c.wide-b.result (omega arith) (omega arith) c.wide-b.ensures c.if-b-eq0.true c.if-i-ne0.true) in
+    record { value = met.0; inside = met.1 }
 
 pub overflow_mul-total : goal.overflow_mul-total
 overflow_mul-total c = omega (arith, weighted-last c)
@@ -47,20 +47,18 @@ pub overflow_add-total : goal.overflow_add-total
 overflow_add-total c = omega (arith, weighted-last c)
 
 pub returns-then-total-lt4294967296 : goal.returns-then-total-lt4294967296
-returns-then-total-lt4294967296 c = record {
-  value = (group-found _ _ (bytes (goal.at.returns-then-total-lt4294967296 c).At-loop-i)
-      (passed-value c.loop-i.invariant c.wide-b.result (omega arith) (omega arith) c.wide-b.ensures c.if-b-lt128.true (lone (goal.at.returns-then-total-lt4294967296 c).Joined-b-eq0) c.if-total-lt4294967296.true)).0;
-  inside = (group-found _ _ (bytes (goal.at.returns-then-total-lt4294967296 c).At-loop-i)
-      (passed-value c.loop-i.invariant c.wide-b.result (omega arith) (omega arith) c.wide-b.ensures c.if-b-lt128.true (lone (goal.at.returns-then-total-lt4294967296 c).Joined-b-eq0) c.if-total-lt4294967296.true)).1;
-}
+returns-then-total-lt4294967296 c =
+    let met = group-found _ _ (bytes (goal.at.returns-then-total-lt4294967296 c).At-loop-i)
+    (passed-value c.loop-i.invariant c.wide-b.result (omega arith) (omega arith) c.wide-b.ensures c.if-b-lt128.true
+    (lone (goal.at.returns-then-total-lt4294967296 c).Joined-b-eq0) c.if-total-lt4294967296.true) in
+    record { value = met.0; inside = met.1 }
 
 pub returns-then-b-lt128 : goal.returns-then-b-lt128
-returns-then-b-lt128 c = record {
-  value = (group-found _ _ (bytes (goal.at.returns-then-b-lt128 c).At-loop-i)
-      (passed-large c.loop-i.invariant c.wide-b.result (omega arith) (omega arith) c.wide-b.ensures c.if-b-lt128.true (lone (goal.at.returns-then-b-lt128 c).Joined-b-eq0) c.if-total-lt4294967296.false)).0;
-  inside = (group-found _ _ (bytes (goal.at.returns-then-b-lt128 c).At-loop-i)
-      (passed-large c.loop-i.invariant c.wide-b.result (omega arith) (omega arith) c.wide-b.ensures c.if-b-lt128.true (lone (goal.at.returns-then-b-lt128 c).Joined-b-eq0) c.if-total-lt4294967296.false)).1;
-}
+returns-then-b-lt128 c =
+    let met = group-found _ _ (bytes (goal.at.returns-then-b-lt128 c).At-loop-i)
+    (passed-large c.loop-i.invariant c.wide-b.result (omega arith) (omega arith) c.wide-b.ensures c.if-b-lt128.true
+    (lone (goal.at.returns-then-b-lt128 c).Joined-b-eq0) c.if-total-lt4294967296.false) in
+    record { value = met.0; inside = met.1 }
 
 pub overflow_mul-value : goal.overflow_mul-value
 overflow_mul-value c = omega (arith, weighted c)
@@ -79,4 +77,6 @@ loop-i-preserved c = passed-more c.loop-i.invariant c.wide-b.result (omega arith
     c.if-b-lt128.false (byte c)
 
 pub returns : goal.returns
-returns c = record { value = (group-found _ _ (bytes (goal.at.returns c).At-loop-i) (passed-five c.loop-i.invariant c.loop-i-test.false)).0; inside = (group-found _ _ (bytes (goal.at.returns c).At-loop-i) (passed-five c.loop-i.invariant c.loop-i-test.false)).1 }
+returns c =
+    let met = group-found _ _ (bytes (goal.at.returns c).At-loop-i) (passed-five c.loop-i.invariant c.loop-i-test.false) in
+    record { value = met.0; inside = met.1 }

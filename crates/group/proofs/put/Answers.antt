@@ -31,4 +31,7 @@ pub shape_of-out : goal.shape_of-out
 shape_of-out c = simp length-set c.loop-rest.invariant.kept
 
 pub returns : goal.returns
-returns c = record { value = counted-last c.loop-rest.invariant.counted c.loop-rest-test.false; out_after = written_last c.loop-rest.invariant c.requires c.loop-rest-test.false }
+returns c = record {
+  value = counted-last c.loop-rest.invariant.counted c.loop-rest-test.false;
+  out_after = written_last c.loop-rest.invariant c.requires c.loop-rest-test.false;
+}

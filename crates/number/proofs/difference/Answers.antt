@@ -19,7 +19,8 @@ quarter : (c : Joined-k-eq33) → c.args.a ≡ 2 ^ 31
     → c.args.b * 4 < 2 ^ (c.args.i - c.args.j)
 quarter c e = let k = c.args.i - c.args.j in
     let l : 33 ≤ k = c.if-k-lt33.false in
-    let ne : k ≡ 33 → ⊥ = λ (f : k ≡ 33). elim c.if-k-eq33.branch [ then-k-eq33+else-a-eq2147483648 w ↦ w.if-a-eq2147483648.false e | else-k-eq33 w ↦ w.if-k-eq33.false f ] in
+    let ne : k ≡ 33 → ⊥ = λ (f : k ≡ 33). elim c.if-k-eq33.branch
+    [ then-k-eq33+else-a-eq2147483648 w ↦ w.if-a-eq2147483648.false e | else-k-eq33 w ↦ w.if-k-eq33.false f ] in
     omega (arith, pow_mono {i = 34} {j = k} (omega arith), c.requires.3)
 
 pub overflow_mul-a : goal.overflow_mul-a

@@ -56,7 +56,9 @@ whole-m-requires c = let q = quotient-full c.args.a c.args.b c.requires.0 c.requ
     rw (word c) (q.high, left c, product-fits c)
 
 pub returns : goal.returns
-returns c = let e = c.whole-m.ensures ∙ ap (λ (n : ℕ). whole_of (n / c.args.b) (n - n / c.args.b * c.args.b) c.args.b c.multiplier-k.result) (word (goal.at.returns c).After-either-s)
+returns c =
+    let e = c.whole-m.ensures ∙ ap (λ (n : ℕ). whole_of (n / c.args.b) (n - n / c.args.b * c.args.b) c.args.b c.multiplier-k.result)
+    (word (goal.at.returns c).After-either-s)
     ∙ ap (whole_of (whole_quotient c.args.a c.args.b) (remainder c.args.a c.args.b) c.args.b) c.multiplier-k.ensures
     ∙ compared c.args.direction (whole_quotient c.args.a c.args.b) (remainder c.args.a c.args.b) c.args.b (left (goal.at.returns c).After-either-s) in
     ap₂ (λ (m k : ℕ). record { m = m; x = c.args.x - k }) e c.either-s.ensures

@@ -24,7 +24,8 @@ pub slice_bounds-result-start : goal.slice_bounds-result-start
 slice_bounds-result-start c = inside c
 
 pub returns-in-Matrix : goal.returns-in-Matrix
-returns-in-Matrix c = matched (behind_outcome c.args.s.now) (ap (λ (r : Parsed). r.outcome) c.read_matrix-read.ensures.value) c.in-Matrix.is (part-is c.args.s.now _)
+returns-in-Matrix c = matched (behind_outcome c.args.s.now) (ap (λ (r : Parsed). r.outcome) c.read_matrix-read.ensures.value) c.in-Matrix.is
+    (part-is c.args.s.now _)
     ∙ behind-outcome c.args.s.now (matrix_of c.args.s.now)
 
 pub returns-in-Fault : goal.returns-in-Fault

@@ -15,7 +15,7 @@ inside c = let h : ItemInside _ (Value c.in-Value.value c.in-Value.next) = rw c.
     h
 
 pub mantissa_at-requires : goal.mantissa_at-requires
-mantissa_at-requires c = record { at_in_bounds = (inside (goal.at.mantissa_at-requires c).In-Value).0; code_bound = (inside (goal.at.mantissa_at-requires c).In-Value).1 }
+mantissa_at-requires c = let met = inside (goal.at.mantissa_at-requires c).In-Value in record { at_in_bounds = met.0; code_bound = met.1 }
 
 pub returns-in-Accepted : goal.returns-in-Accepted
 unfolding factor_at

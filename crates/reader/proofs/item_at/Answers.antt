@@ -23,12 +23,18 @@ overflow_add-result c = omega (arith, inside c)
 
 pub returns-in-Value : goal.returns-in-Value
 unfolding item_at
-returns-in-Value c = let a = c.args in record { value = matched (item_by_group a.s.now a.at) (found (goal.at.returns-in-Value c).After-group_at-got) c.in-Value.is refl; item_inside = inside c }
+returns-in-Value c =
+    let a = c.args in
+    record { value = matched (item_by_group a.s.now a.at) (found (goal.at.returns-in-Value c).After-group_at-got) c.in-Value.is refl; item_inside = inside c }
 
 pub returns-in-Ended : goal.returns-in-Ended
 unfolding item_at
-returns-in-Ended c = let a = c.args in record { value = matched (item_by_group a.s.now a.at) (found (goal.at.returns-in-Ended c).After-group_at-got) c.in-Ended.is refl; item_inside = tt }
+returns-in-Ended c =
+    let a = c.args in
+    record { value = matched (item_by_group a.s.now a.at) (found (goal.at.returns-in-Ended c).After-group_at-got) c.in-Ended.is refl; item_inside = tt }
 
 pub returns-in-Faulty : goal.returns-in-Faulty
 unfolding item_at
-returns-in-Faulty c = let a = c.args in record { value = matched (item_by_group a.s.now a.at) (found (goal.at.returns-in-Faulty c).After-group_at-got) c.in-Faulty.is refl; item_inside = tt }
+returns-in-Faulty c =
+    let a = c.args in
+    record { value = matched (item_by_group a.s.now a.at) (found (goal.at.returns-in-Faulty c).After-group_at-got) c.in-Faulty.is refl; item_inside = tt }

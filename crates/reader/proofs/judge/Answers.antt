@@ -49,13 +49,16 @@ unfolding judged_code
 returns-then-code-gt2001 c = simp (lt-ltb _ _ c.if-code-gt2001.true)
 
 pub returns-then-code-eq0 : goal.returns-then-code-eq0
-returns-then-code-eq0 c = sym (on-diagonal _ _ _ _ (long (goal.at.returns-then-code-eq0 c).Start) c.requires.1 c.if-code-gt2001.false c.if-k-n.true ∙ simp (eq-eqb _ _ c.if-code-eq0.true))
+returns-then-code-eq0 c = sym (on-diagonal _ _ _ _ (long (goal.at.returns-then-code-eq0 c).Start) c.requires.1 c.if-code-gt2001.false c.if-k-n.true
+    ∙ simp (eq-eqb _ _ c.if-code-eq0.true))
 
 pub returns-then-k-n : goal.returns-then-k-n
-returns-then-k-n c = sym (on-diagonal _ _ _ _ (long (goal.at.returns-then-k-n c).Start) c.requires.1 c.if-code-gt2001.false c.if-k-n.true ∙ simp (ne_eqb _ _ c.if-code-eq0.false))
+returns-then-k-n c = sym (on-diagonal _ _ _ _ (long (goal.at.returns-then-k-n c).Start) c.requires.1 c.if-code-gt2001.false c.if-k-n.true
+    ∙ simp (ne_eqb _ _ c.if-code-eq0.false))
 
 pub returns-then-code-eq0-2 : goal.returns-then-code-eq0-2
-returns-then-code-eq0-2 c = sym (off-diagonal-zero _ _ _ _ (long (goal.at.returns-then-code-eq0-2 c).Start) c.requires.1 c.if-code-gt2001.false c.if-k-n.false c.if-code-eq0-2.true)
+returns-then-code-eq0-2 c = sym (off-diagonal-zero _ _ _ _ (long (goal.at.returns-then-code-eq0-2 c).Start) c.requires.1 c.if-code-gt2001.false
+    c.if-k-n.false c.if-code-eq0-2.true)
 
 pub just_before-before-requires : goal.just_before-before-requires
 just_before-before-requires c = (c.requires.0, c.requires.1, c.if-k-n.false)
@@ -63,7 +66,8 @@ just_before-before-requires c = (c.requires.0, c.requires.1, c.if-k-n.false)
 -- behind the number just before in its line
 behind : (c : After-just_before-before) → let a = c.args in
     judged_code a.n (take a.k a.numbers) a.code ≡ cond (eqb c.just_before-before.result.m 0) (Refused 16) Accepted
-behind c = off-diagonal _ _ _ _ (long_at_After_just_before_before c) c.requires.1 c.if-code-gt2001.false c.if-k-n.false c.if-code-eq0-2.false c.just_before-before.result c.just_before-before.ensures
+behind c = off-diagonal _ _ _ _ (long_at_After_just_before_before c) c.requires.1 c.if-code-gt2001.false c.if-k-n.false c.if-code-eq0-2.false
+    c.just_before-before.result c.just_before-before.ensures
 
 pub returns-then-before-eq0 : goal.returns-then-before-eq0
 returns-then-before-eq0 c = sym (behind (goal.at.returns-then-before-eq0 c).After-just_before-before ∙ simp (eq-eqb _ _ c.if-before-eq0.true))

@@ -37,4 +37,9 @@ returns-else-value-gt2147483647 c = let a = c.args in record {
 
 pub returns-in-Fault : goal.returns-in-Fault
 unfolding mantissa_at
-returns-in-Fault c = let a = c.args in record { value = rw (ne_eqb _ _ c.if-code-eq0.false) (matched (mantissa_by a.at a.code) c.item_at-item.ensures.value c.in-Fault.is refl); factor_inside = tt }
+returns-in-Fault c =
+    let a = c.args in
+    record {
+      value = rw (ne_eqb _ _ c.if-code-eq0.false) (matched (mantissa_by a.at a.code) c.item_at-item.ensures.value c.in-Fault.is refl);
+      factor_inside = tt;
+    }

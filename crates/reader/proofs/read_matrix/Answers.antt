@@ -25,7 +25,11 @@ unfolding matrix_of
 answer c w q h = matched (λ (w : ByteItem). parsed (matrix_by c.args.s.now w)) c.item_at-item.ensures.value q h
 
 pub returns-then-value-lt1 : goal.returns-then-value-lt1
-returns-then-value-lt1 c = record { value = answer (goal.at.returns-then-value-lt1 c).After-item_at-item _ c.in-Value.is (c.fault.ensures ∙ simp (lt-ltb _ _ c.if-value-lt1.true)); outcome_inside = rw c.fault.ensures tt }
+returns-then-value-lt1 c = record {
+  value = answer (goal.at.returns-then-value-lt1 c).After-item_at-item _ c.in-Value.is
+      (c.fault.ensures ∙ simp (lt-ltb _ _ c.if-value-lt1.true));
+  outcome_inside = rw c.fault.ensures tt;
+}
 
 pub returns-then-value-gt8 : goal.returns-then-value-gt8
 returns-then-value-gt8 c = record {
@@ -45,4 +49,7 @@ returns-else-value-gt8 c = record {
 }
 
 pub returns-in-Fault : goal.returns-in-Fault
-returns-in-Fault c = record { value = answer (goal.at.returns-in-Fault c).After-item_at-item _ c.in-Fault.is c.fault-in-Fault.ensures; outcome_inside = rw c.fault-in-Fault.ensures tt }
+returns-in-Fault c = record {
+  value = answer (goal.at.returns-in-Fault c).After-item_at-item _ c.in-Fault.is c.fault-in-Fault.ensures;
+  outcome_inside = rw c.fault-in-Fault.ensures tt;
+}

@@ -30,4 +30,7 @@ loop-i-preserved c = (
 
 pub returns : goal.returns
 unfolding mask_among
-returns c = let e : c.loop-i.i ≡ 8 = omega arith in let r = rw e at c.loop-i.invariant.1.set in record { value = r; upper_bound = rw r (among_to-below 8 c.args.p c.args.s) }
+returns c =
+    let e : c.loop-i.i ≡ 8 = omega arith in
+    let r = rw e at c.loop-i.invariant.1.set in
+    record { value = r; upper_bound = rw r (among_to-below 8 c.args.p c.args.s) }

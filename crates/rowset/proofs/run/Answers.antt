@@ -11,4 +11,7 @@ pub returns-then-b-a : goal.returns-then-b-a
 returns-then-b-a c = record { value = run_none c.args.a c.args.b (search rules); upper_bound = search rules }
 
 pub returns-else-b-a : goal.returns-else-b-a
-returns-else-b-a c = let a = c.args in let e = shift-run a.a a.b (search rules) (search rules) in record { value = e; upper_bound = rw e (run-below 8 a.a a.b (search rules)) }
+returns-else-b-a c =
+    let a = c.args in
+    let e = shift-run a.a a.b (search rules) (search rules) in
+    record { value = e; upper_bound = rw e (run-below 8 a.a a.b (search rules)) }

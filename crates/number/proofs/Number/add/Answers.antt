@@ -22,14 +22,22 @@ promised s r e = let a = s.args in (
 )
 
 pub returns-then-self-eq0 : goal.returns-then-self-eq0
-returns-then-self-eq0 c = record { value = (promised (goal.at.returns-then-self-eq0 c).Start _ (sym (sum-zero-left c.args.direction c.args.self c.args.other c.requires.1 c.if-self-eq0.true))).0; directed = (promised (goal.at.returns-then-self-eq0 c).Start _ (sym (sum-zero-left c.args.direction c.args.self c.args.other c.requires.1 c.if-self-eq0.true))).1 }
+returns-then-self-eq0 c =
+    let met = promised (goal.at.returns-then-self-eq0 c).Start _
+    (sym (sum-zero-left c.args.direction c.args.self c.args.other c.requires.1 c.if-self-eq0.true)) in
+    record { value = met.0; directed = met.1 }
 
 pub returns-then-other-eq0 : goal.returns-then-other-eq0
-returns-then-other-eq0 c = record { value = (promised (goal.at.returns-then-other-eq0 c).Start _ (sym (sum-zero-right c.args.direction c.args.self c.args.other c.requires.0 c.if-other-eq0.true))).0; directed = (promised (goal.at.returns-then-other-eq0 c).Start _ (sym (sum-zero-right c.args.direction c.args.self c.args.other c.requires.0 c.if-other-eq0.true))).1 }
+returns-then-other-eq0 c =
+    let met = promised (goal.at.returns-then-other-eq0 c).Start _
+    (sym (sum-zero-right c.args.direction c.args.self c.args.other c.requires.0 c.if-other-eq0.true)) in
+    record { value = met.0; directed = met.1 }
 
 -- the operands as they were chosen
-chosen : (c : After-either-4) → ((2 ^ 31 ≤ c.either.result) × (c.either.result < 2 ^ 32) × (c.either-3.result < 2 ^ 32) × (c.either-4.result ≤ c.either-2.result) × (32 ≤ c.either-4.result) × (c.either-2.result < 2 ^ 61))
-    × (round_by c.args.direction (c.either.result * 2 ^ (c.either-2.result - c.either-4.result) + c.either-3.result) 1 c.either-4.result ≡ sum_by c.args.direction c.args.self c.args.other)
+chosen : (c : After-either-4) → ((2 ^ 31 ≤ c.either.result) × (c.either.result < 2 ^ 32) × (c.either-3.result < 2 ^ 32) ×
+    (c.either-4.result ≤ c.either-2.result) × (32 ≤ c.either-4.result) × (c.either-2.result < 2 ^ 61))
+    × (round_by c.args.direction (c.either.result * 2 ^ (c.either-2.result - c.either-4.result) + c.either-3.result) 1 c.either-4.result
+    ≡ sum_by c.args.direction c.args.self c.args.other)
 chosen c = sum-ordered c.args.direction c.args.self c.args.other c.requires.0 c.requires.1 (omega arith) (omega arith) _ refl
     c.either.ensures c.either-2.ensures c.either-3.ensures c.either-4.ensures
 
@@ -37,4 +45,6 @@ pub sum-requires : goal.sum-requires
 sum-requires c = (chosen c).0
 
 pub returns : goal.returns
-returns c = record { value = (promised (goal.at.returns c).Start _ (c.sum.ensures ∙ (chosen (goal.at.returns c).After-either-4).1)).0; directed = (promised (goal.at.returns c).Start _ (c.sum.ensures ∙ (chosen (goal.at.returns c).After-either-4).1)).1 }
+returns c =
+    let met = promised (goal.at.returns c).Start _ (c.sum.ensures ∙ (chosen (goal.at.returns c).After-either-4).1) in
+    record { value = met.0; directed = met.1 }

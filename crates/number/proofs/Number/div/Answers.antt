@@ -31,10 +31,16 @@ promised s r e = let a = s.args in
     )
 
 pub returns-then-self-eq0 : goal.returns-then-self-eq0
-returns-then-self-eq0 c = record { value = (promised (goal.at.returns-then-self-eq0 c).Start _ (zero_is c.args.self c.requires.0 c.if-self-eq0.true ∙ sym (quotient-zero-left c.args.direction c.args.self c.args.other c.if-self-eq0.true))).0; directed = (promised (goal.at.returns-then-self-eq0 c).Start _ (zero_is c.args.self c.requires.0 c.if-self-eq0.true ∙ sym (quotient-zero-left c.args.direction c.args.self c.args.other c.if-self-eq0.true))).1.0; divided = (promised (goal.at.returns-then-self-eq0 c).Start _ (zero_is c.args.self c.requires.0 c.if-self-eq0.true ∙ sym (quotient-zero-left c.args.direction c.args.self c.args.other c.if-self-eq0.true))).1.1 }
+returns-then-self-eq0 c =
+    let met = promised (goal.at.returns-then-self-eq0 c).Start _
+    (zero_is c.args.self c.requires.0 c.if-self-eq0.true ∙ sym (quotient-zero-left c.args.direction c.args.self c.args.other c.if-self-eq0.true)) in
+    record { value = met.0; directed = met.1.0; divided = met.1.1 }
 
 pub quotient-requires : goal.quotient-requires
 quotient-requires c = (mantissa-full c.requires.0 (omega arith), mantissa-full c.requires.1 c.requires.2, omega arith, omega arith)
 
 pub returns : goal.returns
-returns c = record { value = (promised (goal.at.returns c).Start _ (c.quotient.ensures ∙ sym (quotient-at c.args.direction c.requires.0 c.requires.1 (omega arith) c.requires.2))).0; directed = (promised (goal.at.returns c).Start _ (c.quotient.ensures ∙ sym (quotient-at c.args.direction c.requires.0 c.requires.1 (omega arith) c.requires.2))).1.0; divided = (promised (goal.at.returns c).Start _ (c.quotient.ensures ∙ sym (quotient-at c.args.direction c.requires.0 c.requires.1 (omega arith) c.requires.2))).1.1 }
+returns c =
+    let met = promised (goal.at.returns c).Start _ (c.quotient.ensures
+    ∙ sym (quotient-at c.args.direction c.requires.0 c.requires.1 (omega arith) c.requires.2)) in
+    record { value = met.0; directed = met.1.0; divided = met.1.1 }

@@ -24,10 +24,16 @@ promised s r e = let a = s.args in (
 )
 
 pub returns-then-self-eq0 : goal.returns-then-self-eq0
-returns-then-self-eq0 c = record { value = (promised (goal.at.returns-then-self-eq0 c).Start _ (zero_is c.args.self c.requires.0 c.if-self-eq0.true ∙ sym (product-zero-left c.args.direction c.args.self c.args.other c.if-self-eq0.true))).0; directed = (promised (goal.at.returns-then-self-eq0 c).Start _ (zero_is c.args.self c.requires.0 c.if-self-eq0.true ∙ sym (product-zero-left c.args.direction c.args.self c.args.other c.if-self-eq0.true))).1 }
+returns-then-self-eq0 c =
+    let met = promised (goal.at.returns-then-self-eq0 c).Start _
+    (zero_is c.args.self c.requires.0 c.if-self-eq0.true ∙ sym (product-zero-left c.args.direction c.args.self c.args.other c.if-self-eq0.true)) in
+    record { value = met.0; directed = met.1 }
 
 pub returns-then-other-eq0 : goal.returns-then-other-eq0
-returns-then-other-eq0 c = record { value = (promised (goal.at.returns-then-other-eq0 c).Start _ (zero_is c.args.other c.requires.1 c.if-other-eq0.true ∙ sym (product-zero-right c.args.direction c.args.self c.args.other c.if-other-eq0.true))).0; directed = (promised (goal.at.returns-then-other-eq0 c).Start _ (zero_is c.args.other c.requires.1 c.if-other-eq0.true ∙ sym (product-zero-right c.args.direction c.args.self c.args.other c.if-other-eq0.true))).1 }
+returns-then-other-eq0 c =
+    let met = promised (goal.at.returns-then-other-eq0 c).Start _
+    (zero_is c.args.other c.requires.1 c.if-other-eq0.true ∙ sym (product-zero-right c.args.direction c.args.self c.args.other c.if-other-eq0.true)) in
+    record { value = met.0; directed = met.1 }
 
 pub overflow_mul-self : goal.overflow_mul-self
 overflow_mul-self c = omega (arith, product_high c.args.self.m c.args.other.m c.requires.0.high c.requires.1.high)

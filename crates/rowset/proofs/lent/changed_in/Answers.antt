@@ -29,5 +29,15 @@ pub bounds-t-block : goal.bounds-t-block
 bounds-t-block c = omega (arith, within (goal.at.bounds-t-block c).After-block)
 
 pub returns : goal.returns
-returns c = let a = c.args in let p = c.requires in let N = p.1 in let e : 512 + c.block.result * 64 + a.m ≡ 512 + (block_of a.a a.o * 64 + a.m) = omega (arith, c.block.ensures) in let r : c.wide.result ≡ position_of (changed_of a.a a.o a.m) =
-    c.wide.ensures.value ∙ ap (λ (i : ℕ). get_or a.t.now i 0) e ∙ p.3.entry a.a a.o a.m N p.2 in let few = others-few a.n p.0 in let high : a.a ≤ 8 = omega (arith, N.to_high) in let low : a.o ≤ 8 = omega (arith, N.from-high) in let s = changed-below a.m a.a a.o (omega arith) N.to_low high N.from_low low N.beside 8 (omega arith) high low (omega arith) in record { value = r; upper_bound = omega (arith, position-below _ s) }
+returns c =
+    let a = c.args in
+    let p = c.requires in
+    let N = p.1 in
+    let e : 512 + c.block.result * 64 + a.m ≡ 512 + (block_of a.a a.o * 64 + a.m) = omega (arith, c.block.ensures) in
+    let r : c.wide.result ≡ position_of (changed_of a.a a.o a.m) =
+    c.wide.ensures.value ∙ ap (λ (i : ℕ). get_or a.t.now i 0) e ∙ p.3.entry a.a a.o a.m N p.2 in
+    let few = others-few a.n p.0 in
+    let high : a.a ≤ 8 = omega (arith, N.to_high) in
+    let low : a.o ≤ 8 = omega (arith, N.from-high) in
+    let s = changed-below a.m a.a a.o (omega arith) N.to_low high N.from_low low N.beside 8 (omega arith) high low (omega arith) in
+    record { value = r; upper_bound = omega (arith, position-below _ s) }

@@ -83,9 +83,11 @@ is_up : (c : After-parted) → (s c) ≡ changed_of (l c) ((l c) + 1) (m c)
 unfolding l m s
 is_up c = ap (λ (x : ℕ). x + 1 * 2 ^ ((l c) - 1) % 2 ^ 64) c.parted.ensures ∙ up_is (l c) (m c) (omega arith) (omega arith) (few_at_After_parted c)
 
-is_up_at_After_replaced : (c : After-replaced) → (s_at_After_replaced c) ≡ changed_of (l_at_After_replaced c) ((l_at_After_replaced c) + 1) (m_at_After_replaced c)
+is_up_at_After_replaced : (c : After-replaced) → (s_at_After_replaced c) ≡ changed_of (l_at_After_replaced c) ((l_at_After_replaced c) + 1)
+    (m_at_After_replaced c)
 unfolding l l_at_After_replaced m m_at_After_replaced s s_at_After_replaced
-is_up_at_After_replaced c = ap (λ (x : ℕ). x + 1 * 2 ^ ((l_at_After_replaced c) - 1) % 2 ^ 64) c.parted.ensures ∙ up_is (l_at_After_replaced c) (m_at_After_replaced c) (omega arith) (omega arith) (few_at_After_replaced c)
+is_up_at_After_replaced c = ap (λ (x : ℕ). x + 1 * 2 ^ ((l_at_After_replaced c) - 1) % 2 ^ 64) c.parted.ensures
+    ∙ up_is (l_at_After_replaced c) (m_at_After_replaced c) (omega arith) (omega arith) (few_at_After_replaced c)
 
 inside-up : (c : After-parted) → (s c) < 256
 unfolding l m
@@ -143,7 +145,11 @@ bounds-u-replaced c = omega (arith, c.replaced.ensures.upper_bound)
 
 pub overflow_add-u-in-loop-m-3 : goal.overflow_add-u-in-loop-m-3
 unfolding l m
-overflow_add-u-in-loop-m-3 c = omega (arith, to-down (goal.at.overflow_add-u-in-loop-m-3 c).After-parted, inside (goal.at.overflow_add-u-in-loop-m-3 c).After-parted)
+overflow_add-u-in-loop-m-3 c = omega (
+  arith,
+  to-down (goal.at.overflow_add-u-in-loop-m-3 c).After-parted,
+  inside (goal.at.overflow_add-u-in-loop-m-3 c).After-parted,
+)
 
 pub bounds-u-down : goal.bounds-u-down
 unfolding l m
@@ -153,7 +159,9 @@ pub loop-m-preserved : goal.loop-m-preserved
 unfolding l l_at_After_replaced m m_at_After_replaced s s_at_After_replaced
 loop-m-preserved c = (
   simp length-set c.loop-m.invariant.0,
-  filled_next c.loop-m.invariant.1 c.requires.0 c.requires.1 c.requires.2 (few (goal.at.loop-m-preserved c).In-loop-m) c.loop-m.invariant.0 _ _ _ _ (to-up (goal.at.loop-m-preserved c).After-parted) (to-down (goal.at.loop-m-preserved c).After-parted) (is_up (goal.at.loop-m-preserved c).After-parted) (is_down c),
+  filled_next c.loop-m.invariant.1 c.requires.0 c.requires.1 c.requires.2 (few (goal.at.loop-m-preserved c).In-loop-m) c.loop-m.invariant.0 _ _ _ _
+      (to-up (goal.at.loop-m-preserved c).After-parted) (to-down (goal.at.loop-m-preserved c).After-parted)
+      (is_up (goal.at.loop-m-preserved c).After-parted) (is_down c),
 )
 
 pub returns : goal.returns

@@ -12,4 +12,9 @@ use Rattle.rowset.proofs.sets.sets_of.Goals as goal
 
 pub returns : goal.returns
 unfolding tabulated counted count_below mask_count count_to mask_has
-returns c = let e : c.wide.result ≡ get_or (tabulated counted 0 81) (c.args.n * 9 + c.args.k) 0 = c.wide.ensures.value in let r : c.wide.result ≡ count_below c.args.k (2 ^ c.args.n) = e ∙ counted-at c.args.n c.args.k (search rules) (search rules) in let h : c.args.n ≤ 8 = search rules in let p : 2 ^ c.args.n ≤ 2 ^ 8 = pow_mono h in record { value = r; upper_bound = omega (arith, sets-few c.args.k (2 ^ c.args.n) (search rules) p) }
+returns c =
+    let e : c.wide.result ≡ get_or (tabulated counted 0 81) (c.args.n * 9 + c.args.k) 0 = c.wide.ensures.value in
+    let r : c.wide.result ≡ count_below c.args.k (2 ^ c.args.n) = e ∙ counted-at c.args.n c.args.k (search rules) (search rules) in
+    let h : c.args.n ≤ 8 = search rules in
+    let p : 2 ^ c.args.n ≤ 2 ^ 8 = pow_mono h in
+    record { value = r; upper_bound = omega (arith, sets-few c.args.k (2 ^ c.args.n) (search rules) p) }
