@@ -136,7 +136,8 @@ module _ (n k a o : ℕ) (w : Number) (v : List Number) where
                 u' z (eu ∙ ap (λ (x : ℕ). set u x z) ei)
                 (ez ∙ ap₂ (λ (x y : Number). sum_of x (product_of w y)) here there ∙ sym (moved-changed s changed-lt C.moves))
 
-      pub move_all : {u : List Number} {p : ℕ} → SweptMove u p → count_below (k - 1) (2 ^ (n - 2)) ≤ p → Agree n k (state_of u) (moved rounded a o w (state_of v))
+      pub move_all : {u : List Number} {p : ℕ} → SweptMove u p → count_below (k - 1) (2 ^ (n - 2)) ≤ p → Agree n k (state_of u)
+          (moved rounded a o w (state_of v))
       unfolding moved_at
       move_all {u} S h =
           agree-masks n k u (moved rounded a o w (state_of v)) ln

@@ -62,7 +62,8 @@ module _ (u : List ℕ) (w : Number) (i j : ℕ) (e : length u ≡ 70) (hi : i <
   pub word_fits : ((sum_of x (product_of w y)).m < 2 ^ 32) × ((sum_of x (product_of w y)).x < 2 ^ 32)
   word_fits = (summed.high, omega (arith, summed.stop))
 
-  pub sum_back : (z : ℕ) → z ≡ pack_of (sum_of x (product_of w y)) → unpack_of z ≡ sum_of (get_or (numbers_of u) i absent) (product_of w (get_or (numbers_of u) j absent))
+  pub sum_back : (z : ℕ) → z ≡ pack_of (sum_of x (product_of w y)) → unpack_of z ≡ sum_of (get_or (numbers_of u) i absent)
+      (product_of w (get_or (numbers_of u) j absent))
   sum_back z ez =
       ap unpack_of ez ∙ unpack-pack (sum_of x (product_of w y)) summed.high
       ∙ ap₂ (λ (p q : Number). sum_of p (product_of w q)) (sym (number_at u i e hi)) (sym (number_at u j e hj))
@@ -71,7 +72,8 @@ module _ (u : List ℕ) (w : Number) (i j : ℕ) (e : length u ≡ 70) (hi : i <
   pub zero_same : y.m ≡ 0 → get_or (numbers_of u) i absent ≡ sum_of (get_or (numbers_of u) i absent) (product_of w (get_or (numbers_of u) j absent))
   zero_same h =
       let q : (get_or (numbers_of u) j absent).m ≡ 0 = ap (λ (a : Number). a.m) (number_at u j e hj) ∙ h in
-      let p : (product_of w (get_or (numbers_of u) j absent)).m ≡ 0 = ap (λ (a : Number). a.m) (product-zero-right Nearest w (get_or (numbers_of u) j absent) q) in
+      let p : (product_of w (get_or (numbers_of u) j absent)).m ≡ 0 = ap (λ (a : Number). a.m)
+      (product-zero-right Nearest w (get_or (numbers_of u) j absent) q) in
       sym (sum-zero-right Nearest (get_or (numbers_of u) i absent) (product_of w (get_or (numbers_of u) j absent)) R.0 p)
 
 pub set_same : (l : List Number) (i : ℕ) → l ≡ set l i (get_or l i absent)

@@ -17,12 +17,14 @@ use Rattle.rule.proofs.Chosen.factor.Goals.{Start}
 
 -- the factor by where it stands
 abbrev placed : (c : Start) → Bool → Bool → Number
-placed c on below = let a = c.args in
+placed c on below =
+    let a = c.args in
     factor_by rounded (size_of a.self) on below (banded_below rounded (size_of a.self)) (chosen_minor a.self a.sources.now) a.i a.j
 
 -- and its steps
 abbrev counted : (c : Start) → Bool → ℕ
-counted c on = let a = c.args in
+counted c on =
+    let a = c.args in
     let w = chosen_steps a.self a.sources.now in
     cond on (w a.i + w (a.i - 1)) (four_steps w (min a.i a.j))
 

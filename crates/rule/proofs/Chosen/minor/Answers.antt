@@ -15,11 +15,13 @@ use borrow.Author.Rules.{rules}
 use Rattle.rule.proofs.Chosen.minor.Goals as goal
 
 pub with_first-s-requires : goal.with_first-s-requires
-with_first-s-requires c = let h : 2 ^ size_of c.args.self ≤ 2 ^ 8 = pow_mono (size_few c.args.self c.requires.workable.0) in
+with_first-s-requires c =
+    let h : 2 ^ size_of c.args.self ≤ 2 ^ 8 = pow_mono (size_few c.args.self c.requires.workable.0) in
     (omega (arith, c.requires.workable.1), clamped-few c.args.self c.requires.workable.0)
 
 pub with_first-t-requires : goal.with_first-t-requires
-with_first-t-requires c = let h : 2 ^ size_of c.args.self ≤ 2 ^ 8 = pow_mono (size_few c.args.self c.requires.workable.0) in
+with_first-t-requires c =
+    let h : 2 ^ size_of c.args.self ≤ 2 ^ 8 = pow_mono (size_few c.args.self c.requires.workable.0) in
     (omega (arith, c.requires.workable.2), clamped-few c.args.self c.requires.workable.0)
 
 pub minor-requires : goal.minor-requires

@@ -69,11 +69,12 @@ overflow_add-steps-3 c = let f = few (goal.at.overflow_add-steps-3 c).After-with
 made : (c : After-with_row-above) → (let w = chosen_steps c.args.self c.args.sources.now in let s = c.with_row-corner.result.steps +
     c.alone-before.result.steps
     + (c.alone-run.result.steps + c.with_row-above.result.steps) in (s ≡ four_steps w c.args.j) × (s ≤ 96000))
-made c = let f = few c in (
-  ap₂ ◌+◌ (ap₂ ◌+◌ c.with_row-corner.ensures.steps_value.0 c.alone-before.ensures.steps_value.0)
-      (ap₂ ◌+◌ c.alone-run.ensures.steps_value.0 c.with_row-above.ensures.steps_value.0),
-  omega (arith, f.0, f.1, f.2, f.3),
-)
+made c =
+    let f = few c in (
+      ap₂ ◌+◌ (ap₂ ◌+◌ c.with_row-corner.ensures.steps_value.0 c.alone-before.ensures.steps_value.0)
+          (ap₂ ◌+◌ c.alone-run.ensures.steps_value.0 c.with_row-above.ensures.steps_value.0),
+      omega (arith, f.0, f.1, f.2, f.3),
+    )
 
 pub returns-then-corner-eq0 : goal.returns-then-corner-eq0
 returns-then-corner-eq0 c =
@@ -91,7 +92,8 @@ pub mul-requires-2 : goal.mul-requires-2
 mul-requires-2 c = (minor-reach c.alone-run.ensures.ranged, minor-reach c.with_row-above.ensures.ranged)
 
 pub div-requires : goal.div-requires
-div-requires c = let a = c.args in
+div-requires c =
+    let a = c.args in
     let p = c.requires.workable in
     let d = p.0.divisible a.turned in
     let z = corner-nonzero (size_of a.self) (minors (goal.at.div-requires c).Start) a.i a.j c.with_row-corner.ensures.number_value c.if-corner-eq0.false in (

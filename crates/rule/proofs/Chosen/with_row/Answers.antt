@@ -8,7 +8,8 @@ use Rattle.rule.proofs.Sets.{latest-256, with-ready, with-answer, with_rows}
 use Rattle.rule.proofs.Chosen.with_row.Goals as goal
 
 pub replaced-requires : goal.replaced-requires
-replaced-requires c = let a = c.args in
+replaced-requires c =
+    let a = c.args in
     let M = turned_by a.turned (chosen_minor a.self a.sources.now) in
     let f = size_few a.self c.requires.workable.0 in (
       latest-256 a.self c.requires.workable.0 M a.i a.j a.s c.requires.latest_mask.0 (search rules) (search rules) (search rules),

@@ -24,5 +24,6 @@ pub overflow_add-result : goal.overflow_add-result
 overflow_add-result c = omega (arith, few c)
 
 pub returns : goal.returns
-returns c = let a = c.args in
+returns c =
+    let a = c.args in
     ap (λ (e : ℕ). a.m * (e - 3) + 3) c.one_source-2.ensures ∙ steps-bound a.m a.n

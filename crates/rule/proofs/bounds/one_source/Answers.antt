@@ -9,5 +9,6 @@ use Rattle.rule.proofs.bounds.one_source.Goals as goal
 
 pub returns : goal.returns
 unfolding tabulated
-returns c = let e : 1 + (c.args.n - 1) ≡ c.args.n = omega arith in
+returns c =
+    let e : 1 + (c.args.n - 1) ≡ c.args.n = omega arith in
     tabulated-at (bound_of 1) 1 8 (c.args.n - 1) (search rules) ∙ ap (bound_of 1) e
