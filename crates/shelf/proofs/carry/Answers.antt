@@ -20,7 +20,10 @@ source : (c : In_default) → Source (rows_at c.args.shelf) c.args.place
 source c = source-accepted _ _ (accepted c)
 
 pub returns-in-Refused : goal.returns-in-Refused
-returns-in-Refused c = let a = c.args in let t = carry-turned a.shelf a.place a.items.now a.out.now _ (sym c.source-first.ensures ∙ c.in-Refused.is) in record { result_value = t.0; out_after = t.1; steady = tt }
+returns-in-Refused c =
+    let a = c.args in
+    let t = carry-turned a.shelf a.place a.items.now a.out.now _ (sym c.source-first.ensures ∙ c.in-Refused.is) in
+    record { result_value = t.0; out_after = t.1; steady = tt }
 
 pub table_at-requires : goal.table_at-requires
 table_at-requires c = let small = (source (goal.at.table_at-requires c).In_default).small in omega arith
@@ -35,6 +38,6 @@ returns c =
     let a = c.args in
     let e = c.carry.ensures in
     let d =
-    carry-done a.shelf a.place a.items.now a.out.now (accepted (goal.at.returns c).In_default) _ _ c.rows_at-n.ensures c.table_at.ensures _ _ e.value e.out_after
-    in
+    carry-done a.shelf a.place a.items.now a.out.now (accepted (goal.at.returns c).In_default) _ _ c.rows_at-n.ensures c.table_at.ensures _ _ e.value
+    e.out_after in
     record { result_value = d.0; out_after = d.1; steady = e.steady }

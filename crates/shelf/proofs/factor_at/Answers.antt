@@ -67,9 +67,12 @@ pub bounds-t-i : goal.bounds-t-i
 bounds-t-i c = below (goal.at.bounds-t-i c).Else-n-j
 
 pub exponent-requires : goal.exponent-requires
-exponent-requires c = factor-exponent _ c.requires _ _ _ (row (goal.at.exponent-requires c).Else-n-j) (column (goal.at.exponent-requires c).Else-n-j) _ c.table_at-t.ensures
+exponent-requires c =
+    factor-exponent _ c.requires _ _ _ (row (goal.at.exponent-requires c).Else-n-j) (column (goal.at.exponent-requires c).Else-n-j) _ c.table_at-t.ensures
 
 pub returns : goal.returns
-returns c = let e : SFits w64 c.exponent.result = record { sfits = c.exponent.type_inv } in
-    factor-done _ c.requires _ _ _ (row (goal.at.returns c).Else-n-j) (column (goal.at.returns c).Else-n-j) _ _ (factor-is _ c.requires _ _ _ (row (goal.at.returns c).Else-n-j) (column (goal.at.returns c).Else-n-j) _ c.table_at-t.ensures)
+returns c =
+    let e : SFits w64 c.exponent.result = record { sfits = c.exponent.type_inv } in
+    factor-done _ c.requires _ _ _ (row (goal.at.returns c).Else-n-j) (column (goal.at.returns c).Else-n-j) _ _
+    (factor-is _ c.requires _ _ _ (row (goal.at.returns c).Else-n-j) (column (goal.at.returns c).Else-n-j) _ c.table_at-t.ensures)
     (to_z-of_z e ∙ c.exponent.ensures)

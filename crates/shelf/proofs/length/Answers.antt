@@ -29,7 +29,10 @@ told : (s : Shelf) (p : ℕ) (f : Report) → f ≡ length_call s p → (f ≡ l
 told s p f e = (e, length-tells s p f e)
 
 pub returns-in-Refused : goal.returns-in-Refused
-returns-in-Refused c = let a = c.args in record { result_value = (told a.shelf a.place _ (length-turned a.shelf a.place _ (sym c.source-first.ensures ∙ c.in-Refused.is))).0; measuring = (told a.shelf a.place _ (length-turned a.shelf a.place _ (sym c.source-first.ensures ∙ c.in-Refused.is))).1 }
+returns-in-Refused c =
+    let a = c.args in
+    let met = told a.shelf a.place _ (length-turned a.shelf a.place _ (sym c.source-first.ensures ∙ c.in-Refused.is)) in
+    record { result_value = met.0; measuring = met.1 }
 
 pub table_at-requires : goal.table_at-requires
 table_at-requires c = (source-accepted _ _ (accepted (goal.at.table_at-requires c).In_default)).small
@@ -38,11 +41,10 @@ pub packed-factors-requires : goal.packed-factors-requires
 packed-factors-requires c = few (goal.at.packed-factors-requires c).After-rows_at-n
 
 pub returns : goal.returns
-returns c = let a = c.args in record {
-  result_value = (told a.shelf a.place _
-      (length-done a.shelf a.place (accepted (goal.at.returns c).In_default) _
-      (bytes_packed _ _ _ _ _ (few (goal.at.returns c).After-rows_at-n) c.rows_at-n.ensures c.table_at.ensures c.packed-factors.ensures) _ c.matrix_length.ensures)).0;
-  measuring = (told a.shelf a.place _
-      (length-done a.shelf a.place (accepted (goal.at.returns c).In_default) _
-      (bytes_packed _ _ _ _ _ (few (goal.at.returns c).After-rows_at-n) c.rows_at-n.ensures c.table_at.ensures c.packed-factors.ensures) _ c.matrix_length.ensures)).1;
-}
+returns c =
+    let a = c.args in
+    let met =
+    told a.shelf a.place _ (length-done a.shelf a.place (accepted (goal.at.returns c).In_default) _
+    (bytes_packed _ _ _ _ _ (few (goal.at.returns c).After-rows_at-n) c.rows_at-n.ensures c.table_at.ensures c.packed-factors.ensures) _
+    c.matrix_length.ensures) in
+    record { result_value = met.0; measuring = met.1 }

@@ -40,7 +40,10 @@ same : (c : After-write_matrix)
 same c = bytes_packed _ _ _ _ _ (few_at_After_write_matrix c) c.rows_at-n.ensures c.table_at.ensures c.packed-factors.ensures
 
 pub returns-in-Refused : goal.returns-in-Refused
-returns-in-Refused c = let a = c.args in record { result_value = (write-turned a.shelf a.place a.out.now _ (sym c.source-first.ensures ∙ c.in-Refused.is)).0; out_after = (write-turned a.shelf a.place a.out.now _ (sym c.source-first.ensures ∙ c.in-Refused.is)).1 }
+returns-in-Refused c =
+    let a = c.args in
+    let met = write-turned a.shelf a.place a.out.now _ (sym c.source-first.ensures ∙ c.in-Refused.is) in
+    record { result_value = met.0; out_after = met.1 }
 
 pub table_at-requires : goal.table_at-requires
 table_at-requires c = (source-accepted _ _ (accepted (goal.at.table_at-requires c).In_default)).small
@@ -49,9 +52,9 @@ pub packed-factors-requires : goal.packed-factors-requires
 packed-factors-requires c = few (goal.at.packed-factors-requires c).After-rows_at-n
 
 pub returns : goal.returns
-returns c = let a = c.args in record {
-  result_value = (write_done a.shelf a.place a.out.now (accepted (goal.at.returns c).In_default) _ _ (same (goal.at.returns c).After-write_matrix) c.write_matrix.result c.write_matrix.ensures.result_value
-      c.write_matrix.ensures.out_after).0;
-  out_after = (write_done a.shelf a.place a.out.now (accepted (goal.at.returns c).In_default) _ _ (same (goal.at.returns c).After-write_matrix) c.write_matrix.result c.write_matrix.ensures.result_value
-      c.write_matrix.ensures.out_after).1;
-}
+returns c =
+    let a = c.args in
+    let met =
+    write_done a.shelf a.place a.out.now (accepted (goal.at.returns c).In_default) _ _ (same (goal.at.returns c).After-write_matrix) c.write_matrix.result
+    c.write_matrix.ensures.result_value c.write_matrix.ensures.out_after in
+    record { result_value = met.0; out_after = met.1 }
