@@ -32,20 +32,22 @@ say-requires c = sayable _ _ (passed (goal.at.say-requires c).In-Accepted)
 
 pub returns-in-Accepted : goal.returns-in-Accepted
 returns-in-Accepted c =
-    let d = sayable-done (handed (goal.at.returns-in-Accepted c).After-test-verdict) c.args.out.now (passed (goal.at.returns-in-Accepted c).In-Accepted) in
+    let verdict = (goal.at.returns-in-Accepted c).After-test-verdict in
+    let d = sayable-done (handed verdict) c.args.out.now (passed (goal.at.returns-in-Accepted c).In-Accepted) in
     let report = c.say.ensures.result_value ∙ d.0 in
     let left = c.say.ensures.out_after ∙ d.1 in
     record {
       result_value = report;
       out_after = left;
-      worded = worded (handed (goal.at.returns-in-Accepted c).After-test-verdict) c.args.out.now (bits (goal.at.returns-in-Accepted c).After-test-verdict) _ _ report left;
+      worded = worded (handed verdict) c.args.out.now (bits verdict) _ _ report left;
     }
 
 pub returns-in-Refused : goal.returns-in-Refused
 returns-in-Refused c =
-    let d = unsayable-done (handed (goal.at.returns-in-Refused c).After-test-verdict) c.args.out.now _ (sym (tested (goal.at.returns-in-Refused c).After-test-verdict) ∙ c.in-Refused.is) in
+    let verdict = (goal.at.returns-in-Refused c).After-test-verdict in
+    let d = unsayable-done (handed verdict) c.args.out.now _ (sym (tested verdict) ∙ c.in-Refused.is) in
     record {
       result_value = d.0;
       out_after = d.1;
-      worded = worded (handed (goal.at.returns-in-Refused c).After-test-verdict) c.args.out.now (bits (goal.at.returns-in-Refused c).After-test-verdict) _ _ d.0 d.1;
+      worded = worded (handed verdict) c.args.out.now (bits verdict) _ _ d.0 d.1;
     }

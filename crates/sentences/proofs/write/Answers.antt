@@ -21,9 +21,10 @@ tested c = c.test-verdict.ensures
 
 pub returns-in-Accepted : goal.returns-in-Accepted
 returns-in-Accepted c =
-    let fits = sym (tested (goal.at.returns-in-Accepted c).After-test-verdict) ∙ c.in-Accepted.is in
-    let d = writing-done (out (goal.at.returns-in-Accepted c).After-test-verdict) (text (goal.at.returns-in-Accepted c).After-test-verdict) fits in
-    let p = puts_whole c.put.ensures (writing-room (out (goal.at.returns-in-Accepted c).After-test-verdict) (text (goal.at.returns-in-Accepted c).After-test-verdict) fits) in
+    let verdict = (goal.at.returns-in-Accepted c).After-test-verdict in
+    let fits = sym (tested verdict) ∙ c.in-Accepted.is in
+    let d = writing-done (out verdict) (text verdict) fits in
+    let p = puts_whole c.put.ensures (writing-room (out verdict) (text verdict) fits) in
     record { result_value = ap (λ (k : ℕ). accepted (pos k ∷ [])) p.0 ∙ d.0; out_after = p.1 ∙ d.1 }
 
 pub returns-in-Refused : goal.returns-in-Refused
