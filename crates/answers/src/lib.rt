@@ -16,10 +16,10 @@ ghost use Rattle.answers.specs.Answers.{integer_text, values_text, report_text, 
 use number::integer;
 use shelf::{Bounded, Foretold, Performed, Refusal, Reversals, Valued, Verdict, Worked, Written};
 
-mod items; // items.rt: list items
+mod listed; // listed.rt: list items
 mod matrix; // matrix.rt: what a place holds
 
-pub use items::put_items;
+pub use listed::put_items;
 pub use matrix::{put_factor, put_place};
 
 // A whole number with its sign.

@@ -12,7 +12,7 @@ ghost use Rattle.answers.specs.Answers.{report_text, with_bytes};
 ghost use Rattle.replies.specs.Calls.{lent_count, lent_bytes, lent_items, show_text};
 ghost use Rattle.replies.specs.Replies.{Replied, told, told_worked, told_bytes, told_items, reply};
 
-use crate::items;
+use crate::filling;
 use shelf::{Changed, Filled, Operator, Refusal, Shelf, Written};
 
 // The shelf after a request, and the index of the output behind the answer.
@@ -197,7 +197,7 @@ pub fn carry(
 {
     let mut memory = [0i64; 1536];
     let numbers: &mut [i64] = &mut memory;
-    items::fill(numbers);
+    filling::fill(numbers);
     let n = lent(count);
     carry_to(shelf, place, list, &mut numbers[0..n * 3], out, at)
 }

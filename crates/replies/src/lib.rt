@@ -3,7 +3,7 @@
 
 mod answer; // answer.rt: the answer to a line
 mod calls; // calls.rt: the calls, with their answers
-mod items; // items.rt: list items, as they are lent
+mod filling; // filling.rt: list items, as they are lent
 mod tasks; // tasks.rt: operations and recipes, worked or foretold
 
 pub use answer::{LONGEST, to_line};

@@ -3,7 +3,7 @@ use mir.Facts.{to_z-of_z}
 use Rattle.lines.specs.Ascii.{ascii}
 use Rattle.lines.proofs.Text.{puts-behind}
 use Rattle.answers.specs.Items.{item_text}
-use Rattle.answers.proofs.items.put_item.Goals as goal
+use Rattle.answers.proofs.listed.put_item.Goals as goal
 
 pub returns : goal.returns
 unfolding item_text

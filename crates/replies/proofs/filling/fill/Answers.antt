@@ -1,8 +1,8 @@
--- `replies::items::fill` meets its contract. The loop's invariant: the numbers before index k are set.
+-- `replies::filling::fill` meets its contract. The loop's invariant: the numbers before index k are set.
 use native.Mathlib.Omega.{arith}
 use lib.ListN.{length-set}
 use Rattle.replies.proofs.Lent.{filled_none, filled_more, filled-end}
-use Rattle.replies.proofs.items.fill.Goals as goal
+use Rattle.replies.proofs.filling.fill.Goals as goal
 
 pub loop-list-init : goal.loop-list-init
 loop-list-init c = filled_none _

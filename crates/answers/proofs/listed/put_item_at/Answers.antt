@@ -5,7 +5,7 @@ use mir.Val.{SFits}
 use lib.IntN.{pos}
 use Rattle.std.proofs.lemmas.Int.{to_z-of_z}
 use borrow.Author.Rules.{rules}
-use Rattle.answers.proofs.items.put_item_at.Goals as goal
+use Rattle.answers.proofs.listed.put_item_at.Goals as goal
 
 pub returns : goal.returns
 returns c =

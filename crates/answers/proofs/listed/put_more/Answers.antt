@@ -1,7 +1,7 @@
 -- `answers::put_more` meets its contract. The loop's invariant: the items before index k are put.
 use native.Mathlib.Omega.{arith}
 use Rattle.answers.proofs.Lists.{listed-none, listed_more, listed-end}
-use Rattle.answers.proofs.items.put_more.Goals as goal
+use Rattle.answers.proofs.listed.put_more.Goals as goal
 
 pub loop-k-init : goal.loop-k-init
 loop-k-init c = listed-none _ _ _

@@ -5,7 +5,7 @@ use lib.Seq.{take_all}
 use native.Mathlib.Omega.{arith}
 use Rattle.lines.proofs.Text.{puts-behind}
 use Rattle.answers.proofs.Lists.{items-none, items-some}
-use Rattle.answers.proofs.items.put_items.Goals as goal
+use Rattle.answers.proofs.listed.put_items.Goals as goal
 
 pub returns-then-list-lt3 : goal.returns-then-list-lt3
 returns-then-list-lt3 c = rw (items-none c.args.list.now c.if-list-lt3.true)
