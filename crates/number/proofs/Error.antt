@@ -1,7 +1,7 @@
 -- Each operation's result is within the direction's unit roundings of the exact one, one to nearest and two down or up, zero operands included:
 -- `sum-within`, `product-within`, `quotient-within`, by one law of every rounding, `rounds-within`.
 use mathlib.Core.Path.{◌≡◌, ap, subst}
-use Prim.Native.Nat.{ℕ, zero, suc, ◌+◌, ◌-◌, ◌*◌, ◌^◌, ◌≤◌, ◌<◌}
+use Prim.Native.Nat.{ℕ, zero, suc, ◌+◌, ◌*◌, ◌^◌, ◌≤◌, ◌<◌}
 use native.Mathlib.Nat.{mul-pos}
 use native.Mathlib.Omega.{arith}
 use Rattle.fraction.specs.Fraction.{Fraction, natural, fraction_sum, fraction_product, fraction_quotient}

@@ -2,7 +2,7 @@
 -- `signed-ranged-zero` and `signed-ranged-plain` start one.
 use mathlib.Core.Path.{◌≡◌, refl, sym, ap, ◌∙◌, subst}
 use mathlib.Core.Bool.{Bool, true, false, xor, not, ◌&&◌}
-use Prim.Native.Nat.{ℕ, zero, ◌+◌, ◌≤◌, ◌<◌}
+use Prim.Native.Nat.{ℕ, ◌+◌, ◌≤◌, ◌<◌}
 use native.Mathlib.Omega.{arith}
 use borrow.Author.Tests.{eq-eqb}
 use Rattle.number.proofs.Reach.{ranged-more, ranged-zero, ranged-sum, ranged-product, ranged-difference, difference-positive}

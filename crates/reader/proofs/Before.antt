@@ -2,7 +2,7 @@
 -- of which every factor is a stored number (`old-stored`).
 -- Up to the first code of zero both readings take the same factors, none of them zero, so that no code is behind a zero in its line (`same-judged`). That code
 -- is 6 in document 01, and still so on the diagonal (`diagonal-judged`).
-use Prim.Native.Nat.{ℕ, zero, suc, ◌+◌, ◌-◌, ◌*◌, ◌/◌, ◌%◌, ◌^◌, ◌<◌, ◌≤◌}
+use Prim.Native.Nat.{ℕ, zero, suc, ◌+◌, ◌-◌, ◌*◌, ◌/◌, ◌%◌, ◌<◌, ◌≤◌}
 use native.Mathlib.Nat.{suc-ne-zero}
 use native.Mathlib.Decide.{ℕ_discrete, dec_lt}
 use native.Mathlib.Omega.{arith}

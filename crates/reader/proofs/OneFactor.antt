@@ -1,6 +1,6 @@
 -- ONE FACTOR, and the group numbers that it consists of. Written where it may stand, it reads back, whatever is in front and behind (`item-written`,
 -- `factor-written`). One that was read may stand there, and its bytes are those that it is written as (`item-read`, `factor-read`).
-use Prim.Native.Nat.{ℕ, suc, ◌+◌, ◌-◌, ◌^◌, ◌<◌, ◌≤◌}
+use Prim.Native.Nat.{ℕ, ◌+◌, ◌-◌, ◌^◌, ◌<◌}
 use native.Mathlib.Nat.{suc-ne-zero, add_assoc, add-zero}
 use native.Mathlib.Decide.{ℕ_discrete}
 use native.Mathlib.Omega.{arith}

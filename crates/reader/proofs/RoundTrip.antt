@@ -1,7 +1,7 @@
 -- A matrix has one form. What is written reads back, whatever is behind it (`matrix-written`). What is read can be stored, so its zeros keep the pattern, and
 -- it is what is written (`matrix-read`). `accepted`: the same of what `read_matrix` answers; `factors-held`: the factors of a matrix stand where `write_matrix`
 -- finds them.
-use Prim.Native.Nat.{ℕ, zero, suc, ◌+◌, ◌*◌, ◌<◌, ◌≤◌}
+use Prim.Native.Nat.{ℕ, zero, suc, ◌+◌, ◌*◌, ◌≤◌}
 use native.Mathlib.Nat.{suc-ne-zero, add_assoc, add-zero, zero-add}
 use native.Mathlib.Omega.{arith}
 use mathlib.Core.Path.{◌≡◌, refl, sym, ap, ◌∙◌}

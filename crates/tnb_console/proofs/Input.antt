@@ -1,12 +1,12 @@
 -- THE INPUT AS A WHOLE: however it arrives in pieces, the shelf is that after the lines of the whole (`any-pieces`). Shelves do not depend on the answers that
 -- wait, and what is held has no line's end in it.
 use Prim.Native.Nat.{ℕ}
-use mathlib.Core.Path.{◌≡◌, refl, sym, ap, ap₂, ◌∙◌}
+use mathlib.Core.Path.{◌≡◌, refl, ap, ap₂, ◌∙◌}
 use mathlib.Core.Bool.{Bool, true, false, cond}
 use mathlib.Core.List.{List, [], ◌∷◌, ◌++◌, append-nil, append_assoc, flatten}
 use Rattle.lines.specs.Words.{parted}
 use Rattle.places.specs.declared.Shelf.{Shelf}
-use Rattle.replies.specs.Replies.{overlong, reply_to_line}
+use Rattle.replies.specs.Replies.{reply_to_line}
 use Rattle.tnb_console.specs.Session.{Session, after_line, after_lines, all_but_last, lines_of, unended, after_text, held, emptied, after_pieces}
 use Rattle.tnb_console.proofs.Pieces.{last-whole, pieces}
 

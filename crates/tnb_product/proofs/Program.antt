@@ -2,7 +2,7 @@
 -- (`program-short`), since a line has at most 138 bytes.
 use Prim.Native.Nat.{ℕ, suc, ◌-◌, ◌≤◌}
 use native.Mathlib.Omega.{arith}
-use mathlib.Core.Path.{◌≡◌, sym}
+use mathlib.Core.Path.{◌≡◌}
 use mathlib.Core.List.{List, []}
 use lib.ListN.{length, take, length-append}
 use Rattle.lines.specs.Text.{Puts}

@@ -1,7 +1,6 @@
 -- `directed_work` meets its contract: what cannot be worked is answered with nothing, and each test is passed before the next.
 use mathlib.Core.Bool.{true}
 use mathlib.Core.Path.{◌≡◌, sym, ap, ◌∙◌}
-use borrow.Author.Rules.{rules}
 use borrow.Author.Tests.{not-true, not-false}
 use Rattle.number.specs.declared.Direction.{Direction}
 use Rattle.directed.specs.Directed.{is_workable, worked_of}

@@ -1,7 +1,6 @@
 -- `direction_of` meets its contract.
 use mathlib.Core.Path.{◌≡◌, refl}
 use Prim.Native.Nat.{ℕ, zero, suc}
-use borrow.Author.Rules.{rules}
 use Rattle.number.specs.declared.Direction.TheVariants.{Up}
 use Rattle.directed.specs.Directed.{direction_of}
 use Rattle.directed.proofs.direction_of.Goals as goal

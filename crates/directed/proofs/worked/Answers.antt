@@ -1,7 +1,6 @@
 -- `worked` meets its contract, by the operation.
 use mathlib.Core.Path.{sym, ◌∙◌}
 use native.Mathlib.Omega.{arith}
-use borrow.Author.Rules.{rules}
 use Rattle.directed.proofs.Workable.{workable-ranged, added, multiplied, divided, not-divided, unknown}
 use Rattle.directed.proofs.worked.Goals as goal
 

@@ -5,7 +5,7 @@ use borrow.Author.Rules.{rules}
 use mathlib.Core.Path.{◌≡◌}
 use mathlib.Core.Logic.{◌⊎◌, inl, inr}
 use Rattle.group.specs.Group.{Bytes}
-use Rattle.group.proofs.Reading.{Passed, passed_none, product_small, weight-small, passed-end, passed-five, passed-zero, passed-value, passed-large}
+use Rattle.group.proofs.Reading.{passed_none, product_small, weight-small, passed-end, passed-five, passed-zero, passed-value, passed-large}
 use Rattle.group.proofs.Reading.{passed-more, group-found}
 use Rattle.group.proofs.group_at.Goals as goal
 use Rattle.group.proofs.group_at.Goals.{At-loop-i, Else-b-lt128, Joined-b-eq0, then-b-eq0+else-i-ne0, else-b-eq0}

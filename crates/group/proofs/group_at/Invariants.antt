@@ -1,11 +1,5 @@
-use Prim.Native.Nat.{◌-◌, ◌*◌, ◌^◌, ◌≤◌, ◌<◌}
-use native.Mathlib.Omega.{arith}
-use borrow.Author.Rules.{rules}
-use mathlib.Core.Path.{◌≡◌}
-use mathlib.Core.Logic.{◌⊎◌, inl, inr, ⊎_elim}
-use Rattle.group.specs.Group.{Bytes}
-use Rattle.group.proofs.Reading.{Passed, passed_none, product_small, weight-small, passed-end, passed-five, passed-zero, passed-value, passed-large}
-use Rattle.group.proofs.Reading.{passed-more, group-found}
+use Prim.Native.Nat.{◌-◌}
+use Rattle.group.proofs.Reading.{Passed}
 use Rattle.group.proofs.group_at.Given as goal
 
 abbrev pub invariant-loop-i : goal.invariant-loop-i

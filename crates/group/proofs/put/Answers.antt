@@ -1,9 +1,7 @@
 -- `group::put` meets its contract. The loop's invariant: what is written so far, and what is left, make the bytes of v.
-use Prim.Native.Nat.{◌-◌}
 use native.Mathlib.Omega.{arith}
-use borrow.Author.Rules.{rules}
 use lib.ListN.{length-set}
-use Rattle.group.proofs.Writing.{Written, written_none, written-more, written_last, counted-last, room-more, room-last}
+use Rattle.group.proofs.Writing.{written_none, written-more, written_last, counted-last, room-more, room-last}
 use Rattle.group.proofs.put.Goals as goal
 
 pub loop-rest-init : goal.loop-rest-init

@@ -1,8 +1,5 @@
 use Prim.Native.Nat.{◌-◌}
-use native.Mathlib.Omega.{arith}
-use borrow.Author.Rules.{rules}
-use lib.ListN.{length-set}
-use Rattle.group.proofs.Writing.{Written, written_none, written-more, written_last, counted-last, room-more, room-last}
+use Rattle.group.proofs.Writing.{Written}
 use Rattle.group.proofs.put.Given as goal
 
 abbrev pub invariant-loop-rest : goal.invariant-loop-rest

@@ -1,7 +1,6 @@
 -- `group::width` meets its contract. The loop's invariant: the bytes counted so far, and those of what is left, are as many as those of v.
-use Prim.Native.Nat.{◌-◌}
 use native.Mathlib.Omega.{arith}
-use Rattle.group.proofs.Writing.{Counted, counted_none, counted-more, counted-last}
+use Rattle.group.proofs.Writing.{counted_none, counted-more, counted-last}
 use Rattle.group.proofs.width.Goals as goal
 
 pub loop-rest-init : goal.loop-rest-init

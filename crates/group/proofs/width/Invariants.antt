@@ -1,6 +1,5 @@
 use Prim.Native.Nat.{◌-◌}
-use native.Mathlib.Omega.{arith}
-use Rattle.group.proofs.Writing.{Counted, counted_none, counted-more, counted-last}
+use Rattle.group.proofs.Writing.{Counted}
 use Rattle.group.proofs.width.Given as goal
 
 abbrev pub invariant-loop-rest : goal.invariant-loop-rest

@@ -1,5 +1,4 @@
 -- `blank` meets its contract.
-use borrow.Author.Rules.{rules}
 use mathlib.Core.Path.{ap}
 use lib.ListN.{replicate}
 use Rattle.number.specs.declared.signed.Signed.{Signed}

@@ -1,5 +1,4 @@
 -- `item_at` meets its contract.
-use borrow.Author.Rules.{rules}
 use Prim.Native.Nat.{◌+◌, ◌*◌}
 use native.Mathlib.Omega.{arith}
 use Rattle.number.proofs.Integers.{read_is}

@@ -1,12 +1,11 @@
 -- `item_of` meets its contract: each test that fails leaves three numbers that are neither zero nor storable.
-use borrow.Author.Rules.{rules}
 use mathlib.Core.Path.{◌≡◌, sym, ap, ◌∙◌}
 use mathlib.Core.Bool.{true≢false}
 use native.Mathlib.Omega.{arith}
 use Prim.Native.Nat.{ℕ}
 use lib.IntN.{ℤ, nat_abs}
 use mir.Facts.{to_z-of_z}
-use Rattle.number.specs.Integer.{is_negative, biased}
+use Rattle.number.specs.Integer.{is_negative}
 use Rattle.items.specs.declared.ListItem.TheVariants.{Value}
 use Rattle.items.proofs.ItemForms.{Storable, item-zero, item-value, item-malformed}
 use Rattle.items.proofs.item_of.Goals as goal

@@ -1,13 +1,12 @@
 -- `items_of` meets its contract. The invariant: the whole list is what the rest of the numbers gives, put behind the k items read.
-use borrow.Author.Rules.{rules}
 use mathlib.Core.Path.{◌≡◌, sym, ap, ◌∙◌}
 use mathlib.Core.Bool.{true}
 use mathlib.Core.List.{List}
-use Prim.Native.Nat.{ℕ, ◌+◌, ◌-◌, ◌*◌, ◌≤◌, ◌<◌}
+use Prim.Native.Nat.{ℕ, ◌+◌, ◌*◌, ◌<◌}
 use native.Mathlib.Omega.{arith}
-use lib.ListN.{length, drop}
+use lib.ListN.{length}
 use Rattle.number.specs.declared.signed.Signed.{Signed}
-use Rattle.items.specs.Items.{blank_items, list_of, listed_from}
+use Rattle.items.specs.Items.{list_of, listed_from}
 use Rattle.items.proofs.Reading.{listed-value, listed-malformed, listed-end}
 use Rattle.items.proofs.items_of.Goals as goal
 use Rattle.items.proofs.items_of.Goals.{In-loop-k}

@@ -1,13 +1,7 @@
-use borrow.Author.Rules.{rules}
-use mathlib.Core.Path.{◌≡◌, sym, ap, ◌∙◌}
-use mathlib.Core.Bool.{true}
-use mathlib.Core.List.{List}
-use Prim.Native.Nat.{ℕ, ◌+◌, ◌-◌, ◌*◌, ◌≤◌, ◌<◌}
-use native.Mathlib.Omega.{arith}
-use lib.ListN.{length, drop}
-use Rattle.number.specs.declared.signed.Signed.{Signed}
+use mathlib.Core.Path.{◌≡◌}
+use Prim.Native.Nat.{◌-◌, ◌*◌, ◌≤◌}
+use lib.ListN.{drop}
 use Rattle.items.specs.Items.{blank_items, list_of, listed_from}
-use Rattle.items.proofs.Reading.{listed-value, listed-malformed, listed-end}
 use Rattle.items.proofs.items_of.Given as goal
 
 abbrev pub invariant-loop-k : goal.invariant-loop-k

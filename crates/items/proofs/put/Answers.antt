@@ -1,5 +1,4 @@
 -- `put` meets its contract.
-use borrow.Author.Rules.{rules}
 use native.Mathlib.Omega.{arith}
 use lib.ListN.{length-set}
 use Rattle.number.proofs.Integers.{held-is}

@@ -1,5 +1,4 @@
 -- `read` meets its contract: a wrong count of numbers shows before any item is read.
-use borrow.Author.Rules.{rules}
 use mathlib.Core.Path.{sym, ◌∙◌}
 use native.Mathlib.Omega.{arith}
 use Rattle.items.proofs.Reading.{listed-spare, listed-few, listed-many, listed-proper}

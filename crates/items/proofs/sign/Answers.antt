@@ -1,6 +1,5 @@
 -- `sign` meets its contract.
 use borrow.Author.Tests.{eq-eqb, ne_eqb}
-use borrow.Author.Rules.{rules}
 use mathlib.Core.Path.{◌∙◌}
 use Rattle.number.proofs.Integers.{held-is}
 use Rattle.items.proofs.sign.Goals as goal

@@ -1,10 +1,8 @@
 -- `write` meets its contract. The invariant: all items written at the start are the rest of them written behind the k that stand there.
-use borrow.Author.Rules.{rules}
-use mathlib.Core.Path.{◌≡◌, sym, ap, ◌∙◌}
+use mathlib.Core.Path.{sym, ap, ◌∙◌}
 use mathlib.Core.List.{List}
-use Prim.Native.Nat.{◌-◌, ◌*◌, ◌≤◌, ◌<◌}
+use Prim.Native.Nat.{◌*◌, ◌<◌}
 use native.Mathlib.Omega.{arith}
-use lib.ListN.{length, drop, take}
 use lib.Seq.{sets}
 use Rattle.number.specs.declared.signed.Signed.{Signed}
 use Rattle.items.specs.Items.{list_numbers}

@@ -1,14 +1,8 @@
-use borrow.Author.Rules.{rules}
-use mathlib.Core.Path.{◌≡◌, sym, ap, ◌∙◌}
-use mathlib.Core.List.{List}
-use Prim.Native.Nat.{◌-◌, ◌*◌, ◌≤◌, ◌<◌}
-use native.Mathlib.Omega.{arith}
+use mathlib.Core.Path.{◌≡◌}
+use Prim.Native.Nat.{◌-◌, ◌*◌, ◌≤◌}
 use lib.ListN.{length, drop, take}
 use lib.Seq.{sets}
-use Rattle.number.specs.declared.signed.Signed.{Signed}
 use Rattle.items.specs.Items.{list_numbers}
-use Rattle.arrays.proofs.Fronts.{front-end}
-use Rattle.items.proofs.Fronts.{unset, ranged-front, write-next}
 use Rattle.items.proofs.write.Given as goal
 
 abbrev pub invariant-loop-k : goal.invariant-loop-k

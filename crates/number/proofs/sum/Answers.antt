@@ -2,7 +2,6 @@
 use mathlib.Core.Path.{◌≡◌, sym, ap, ◌∙◌}
 use Prim.Native.Nat.{ℕ, ◌+◌, ◌-◌, min}
 use native.Mathlib.Omega.{arith}
-use borrow.Author.Rules.{rules}
 use Rattle.number.proofs.Sums.{aligned-low, aligned-high, aligned-is}
 use Rattle.number.specs.Number.{round_by}
 use Rattle.number.specs.Digits.{aligned_of}

@@ -9,7 +9,6 @@ use mir.Syntax.{w64}
 use mir.Val.{SFits, to_z}
 use mir.Facts.{to_z-of_z, to_z_pos}
 use Rattle.number.specs.Number.{bias}
-use borrow.Author.Rules.{rules}
 use Rattle.number.proofs.unbiased.Goals as goal
 use Rattle.number.proofs.unbiased.Goals.{Start}
 

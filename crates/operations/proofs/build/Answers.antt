@@ -1,6 +1,5 @@
 -- The matrix of powers is worked and kept; the outcome is that of the definition, and what is promised of the stamps holds (`build-done`).
 use Rattle.operations.proofs.Building.{build-done}
-use borrow.Author.Rules.{rules}
 use Rattle.operations.proofs.build.Goals as goal
 
 pub returns : goal.returns

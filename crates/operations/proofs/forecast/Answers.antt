@@ -6,7 +6,6 @@ use Rattle.verdict.specs.Report.{Report}
 use Rattle.operations.specs.Forecast.{forecast_call, task_call, Found, Foretelling}
 use Rattle.operations.proofs.Forecasts.{forecast-tells}
 use Rattle.operations.specs.declared.Task.TheVariants.{Submatrix}
-use borrow.Author.Rules.{rules}
 use Rattle.operations.proofs.forecast.Goals as goal
 use Rattle.operations.proofs.forecast.Goals.{Start}
 

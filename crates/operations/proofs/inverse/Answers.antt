@@ -1,6 +1,5 @@
 -- The re-signed inverse is worked as steps joined and kept; the outcome is that of the definition, and demand 3 holds (`operation-done`).
 use native.Mathlib.Omega.{arith}
-use borrow.Author.Rules.{rules}
 use Rattle.walk.specs.declared.Way.TheVariants.{Inverted}
 use Rattle.operations.proofs.Results.{operation-done}
 use Rattle.operations.proofs.Recipes.{whole_ready}

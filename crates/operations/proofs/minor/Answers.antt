@@ -20,7 +20,6 @@ use Rattle.operations.specs.Operations.{minor_at, set_tests}
 use Rattle.operations.specs.Reports.{valued_report}
 use Rattle.operations.proofs.MinorCalls.{sets-passed, minor-turned, minor-outside, minor-done, minor-is, minor-workable, in-range-small}
 use borrow.Author.Tests.{not-true, not-false}
-use borrow.Author.Rules.{rules}
 use mathlib.Core.Bool.{not}
 use mathlib.Core.Path.{ap}
 use Rattle.operations.proofs.minor.Goals as goal

@@ -1,5 +1,4 @@
 -- `perform` meets its contract: each operation by its own call.
-use borrow.Author.Rules.{rules}
 use Rattle.operations.proofs.perform.Goals as goal
 
 pub returns-in-Product : goal.returns-in-Product

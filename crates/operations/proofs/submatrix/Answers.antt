@@ -1,6 +1,5 @@
 -- The submatrix, its sets as masks, is worked and kept; the outcome is that of the definition, and demand 3 holds (`operation-done`).
 use Rattle.operations.proofs.Results.{submatrix-ready, operation-done}
-use borrow.Author.Rules.{rules}
 use Rattle.operations.proofs.submatrix.Goals as goal
 
 pub submatrix-requires : goal.submatrix-requires

@@ -1,6 +1,5 @@
 -- The transpose is worked and kept; the outcome is that of the definition (`transpose-kept`).
 use Rattle.operations.proofs.Proposals.{transpose-kept}
-use borrow.Author.Rules.{rules}
 use Rattle.operations.proofs.transpose.Goals as goal
 
 pub keep-requires : goal.keep-requires

@@ -6,7 +6,6 @@ use Rattle.places.specs.declared.Shelf.{Shelf}
 use Rattle.places.specs.Shelf.{Good}
 use Rattle.places.specs.Shelf.{empty_shelf}
 use Rattle.places.proofs.Holding.{good-empty}
-use borrow.Author.Rules.{rules}
 use Rattle.places.proofs.new.Goals as goal
 
 -- eight empty places, and one number everywhere

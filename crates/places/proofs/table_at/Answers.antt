@@ -1,10 +1,8 @@
 -- `table_at` meets its contract. The invariant: the first k numbers of the place are read.
 use Rattle.table.specs.Table.{absent}
 use Rattle.arrays.proofs.Structs.{length-mapped}
-use Prim.Native.Nat.{◌+◌, ◌*◌, ◌-◌}
 use mathlib.Core.Path.{refl}
-use lib.ListN.{get_or}
-use Rattle.arrays.proofs.Filled.{Filled, filled_none, filled_more}
+use Rattle.arrays.proofs.Filled.{filled_none, filled_more}
 use Rattle.places.proofs.Holding.{table-read}
 use borrow.Author.Rules.{rules}
 use Rattle.places.proofs.table_at.Goals as goal

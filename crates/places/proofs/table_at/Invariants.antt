@@ -1,12 +1,8 @@
 -- The loop of `table_at`: the first k numbers of the place are read, and how many are left.
 use Rattle.table.specs.Table.{absent}
-use Rattle.arrays.proofs.Structs.{length-mapped}
 use Prim.Native.Nat.{◌+◌, ◌*◌, ◌-◌}
-use mathlib.Core.Path.{refl}
 use lib.ListN.{get_or}
-use Rattle.arrays.proofs.Filled.{Filled, filled_none, filled_more}
-use Rattle.places.proofs.Holding.{table-read}
-use borrow.Author.Rules.{rules}
+use Rattle.arrays.proofs.Filled.{Filled}
 use Rattle.places.proofs.table_at.Given as goal
 
 abbrev pub invariant-loop-k : goal.invariant-loop-k

@@ -1,9 +1,9 @@
 -- `with_table` meets its contract. The invariant: the first k numbers of the table are put, and the sizes are as they were.
-use Prim.Native.Nat.{ℕ, ◌+◌, ◌*◌, ◌-◌, ◌≤◌}
+use Prim.Native.Nat.{ℕ, ◌+◌, ◌*◌}
 use native.Mathlib.Omega.{arith}
 use mathlib.Core.Path.{◌≡◌, refl, sym, ap, subst, ◌∙◌}
 use mathlib.Core.List.{List}
-use lib.ListN.{length, get_or, take, set}
+use lib.ListN.{get_or, take, set}
 use lib.Seq.{sets, take_all}
 use Rattle.arrays.proofs.Runs.{sets-next}
 use Rattle.number.specs.declared.Number.{Number}

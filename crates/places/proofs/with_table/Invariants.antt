@@ -1,17 +1,8 @@
 -- The loop of `with_table`: the first k numbers of the table are put, and the sizes are as they were; how many are left.
-use Prim.Native.Nat.{ℕ, ◌+◌, ◌*◌, ◌-◌, ◌≤◌}
-use native.Mathlib.Omega.{arith}
-use mathlib.Core.Path.{◌≡◌, refl, sym, ap, subst, ◌∙◌}
-use mathlib.Core.List.{List}
-use lib.ListN.{length, get_or, take, set}
-use lib.Seq.{sets, take_all}
-use Rattle.arrays.proofs.Runs.{sets-next}
-use Rattle.number.specs.declared.Number.{Number}
-use Rattle.arrays.proofs.Structs.{length-mapped}
-use Rattle.table.specs.Table.{absent}
-use Rattle.places.specs.Shelf.{with_table, Good}
-use Rattle.places.proofs.Holding.{shelf-fields, good-put}
-use borrow.Author.Rules.{rules}
+use Prim.Native.Nat.{◌*◌, ◌-◌, ◌≤◌}
+use mathlib.Core.Path.{◌≡◌}
+use lib.ListN.{length, take}
+use lib.Seq.{sets}
 use Rattle.places.proofs.with_table.Given as goal
 
 abbrev pub invariant-loop-k : goal.invariant-loop-k

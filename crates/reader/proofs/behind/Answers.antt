@@ -1,6 +1,5 @@
 -- `reader::behind` meets its contract: the part behind the matrix that was read, or the whole.
 use Prim.Native.Nat.{◌≤◌}
-use borrow.Author.Rules.{rules}
 use mathlib.Core.Path.{refl, ap, ◌∙◌}
 use lib.ListN.{length}
 use Rattle.reader.specs.declared.ReadOutcome.TheVariants.{Matrix}

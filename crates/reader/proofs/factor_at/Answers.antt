@@ -1,6 +1,5 @@
 -- `reader::factor_at` meets its contract, by what the item at the offset is and how its code is judged.
 use Prim.Native.Nat.{◌^◌, ◌≤◌, ◌<◌}
-use borrow.Author.Rules.{rules}
 use mathlib.Core.Path.{refl}
 use lib.ListN.{length, take}
 use Rattle.reader.specs.declared.ByteItem.TheVariants.{Value}

@@ -1,12 +1,10 @@
 -- `reader::factors_from` meets its contract. The loop's invariant: the factors read so far, and those behind the offset, make what the definition reads.
-use Prim.Native.Nat.{◌-◌}
 use native.Mathlib.Omega.{arith}
-use borrow.Author.Rules.{rules}
 use mathlib.Core.Path.{◌∙◌}
 use Rattle.writer.proofs.Writing.{square-small}
 use Rattle.reader.specs.declared.ByteFactor.TheVariants.{At}
 use Rattle.reader.specs.Matrix.{FactorInside}
-use Rattle.reader.proofs.Reading.{ReadSoFar, read_none, read_more, read-fault, read_all}
+use Rattle.reader.proofs.Reading.{read_none, read_more, read-fault, read_all}
 use Rattle.reader.proofs.factors_from.Goals as goal
 
 pub overflow_mul-count : goal.overflow_mul-count

@@ -1,11 +1,5 @@
 use Prim.Native.Nat.{◌-◌}
-use native.Mathlib.Omega.{arith}
-use borrow.Author.Rules.{rules}
-use mathlib.Core.Path.{◌∙◌}
-use Rattle.writer.proofs.Writing.{square-small}
-use Rattle.reader.specs.declared.ByteFactor.TheVariants.{At}
-use Rattle.reader.specs.Matrix.{FactorInside}
-use Rattle.reader.proofs.Reading.{ReadSoFar, read_none, read_more, read-fault, read_all}
+use Rattle.reader.proofs.Reading.{ReadSoFar}
 use Rattle.reader.proofs.factors_from.Given as goal
 
 abbrev pub invariant-loop-k : goal.invariant-loop-k

@@ -1,7 +1,6 @@
 -- `reader::item_at` meets its contract: what the reader of group numbers finds in the part from the offset on, said of the whole input.
 use Prim.Native.Nat.{◌+◌, ◌^◌, ◌≤◌, ◌<◌}
 use native.Mathlib.Omega.{arith}
-use borrow.Author.Rules.{rules}
 use mathlib.Core.Path.{◌≡◌, refl, ap, ◌∙◌}
 use lib.ListN.{length, drop}
 use Rattle.group.specs.Group.{group_of}

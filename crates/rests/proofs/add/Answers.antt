@@ -1,6 +1,5 @@
 -- `add` meets its contract: the operands are exchanged where the first exponent is the lower.
 use mathlib.Core.Path.{ap₂, ◌∙◌}
-use borrow.Author.Rules.{rules}
 use Rattle.number.proofs.Zero.{sum_comm}
 use Rattle.number.specs.declared.Direction.TheVariants.{Nearest}
 use Rattle.number.specs.declared.Number.{Number}

@@ -1,6 +1,5 @@
 -- `difference` meets its contract: by which is larger.
 use mathlib.Core.Path.{sym, ◌∙◌}
-use borrow.Author.Rules.{rules}
 use Rattle.rests.proofs.Parts.{rest-above, rest-not-above}
 use Rattle.rests.proofs.difference.Goals as goal
 

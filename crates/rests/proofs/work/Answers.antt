@@ -1,6 +1,5 @@
 -- `work` meets its contract: by the operator; what it returns is small (`rounded-small`).
 use mathlib.Core.Path.{◌≡◌, sym, ap, ◌∙◌, subst}
-use borrow.Author.Rules.{rules}
 use Rattle.number.specs.declared.Number.{Number}
 use Rattle.rests.specs.Rest.{worked_by, PositivePair, Small}
 use Rattle.rests.specs.declared.Operator.{Operator}

@@ -1,13 +1,13 @@
 -- `count` meets its contract. The invariant: the reversals of the list are those found and those of the rest behind the last item that is not zero.
 use borrow.Author.Rules.{rules}
 use mathlib.Core.Path.{◌≡◌, ap}
-use Prim.Native.Nat.{◌+◌, ◌-◌, ◌≤◌, ◌<◌}
+use Prim.Native.Nat.{◌≤◌, ◌<◌}
 use native.Mathlib.Omega.{arith}
-use lib.ListN.{length, drop, take, get_or}
+use lib.ListN.{length, take, get_or}
 use Rattle.arrays.proofs.Fronts.{front-end}
 use Rattle.number.specs.declared.signed.Signed.{Signed}
 use Rattle.items.proofs.Fronts.{unset}
-use Rattle.reversals.specs.Reversals.{reversals, reversals_behind}
+use Rattle.reversals.specs.Reversals.{reversals_behind}
 use Rattle.reversals.proofs.Counting.{count_next, turn-le}
 use Rattle.reversals.proofs.count.Goals as goal
 use Rattle.reversals.proofs.count.Goals.{After-turn-found}

@@ -1,13 +1,7 @@
-use borrow.Author.Rules.{rules}
-use mathlib.Core.Path.{◌≡◌, ap}
-use Prim.Native.Nat.{◌+◌, ◌-◌, ◌≤◌, ◌<◌}
-use native.Mathlib.Omega.{arith}
-use lib.ListN.{length, drop, take, get_or}
-use Rattle.arrays.proofs.Fronts.{front-end}
-use Rattle.number.specs.declared.signed.Signed.{Signed}
-use Rattle.items.proofs.Fronts.{unset}
+use mathlib.Core.Path.{◌≡◌}
+use Prim.Native.Nat.{◌+◌, ◌-◌, ◌≤◌}
+use lib.ListN.{drop, take}
 use Rattle.reversals.specs.Reversals.{reversals, reversals_behind}
-use Rattle.reversals.proofs.Counting.{count_next, turn-le}
 use Rattle.reversals.proofs.count.Given as goal
 
 abbrev pub invariant-loop-k : goal.invariant-loop-k

@@ -1,11 +1,10 @@
 -- `among` meets its contract. The invariant: the first i rows of p are gathered.
 use borrow.Author.Rules.{rules}
 use mathlib.Core.Path.{◌≡◌, refl}
-use Prim.Native.Nat.{◌-◌, ◌≤◌}
 use native.Mathlib.Omega.{arith}
 use Rattle.rowset.specs.Mask.{count_to, among_to, mask_among}
 use Rattle.rowset.proofs.Counts.{count_to-le, among_to-below}
-use Rattle.rowset.proofs.Shifts.{Gathered, among_in, among-out}
+use Rattle.rowset.proofs.Shifts.{among_in, among-out}
 use Rattle.rowset.proofs.among.Goals as goal
 use Rattle.rowset.proofs.among.Goals.{then-p-i-eq1, else-p-i-eq1}
 

@@ -1,11 +1,5 @@
-use borrow.Author.Rules.{rules}
-use mathlib.Core.Logic.{⊎_elim}
-use mathlib.Core.Path.{◌≡◌, refl}
 use Prim.Native.Nat.{◌-◌, ◌≤◌}
-use native.Mathlib.Omega.{arith}
-use Rattle.rowset.specs.Mask.{count_to, among_to, mask_among}
-use Rattle.rowset.proofs.Counts.{count_to-le, among_to-below}
-use Rattle.rowset.proofs.Shifts.{Gathered, among_in, among-out}
+use Rattle.rowset.proofs.Shifts.{Gathered}
 use Rattle.rowset.proofs.among.Given as goal
 
 abbrev pub invariant-loop-i : goal.invariant-loop-i

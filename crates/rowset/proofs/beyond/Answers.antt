@@ -1,5 +1,4 @@
 -- `beyond` meets its contract: what is left after a shift by n is not zero.
-use borrow.Author.Rules.{rules}
 use Rattle.rowset.proofs.Shifts.{shift-beyond}
 use Rattle.rowset.proofs.beyond.Goals as goal
 

@@ -1,5 +1,4 @@
 -- `count` meets its contract: the ones of a mask are its rows.
-use borrow.Author.Rules.{rules}
 use native.Mathlib.Omega.{arith}
 use Rattle.rowset.specs.Mask.{mask_count}
 use Rattle.rowset.proofs.Counts.{count_to-le}

@@ -1,5 +1,4 @@
 -- `has` meets its contract: row i is bit i - 1, shifted down and masked out.
-use borrow.Author.Rules.{rules}
 use Rattle.rowset.proofs.Shifts.{shift-has}
 use Rattle.rowset.proofs.has.Goals as goal
 

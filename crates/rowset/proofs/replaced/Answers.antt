@@ -1,5 +1,4 @@
 -- `replaced` meets its contract: row a is put in and turned out again, row o is put in.
-use borrow.Author.Rules.{rules}
 use Rattle.rowset.proofs.Masks.{replaced-below}
 use Rattle.rowset.proofs.Shifts.{shift-replaced}
 use Rattle.rowset.proofs.replaced.Goals as goal

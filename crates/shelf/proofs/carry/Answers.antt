@@ -9,7 +9,6 @@ use Rattle.conditions.proofs.Passed.{Source}
 use Rattle.places.specs.Shelf.{rows_at}
 use Rattle.places.proofs.Verdicts.{source-accepted}
 use Rattle.shelf.proofs.Carrying.{carry-turned, carry-done}
-use borrow.Author.Rules.{rules}
 use Rattle.shelf.proofs.carry.Goals as goal
 use Rattle.shelf.proofs.carry.Goals.{In_default}
 

@@ -12,7 +12,6 @@ use Rattle.places.proofs.Holding.{fits-none}
 use Rattle.places.proofs.Verdicts.{source-accepted}
 use Rattle.table.proofs.Table.{table_none}
 use Rattle.shelf.proofs.Dropping.{drop-turned, drop-done, drop-answered}
-use borrow.Author.Rules.{rules}
 use Rattle.shelf.proofs.drop_place.Goals as goal
 use Rattle.shelf.proofs.drop_place.Goals.{In_default}
 

@@ -10,7 +10,6 @@ use Rattle.words.specs.RowSet.{In}
 use Rattle.places.specs.Shelf.{rows_at}
 use Rattle.shelf.specs.Calls.{factor_call}
 use Rattle.shelf.proofs.FactorReads.{place-small, factor-below, factor-is, factor-exponent, factor-done}
-use borrow.Author.Rules.{rules}
 use Rattle.shelf.proofs.factor_at.Goals as goal
 use Rattle.shelf.proofs.factor_at.Goals.{Else-n-j}
 

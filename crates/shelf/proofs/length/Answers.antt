@@ -9,7 +9,6 @@ use Rattle.places.specs.declared.Shelf.{Shelf}
 use Rattle.places.specs.Tests.{source_tests}
 use Rattle.places.proofs.Verdicts.{source-accepted}
 use Rattle.shelf.proofs.Writing.{bytes_packed, length-turned, length-done, length-tells}
-use borrow.Author.Rules.{rules}
 use Rattle.shelf.proofs.length.Goals as goal
 use Rattle.shelf.proofs.length.Goals.{After-rows_at-n, In_default}
 

@@ -13,7 +13,6 @@ use Rattle.reader.specs.declared.ReadOutcome.TheVariants.{Matrix}
 use Rattle.reader.specs.Matrix.{OutcomeInside, matrix, matrix_of}
 use Rattle.conditions.proofs.Passed.{target-accepted}
 use Rattle.shelf.proofs.Loading.{parsed-fault, parsed-matrix, square-taken, read_fits, load-turned, load-fault, load-behind, load-done, load-answered}
-use borrow.Author.Rules.{rules}
 use Rattle.shelf.proofs.load.Goals as goal
 use Rattle.shelf.proofs.load.Goals.{In-Matrix, In_default}
 

@@ -9,7 +9,6 @@ use Rattle.verdict.specs.Verdict.{first_of}
 use Rattle.places.specs.Tests.{source_tests}
 use Rattle.places.proofs.Verdicts.{source-accepted}
 use Rattle.shelf.proofs.Writing.{bytes_packed, write-turned, write_done}
-use borrow.Author.Rules.{rules}
 use Rattle.shelf.proofs.write.Goals as goal
 use Rattle.shelf.proofs.write.Goals.{After-rows_at-n, After-write_matrix, In_default}
 

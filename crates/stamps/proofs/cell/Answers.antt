@@ -3,7 +3,6 @@ use native.Mathlib.Omega.{arith}
 use mathlib.Core.Path.{sym, ◌∙◌}
 use Rattle.stamps.specs.Stamps.{built_factors}
 use Rattle.table.proofs.Table.{padded-in, past-rows, past-columns}
-use borrow.Author.Rules.{rules}
 use Rattle.stamps.proofs.cell.Goals as goal
 
 pub returns-then-stamps-i : goal.returns-then-stamps-i

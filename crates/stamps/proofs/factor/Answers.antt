@@ -4,7 +4,6 @@ use Prim.Native.Nat.{◌+◌, ◌-◌}
 use mathlib.Core.Path.{ap₂, ◌∙◌}
 use Rattle.number.specs.Number.{quotient_of}
 use Rattle.stamps.proofs.Rounded.{product-ranged, product-above, built-above, built-on, built-below}
-use borrow.Author.Rules.{rules}
 use Rattle.stamps.proofs.factor.Goals as goal
 
 pub natural-requires : goal.natural-requires

@@ -1,6 +1,5 @@
 -- `less` meets its contract: a later stamp is the larger one.
 use native.Mathlib.Omega.{arith}
-use borrow.Author.Rules.{rules}
 use Rattle.stamps.proofs.less.Goals as goal
 
 pub overflow_sub-stamps : goal.overflow_sub-stamps

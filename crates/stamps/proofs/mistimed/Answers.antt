@@ -1,9 +1,7 @@
 -- `mistimed` meets its contract. The invariant: the first k stamps are passed, the last of them being `before` (`Passed`).
-use Prim.Native.Nat.{◌-◌}
 use native.Mathlib.Omega.{arith}
 use mathlib.Core.Path.{sym}
-use Rattle.stamps.proofs.Timed.{none-mistimed, many-mistimed, Passed, passed_none, passed-end, passed-low, passed-large, passed-more}
-use borrow.Author.Rules.{rules}
+use Rattle.stamps.proofs.Timed.{none-mistimed, many-mistimed, passed_none, passed-end, passed-low, passed-large, passed-more}
 use Rattle.stamps.proofs.mistimed.Goals as goal
 
 pub returns-then-n-lt1 : goal.returns-then-n-lt1

@@ -1,8 +1,5 @@
 use Prim.Native.Nat.{◌-◌}
-use native.Mathlib.Omega.{arith}
-use mathlib.Core.Path.{sym}
-use Rattle.stamps.proofs.Timed.{none-mistimed, many-mistimed, Passed, passed_none, passed-end, passed-low, passed-large, passed-more}
-use borrow.Author.Rules.{rules}
+use Rattle.stamps.proofs.Timed.{Passed}
 use Rattle.stamps.proofs.mistimed.Given as goal
 
 abbrev pub invariant-loop-k : goal.invariant-loop-k

@@ -1,5 +1,5 @@
 -- `product` meets its contract. The invariant: p is the product of the first k differences; it and each difference are numbers that the arithmetic takes.
-use Prim.Native.Nat.{ℕ, ◌+◌, ◌-◌, ◌≤◌}
+use Prim.Native.Nat.{ℕ, ◌+◌}
 use native.Mathlib.Nat.{le_antisymm}
 use native.Mathlib.Numerals.{add-one}
 use native.Mathlib.Omega.{arith}
@@ -8,7 +8,6 @@ use Rattle.number.specs.Number.{product_of, rounded}
 use Rattle.powers.specs.Stamps.{product_from}
 use Rattle.stamps.specs.Stamps.{less_number}
 use Rattle.stamps.proofs.Rounded.{product-ranged, difference-ranged}
-use borrow.Author.Rules.{rules}
 use Rattle.stamps.proofs.product.Goals as goal
 
 pub loop-k-init : goal.loop-k-init

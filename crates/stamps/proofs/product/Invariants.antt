@@ -1,13 +1,8 @@
-use Prim.Native.Nat.{ℕ, ◌+◌, ◌-◌, ◌≤◌}
-use native.Mathlib.Nat.{le_antisymm}
-use native.Mathlib.Numerals.{add-one}
-use native.Mathlib.Omega.{arith}
-use mathlib.Core.Path.{◌≡◌, ap, ap₂, ◌∙◌}
-use Rattle.number.specs.Number.{product_of, rounded}
+use Prim.Native.Nat.{◌-◌, ◌≤◌}
+use mathlib.Core.Path.{◌≡◌}
+use Rattle.number.specs.Number.{rounded}
 use Rattle.powers.specs.Stamps.{product_from}
 use Rattle.stamps.specs.Stamps.{less_number}
-use Rattle.stamps.proofs.Rounded.{product-ranged, difference-ranged}
-use borrow.Author.Rules.{rules}
 use Rattle.stamps.proofs.product.Given as goal
 
 abbrev pub invariant-loop-k : goal.invariant-loop-k

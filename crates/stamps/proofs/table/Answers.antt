@@ -1,11 +1,7 @@
 -- `table` meets its contract. The invariant: the first k cells are those of the table.
 use mathlib.Core.Path.{refl}
-use Prim.Native.Nat.{◌-◌}
 use Rattle.number.specs.Number.{zero_number}
-use lib.ListN.{length}
-use Rattle.table.specs.Table.{cell_at}
-use Rattle.stamps.specs.Stamps.{built_factors}
-use Rattle.arrays.proofs.Filled.{Filled, filled_none, filled_more}
+use Rattle.arrays.proofs.Filled.{filled_none, filled_more}
 use Rattle.table.proofs.Table.{table_filled}
 use Rattle.stamps.proofs.Timed.{timed}
 use borrow.Author.Rules.{rules}

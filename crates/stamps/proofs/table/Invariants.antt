@@ -1,13 +1,9 @@
-use mathlib.Core.Path.{refl}
 use Prim.Native.Nat.{◌-◌}
 use Rattle.number.specs.Number.{zero_number}
 use lib.ListN.{length}
 use Rattle.table.specs.Table.{cell_at}
 use Rattle.stamps.specs.Stamps.{built_factors}
-use Rattle.arrays.proofs.Filled.{Filled, filled_none, filled_more}
-use Rattle.table.proofs.Table.{table_filled}
-use Rattle.stamps.proofs.Timed.{timed}
-use borrow.Author.Rules.{rules}
+use Rattle.arrays.proofs.Filled.{Filled}
 use Rattle.stamps.proofs.table.Given as goal
 
 abbrev pub invariant-loop-k : goal.invariant-loop-k

@@ -2,7 +2,6 @@
 use mathlib.Core.Path.{ap}
 use lib.ListN.{replicate}
 use Rattle.number.specs.declared.Number.{Number}
-use borrow.Author.Rules.{rules}
 use Rattle.table.proofs.blank.Goals as goal
 
 pub returns : goal.returns

@@ -1,10 +1,7 @@
 -- `exchanged` meets its contract. The invariant: the first k cells are those of the exchange.
-use Prim.Native.Nat.{◌-◌}
 use mathlib.Core.Path.{refl}
 use Rattle.number.specs.Number.{zero_number}
-use Rattle.words.specs.Word.{exchanged}
-use Rattle.table.specs.Table.{factors_of, cell_at}
-use Rattle.arrays.proofs.Filled.{Filled, filled_none, filled_more}
+use Rattle.arrays.proofs.Filled.{filled_none, filled_more}
 use Rattle.table.proofs.Table.{table_filled, exchanged-cell}
 use borrow.Author.Rules.{rules}
 use Rattle.table.proofs.exchanged.Goals as goal

@@ -1,12 +1,8 @@
 -- `outside` meets its contract. The invariant: the first k numbers are in range.
-use Prim.Native.Nat.{ℕ, ◌-◌, ◌<◌, ◌≤◌}
 use native.Mathlib.Decide.{ℕ_discrete}
 use native.Mathlib.Omega.{arith}
-use mathlib.Core.Path.{◌≡◌, sym, ◌∙◌}
-use mathlib.Core.Bool.{true}
-use lib.ListN.{get_or}
+use mathlib.Core.Path.{sym, ◌∙◌}
 use borrow.Author.Tests.{not-true, not-false}
-use Rattle.number.specs.Number.{in_range}
 use Rattle.table.specs.Table.{absent}
 use Rattle.table.proofs.Ranges.{outside-all, outside-some}
 use borrow.Author.Rules.{rules}

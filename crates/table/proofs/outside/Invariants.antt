@@ -1,16 +1,9 @@
 use Prim.Native.Nat.{ℕ, ◌-◌, ◌<◌, ◌≤◌}
-use native.Mathlib.Decide.{ℕ_discrete}
-use native.Mathlib.Omega.{arith}
-use mathlib.Core.Path.{◌≡◌, sym, ◌∙◌}
+use mathlib.Core.Path.{◌≡◌}
 use mathlib.Core.Bool.{true}
 use lib.ListN.{get_or}
-use borrow.Author.Tests.{not-true, not-false}
 use Rattle.number.specs.Number.{in_range}
 use Rattle.table.specs.Table.{absent}
-use Rattle.table.proofs.Ranges.{outside-all, outside-some}
-use borrow.Author.Rules.{rules}
-use mathlib.Core.Bool.{not}
-use mathlib.Core.Path.{ap}
 use Rattle.table.proofs.outside.Given as goal
 
 abbrev pub invariant-loop-k : goal.invariant-loop-k

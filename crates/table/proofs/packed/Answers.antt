@@ -1,12 +1,12 @@
 -- `packed` meets its contract. The invariant: the first k factors are put, over zeros.
-use Prim.Native.Nat.{◌-◌, ◌*◌, ◌/◌, ◌%◌, ◌<◌, ◌≤◌}
+use Prim.Native.Nat.{◌/◌, ◌%◌, ◌<◌}
 use native.Mathlib.Nat.{mul-le-mul}
 use native.Mathlib.Omega.{arith}
-use mathlib.Core.Path.{◌≡◌, ap, ◌∙◌}
+use mathlib.Core.Path.{ap, ◌∙◌}
 use lib.ListN.{replicate}
 use Rattle.number.specs.declared.Number.{Number}
 use Rattle.table.proofs.RowByRow.{some-rows}
-use Rattle.table.proofs.Square.{packed_to, packed-below, packed_more, packed_all}
+use Rattle.table.proofs.Square.{packed-below, packed_more, packed_all}
 use borrow.Author.Rules.{rules}
 use Rattle.table.proofs.packed.Goals as goal
 use Rattle.table.proofs.packed.Goals.{In-loop-k}

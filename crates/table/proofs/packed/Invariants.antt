@@ -1,12 +1,6 @@
-use Prim.Native.Nat.{◌-◌, ◌*◌, ◌/◌, ◌%◌, ◌<◌, ◌≤◌}
-use native.Mathlib.Nat.{mul-le-mul}
-use native.Mathlib.Omega.{arith}
-use mathlib.Core.Path.{◌≡◌, ap, ◌∙◌}
-use lib.ListN.{replicate}
-use Rattle.number.specs.declared.Number.{Number}
-use Rattle.table.proofs.RowByRow.{some-rows}
-use Rattle.table.proofs.Square.{packed_to, packed-below, packed_more, packed_all}
-use borrow.Author.Rules.{rules}
+use Prim.Native.Nat.{◌-◌, ◌*◌, ◌≤◌}
+use mathlib.Core.Path.{◌≡◌}
+use Rattle.table.proofs.Square.{packed_to}
 use Rattle.table.proofs.packed.Given as goal
 
 abbrev pub invariant-loop-k : goal.invariant-loop-k

@@ -1,11 +1,8 @@
 -- `spread` meets its contract. The invariant: the first k cells are those of the table.
 use mathlib.Core.Path.{refl}
-use Prim.Native.Nat.{◌-◌}
 use Rattle.number.specs.Number.{zero_number}
-use Rattle.table.specs.Table.{square_of, cell_at}
-use Rattle.arrays.proofs.Filled.{Filled, filled_none, filled_more}
+use Rattle.arrays.proofs.Filled.{filled_none, filled_more}
 use Rattle.table.proofs.Table.{table_filled}
-use borrow.Author.Rules.{rules}
 use Rattle.table.proofs.spread.Goals as goal
 
 pub loop-k-init : goal.loop-k-init

@@ -1,10 +1,7 @@
-use mathlib.Core.Path.{refl}
 use Prim.Native.Nat.{◌-◌}
 use Rattle.number.specs.Number.{zero_number}
 use Rattle.table.specs.Table.{square_of, cell_at}
-use Rattle.arrays.proofs.Filled.{Filled, filled_none, filled_more}
-use Rattle.table.proofs.Table.{table_filled}
-use borrow.Author.Rules.{rules}
+use Rattle.arrays.proofs.Filled.{Filled}
 use Rattle.table.proofs.spread.Given as goal
 
 abbrev pub invariant-loop-k : goal.invariant-loop-k

@@ -5,7 +5,6 @@ use Rattle.shelf.specs.Run.{build, run}
 use Rattle.tnb_c.specs.Answers.{answer_of}
 use Rattle.tnb_c.proofs.Checked.{answered, turned-away}
 use Rattle.tnb_c.proofs.Answered.{with-promise, away-promising, build-answered}
-use borrow.Author.Rules.{rules}
 use Rattle.tnb_c.proofs.tnb_build.Goals as goal
 
 pub build-requires : goal.build-requires

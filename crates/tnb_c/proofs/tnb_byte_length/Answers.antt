@@ -6,7 +6,6 @@ use Rattle.tnb_c.specs.declared.Length.{Length}
 use Rattle.tnb_c.specs.Answers.{length_of}
 use Rattle.tnb_c.proofs.Checked.{answered, turned-away}
 use Rattle.tnb_c.proofs.Ahead.{measured-answered, away-measured}
-use borrow.Author.Rules.{rules}
 use Rattle.tnb_c.proofs.tnb_byte_length.Goals as goal
 
 abbrev answer : Outcome → Length

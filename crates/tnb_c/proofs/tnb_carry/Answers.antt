@@ -6,7 +6,6 @@ use Rattle.tnb_c.specs.declared.Status.{Status}
 use Rattle.tnb_c.specs.Answers.{status_of}
 use Rattle.tnb_c.proofs.Checked.{answered, turned-away}
 use Rattle.tnb_c.proofs.Carried.{carry-answered, carry-away, with-steady}
-use borrow.Author.Rules.{rules}
 use Rattle.tnb_c.proofs.tnb_carry.Goals as goal
 
 abbrev answer : Outcome → Status

@@ -5,7 +5,6 @@ use Rattle.shelf.specs.Run.{factor, run}
 use Rattle.tnb_c.specs.declared.Value.{Value}
 use Rattle.tnb_c.specs.Answers.{value_of}
 use Rattle.tnb_c.proofs.Checked.{answered, turned-away}
-use borrow.Author.Rules.{rules}
 use Rattle.tnb_c.proofs.tnb_factor.Goals as goal
 
 abbrev answer : Outcome → Value

@@ -3,7 +3,6 @@ use mathlib.Core.Path.{ap, ◌∙◌}
 use Rattle.shelf.specs.Run.{load, run}
 use Rattle.tnb_c.specs.Answers.{answer_of}
 use Rattle.tnb_c.proofs.Checked.{answered, turned-away}
-use borrow.Author.Rules.{rules}
 use Rattle.tnb_c.proofs.tnb_load.Goals as goal
 
 pub load-requires : goal.load-requires

@@ -1,7 +1,6 @@
 -- `tnb_rest` meets its contract.
 use mathlib.Core.Path.{ap}
 use lib.ListN.{length}
-use borrow.Author.Rules.{rules}
 use Rattle.tnb_c.proofs.tnb_rest.Goals as goal
 
 pub returns : goal.returns

@@ -1,7 +1,6 @@
 -- `tnb_reversals` meets its contract.
 use mathlib.Core.Path.{ap, ◌∙◌}
 use Rattle.tnb_c.specs.Answers.{length_of}
-use borrow.Author.Rules.{rules}
 use Rattle.tnb_c.proofs.tnb_reversals.Goals as goal
 
 pub returns : goal.returns

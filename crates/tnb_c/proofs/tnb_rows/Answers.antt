@@ -9,7 +9,6 @@ use Rattle.shelf.specs.Run.{rows, run}
 use Rattle.tnb_c.specs.declared.Length.{Length}
 use Rattle.tnb_c.specs.Answers.{length_of}
 use Rattle.tnb_c.proofs.Checked.{answered, turned-away}
-use borrow.Author.Rules.{rules}
 use Rattle.tnb_c.proofs.tnb_rows.Goals as goal
 
 abbrev answer : Outcome → Length

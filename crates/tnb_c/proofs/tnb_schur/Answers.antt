@@ -4,7 +4,6 @@ use Rattle.shelf.specs.Run.{schur, run}
 use Rattle.tnb_c.specs.Answers.{answer_of}
 use Rattle.tnb_c.proofs.Checked.{answered, turned-away}
 use Rattle.tnb_c.proofs.Answered.{with-demand, away-answered, schur-answered}
-use borrow.Author.Rules.{rules}
 use Rattle.tnb_c.proofs.tnb_schur.Goals as goal
 
 pub schur-requires : goal.schur-requires

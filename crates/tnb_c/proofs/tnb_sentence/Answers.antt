@@ -4,7 +4,6 @@ use Rattle.notices.specs.Sentence.{notice}
 use Rattle.notices.specs.Promise.{Bits64}
 use Rattle.tnb_c.specs.Answers.{length_of}
 use Rattle.tnb_c.proofs.Sentences.{sentence-answered}
-use borrow.Author.Rules.{rules}
 use Rattle.tnb_c.proofs.tnb_sentence.Goals as goal
 
 pub returns : goal.returns

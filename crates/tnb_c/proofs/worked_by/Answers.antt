@@ -1,6 +1,5 @@
 -- `worked_by` meets its contract: it answers as the arithmetic call does, and where its number is 0 the log balances (`logged-answer`).
 use Rattle.tnb_c.proofs.Logged.{logged-answer}
-use borrow.Author.Rules.{rules}
 use Rattle.tnb_c.proofs.worked_by.Goals as goal
 
 pub returns : goal.returns

@@ -1,5 +1,4 @@
 -- `tnb_console::delivered` meets its contract.
-use borrow.Author.Rules.{rules}
 use Rattle.tnb_console.proofs.delivered.Goals as goal
 
 pub returns : goal.returns

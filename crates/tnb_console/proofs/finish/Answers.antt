@@ -1,5 +1,4 @@
 -- `tnb_console::finish` meets its contract.
-use borrow.Author.Rules.{rules}
 use Rattle.tnb_console.proofs.finish.Goals as goal
 
 pub returns-then-was-start : goal.returns-then-was-start

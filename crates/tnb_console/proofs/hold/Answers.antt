@@ -1,5 +1,4 @@
 -- `tnb_console::hold` meets its contract.
-use borrow.Author.Rules.{rules}
 use Rattle.tnb_console.proofs.hold.Goals as goal
 
 pub returns : goal.returns

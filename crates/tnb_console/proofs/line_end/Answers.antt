@@ -4,7 +4,6 @@ use native.Mathlib.Omega.{arith}
 use mathlib.Core.Path.{ap}
 use lib.ListN.{length-drop}
 use Rattle.arrays.proofs.Runs.{part-is}
-use borrow.Author.Rules.{rules}
 use Rattle.tnb_console.proofs.line_end.Goals as goal
 
 pub returns : goal.returns

@@ -1,8 +1,5 @@
 -- `tnb_console::move_up` meets its contract: the first k bytes are moved, and those from `start` + k on not yet reached (`Moved`).
-use Prim.Native.Nat.{◌-◌, ◌≤◌}
-use mathlib.Core.Path.{◌≡◌}
-use lib.ListN.{length}
-use Rattle.tnb_console.proofs.Moves.{Moved, moved_none, moved_more, moved-end}
+use Rattle.tnb_console.proofs.Moves.{moved_none, moved_more, moved-end}
 use borrow.Author.Rules.{rules}
 use Rattle.tnb_console.proofs.move_up.Goals as goal
 

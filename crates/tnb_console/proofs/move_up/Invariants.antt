@@ -1,8 +1,5 @@
 use Prim.Native.Nat.{◌-◌, ◌≤◌}
-use mathlib.Core.Path.{◌≡◌}
-use lib.ListN.{length}
-use Rattle.tnb_console.proofs.Moves.{Moved, moved_none, moved_more, moved-end}
-use borrow.Author.Rules.{rules}
+use Rattle.tnb_console.proofs.Moves.{Moved}
 use Rattle.tnb_console.proofs.move_up.Given as goal
 
 abbrev pub invariant-loop-k : goal.invariant-loop-k

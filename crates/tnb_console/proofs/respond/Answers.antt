@@ -1,6 +1,5 @@
 -- `tnb_console::respond` meets its contract: the answer is put whole behind those that wait (`line-answered`).
 use Rattle.tnb_console.proofs.Answers.{line-answered, line-ready}
-use borrow.Author.Rules.{rules}
 use Rattle.tnb_console.proofs.respond.Goals as goal
 
 pub returns : goal.returns

@@ -1,8 +1,5 @@
 -- `tnb_console::respond_all` meets its contract: the lines are answered one after the other (`Going`).
-use Prim.Native.Nat.{◌-◌}
-use lib.ListN.{length}
-use Rattle.tnb_console.proofs.Going.{Going, going-first, going_next, going-last}
-use borrow.Author.Rules.{rules}
+use Rattle.tnb_console.proofs.Going.{going-first, going_next, going-last}
 use Rattle.tnb_console.proofs.respond_all.Goals as goal
 
 pub loop-end-init : goal.loop-end-init

@@ -1,7 +1,6 @@
 use Prim.Native.Nat.{◌-◌}
 use lib.ListN.{length}
-use Rattle.tnb_console.proofs.Going.{Going, going-first, going_next, going-last}
-use borrow.Author.Rules.{rules}
+use Rattle.tnb_console.proofs.Going.{Going}
 use Rattle.tnb_console.proofs.respond_all.Given as goal
 
 abbrev pub invariant-loop-end : goal.invariant-loop-end

@@ -4,7 +4,6 @@ use native.Mathlib.Omega.{arith}
 use mathlib.Core.Path.{◌≡◌}
 use lib.ListN.{length-take}
 use Rattle.tnb_console.proofs.Going.{piece-answered}
-use borrow.Author.Rules.{rules}
 use Rattle.tnb_console.proofs.respond_piece.Goals as goal
 
 pub hold-held-requires : goal.hold-held-requires

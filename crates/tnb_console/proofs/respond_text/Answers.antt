@@ -1,6 +1,5 @@
 -- `tnb_console::respond_text` meets its contract: the lines are answered, and what goes on is judged by its length (`text-answered`).
 use Rattle.tnb_console.proofs.Going.{orderly-as, text-answered}
-use borrow.Author.Rules.{rules}
 use Rattle.tnb_console.proofs.respond_text.Goals as goal
 
 pub returns : goal.returns

@@ -1,6 +1,5 @@
 -- `tnb_console::room` meets its contract: behind what waits, or in front once that is written.
 use borrow.Author.Tests.{lt-ltb, le-ltb}
-use borrow.Author.Rules.{rules}
 use Rattle.tnb_console.proofs.room.Goals as goal
 
 pub returns-then-waiting-lt-ENOUGH : goal.returns-then-waiting-lt-ENOUGH

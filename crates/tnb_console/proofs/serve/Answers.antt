@@ -1,11 +1,8 @@
 -- `tnb_console::serve` is safe and ends: what is kept stays in order, no more is held than a line may have, and turns count down.
-use Prim.Native.Nat.{◌≤◌}
 use native.Mathlib.Omega.{arith}
-use mathlib.Core.Path.{◌≡◌, refl, sym, ap, ◌∙◌}
+use mathlib.Core.Path.{refl, sym, ap, ◌∙◌}
 use mathlib.Core.List.{[]}
-use lib.ListN.{length}
 use Rattle.tnb_console.specs.Session.{Session}
-use Rattle.tnb_console.specs.Kept.{Orderly}
 use Rattle.tnb_console.proofs.Going.{kept-orderly}
 use borrow.Author.Rules.{rules}
 use Rattle.tnb_console.proofs.serve.Goals as goal

@@ -1,12 +1,7 @@
 use Prim.Native.Nat.{◌≤◌}
-use native.Mathlib.Omega.{arith}
-use mathlib.Core.Path.{◌≡◌, refl, sym, ap, ◌∙◌}
-use mathlib.Core.List.{[]}
+use mathlib.Core.Path.{◌≡◌}
 use lib.ListN.{length}
-use Rattle.tnb_console.specs.Session.{Session}
 use Rattle.tnb_console.specs.Kept.{Orderly}
-use Rattle.tnb_console.proofs.Going.{kept-orderly}
-use borrow.Author.Rules.{rules}
 use Rattle.tnb_console.proofs.serve.Given as goal
 
 abbrev pub invariant-loop-turns : goal.invariant-loop-turns

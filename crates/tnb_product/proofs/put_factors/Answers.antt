@@ -1,9 +1,7 @@
 -- `tnb_product::put_factors` meets its contract. The loop's invariant: i of the n rows are put.
-use Prim.Native.Nat.{◌-◌}
 use native.Mathlib.Omega.{arith}
-use Rattle.tnb_product.specs.Printed.{row_lines, factor_lines}
-use Rattle.answers.proofs.Turns.{Turns, turns-none, turns_more, turns-end}
-use borrow.Author.Rules.{rules}
+use Rattle.tnb_product.specs.Printed.{factor_lines}
+use Rattle.answers.proofs.Turns.{turns-none, turns_more, turns-end}
 use Rattle.tnb_product.proofs.put_factors.Goals as goal
 
 pub loop-i-init : goal.loop-i-init

@@ -1,8 +1,6 @@
 use Prim.Native.Nat.{◌-◌}
-use native.Mathlib.Omega.{arith}
-use Rattle.tnb_product.specs.Printed.{row_lines, factor_lines}
-use Rattle.answers.proofs.Turns.{Turns, turns-none, turns_more, turns-end}
-use borrow.Author.Rules.{rules}
+use Rattle.tnb_product.specs.Printed.{row_lines}
+use Rattle.answers.proofs.Turns.{Turns}
 use Rattle.tnb_product.proofs.put_factors.Given as goal
 
 abbrev pub invariant-loop-i : goal.invariant-loop-i

@@ -1,5 +1,4 @@
 -- `tnb_product::put_files` meets its contract: the text is that of what the two buffers hold, as far as was read.
-use borrow.Author.Rules.{rules}
 use Rattle.tnb_product.proofs.put_files.Goals as goal
 
 pub returns : goal.returns

@@ -1,6 +1,5 @@
 -- `tnb_product::put_product` meets its contract.
 use Rattle.tnb_product.specs.Printed.{printed}
-use borrow.Author.Rules.{rules}
 use Rattle.tnb_product.proofs.put_product.Goals as goal
 
 pub returns-in-Done : goal.returns-in-Done

@@ -2,7 +2,6 @@
 use Rattle.lines.specs.Ascii.{ascii}
 use Rattle.lines.proofs.Text.{puts-behind}
 use Rattle.tnb_product.specs.Printed.{refusal_line}
-use borrow.Author.Rules.{rules}
 use Rattle.tnb_product.proofs.put_refused.Goals as goal
 
 pub returns : goal.returns

@@ -1,10 +1,7 @@
 -- `tnb_product::put_row` meets its contract. The loop's invariant: j of the n factors are put.
-use Prim.Native.Nat.{◌-◌}
 use native.Mathlib.Omega.{arith}
-use Rattle.shelf.specs.Calls.{factor_call}
-use Rattle.tnb_product.specs.Printed.{factor_line, row_lines}
-use Rattle.answers.proofs.Turns.{Turns, turns-none, turns_more, turns-end}
-use borrow.Author.Rules.{rules}
+use Rattle.tnb_product.specs.Printed.{row_lines}
+use Rattle.answers.proofs.Turns.{turns-none, turns_more, turns-end}
 use Rattle.tnb_product.proofs.put_row.Goals as goal
 
 pub loop-j-init : goal.loop-j-init

@@ -1,9 +1,7 @@
 use Prim.Native.Nat.{◌-◌}
-use native.Mathlib.Omega.{arith}
 use Rattle.shelf.specs.Calls.{factor_call}
-use Rattle.tnb_product.specs.Printed.{factor_line, row_lines}
-use Rattle.answers.proofs.Turns.{Turns, turns-none, turns_more, turns-end}
-use borrow.Author.Rules.{rules}
+use Rattle.tnb_product.specs.Printed.{factor_line}
+use Rattle.answers.proofs.Turns.{Turns}
 use Rattle.tnb_product.proofs.put_row.Given as goal
 
 abbrev pub invariant-loop-j : goal.invariant-loop-j

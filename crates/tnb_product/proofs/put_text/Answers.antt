@@ -1,5 +1,4 @@
 -- `tnb_product::put_text` meets its contract.
-use borrow.Author.Rules.{rules}
 use Rattle.tnb_product.proofs.put_text.Goals as goal
 
 pub returns-in-Refused : goal.returns-in-Refused

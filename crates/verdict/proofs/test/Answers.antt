@@ -1,5 +1,4 @@
 -- One more test behind a verdict, by cases on the verdict and the condition.
-use borrow.Author.Rules.{rules}
 use Rattle.verdict.proofs.test.Goals as goal
 
 pub returns-then-holds : goal.returns-then-holds

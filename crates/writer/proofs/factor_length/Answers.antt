@@ -1,6 +1,5 @@
 -- `writer::factor_length` meets its contract: the widths of the group numbers that a factor is written as.
 use native.Mathlib.Omega.{arith}
-use borrow.Author.Rules.{rules}
 use mathlib.Core.Path.{sym, ap, ◌∙◌}
 use lib.ListN.{length, length-append}
 use Rattle.writer.proofs.Writing.{factor-bytes-zero, factor-bytes-some}

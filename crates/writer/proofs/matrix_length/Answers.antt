@@ -1,13 +1,12 @@
 -- `writer::matrix_length` meets its contract. The loop's invariant: what is counted so far, and the bytes of the factors left, are as many as the encoding's.
-use Prim.Native.Nat.{◌+◌, ◌-◌, ◌*◌, ◌≤◌}
 use native.Mathlib.Omega.{arith}
 use borrow.Author.Rules.{rules}
 use mathlib.Core.Path.{◌≡◌, sym, ap, ◌∙◌}
 use lib.ListN.{length}
 use Rattle.number.specs.declared.Number.{Number}
-use Rattle.writer.specs.Encoding.{factor_bytes, square_factors}
+use Rattle.writer.specs.Encoding.{factor_bytes}
 use Rattle.arrays.proofs.Structs.{length-mapped}
-use Rattle.writer.proofs.Writing.{Counted, counted_none, counted-more, counted-all, encoding-length, factors-length, factors-at}
+use Rattle.writer.proofs.Writing.{counted_none, counted-more, counted-all, encoding-length, factors-length, factors-at}
 use Rattle.writer.proofs.matrix_length.Goals as goal
 use Rattle.writer.proofs.matrix_length.Goals.{Start}
 

@@ -1,12 +1,6 @@
 use Prim.Native.Nat.{◌+◌, ◌-◌, ◌*◌, ◌≤◌}
-use native.Mathlib.Omega.{arith}
-use borrow.Author.Rules.{rules}
-use mathlib.Core.Path.{◌≡◌, sym, ap, ◌∙◌}
-use lib.ListN.{length}
-use Rattle.number.specs.declared.Number.{Number}
-use Rattle.writer.specs.Encoding.{factor_bytes, square_factors}
-use Rattle.arrays.proofs.Structs.{length-mapped}
-use Rattle.writer.proofs.Writing.{Counted, counted_none, counted-more, counted-all, encoding-length, factors-length, factors-at}
+use Rattle.writer.specs.Encoding.{square_factors}
+use Rattle.writer.proofs.Writing.{Counted}
 use Rattle.writer.proofs.matrix_length.Given as goal
 
 abbrev pub invariant-loop-k : goal.invariant-loop-k

@@ -1,5 +1,5 @@
 -- `writer::put_matrix` meets its contract. The loop's invariant: what is written so far, and the bytes of the factors left, make the encoding.
-use Prim.Native.Nat.{◌+◌, ◌-◌, ◌<◌, ◌≤◌}
+use Prim.Native.Nat.{◌+◌, ◌<◌, ◌≤◌}
 use native.Mathlib.Omega.{arith}
 use borrow.Author.Rules.{rules}
 use mathlib.Core.Path.{◌≡◌, ap, ◌∙◌}
@@ -11,7 +11,7 @@ use Rattle.number.specs.declared.Number.{Number}
 use Rattle.writer.specs.Encoding.{factor_bytes, square_factors}
 use Rattle.arrays.proofs.Runs.{part-is}
 use Rattle.arrays.proofs.Structs.{length-mapped}
-use Rattle.writer.proofs.Writing.{WrittenSoFar, written_none, written-more, written-room, written_all, counted-all, unread}
+use Rattle.writer.proofs.Writing.{written_none, written-more, written-room, written_all, counted-all, unread}
 use Rattle.writer.proofs.Writing.{encoding-length, encoding-sets, factors-length, factors-at}
 use Rattle.writer.proofs.put_matrix.Goals as goal
 use Rattle.writer.proofs.put_matrix.Goals.{After-a-1, After-put-at, Start}

@@ -1,17 +1,6 @@
-use Prim.Native.Nat.{◌+◌, ◌-◌, ◌<◌, ◌≤◌}
-use native.Mathlib.Omega.{arith}
-use borrow.Author.Rules.{rules}
-use mathlib.Core.Path.{◌≡◌, ap, ◌∙◌}
-use mathlib.Core.List.{List}
-use lib.ListN.{length, get_or, length-drop}
-use lib.Seq.{length-sets}
-use Rattle.group.specs.Group.{bytes_of}
-use Rattle.number.specs.declared.Number.{Number}
-use Rattle.writer.specs.Encoding.{factor_bytes, square_factors}
-use Rattle.arrays.proofs.Runs.{part-is}
-use Rattle.arrays.proofs.Structs.{length-mapped}
-use Rattle.writer.proofs.Writing.{WrittenSoFar, written_none, written-more, written-room, written_all, counted-all, unread}
-use Rattle.writer.proofs.Writing.{encoding-length, encoding-sets, factors-length, factors-at}
+use Prim.Native.Nat.{◌-◌}
+use Rattle.writer.specs.Encoding.{square_factors}
+use Rattle.writer.proofs.Writing.{WrittenSoFar}
 use Rattle.writer.proofs.put_matrix.Given as goal
 
 abbrev pub invariant-loop-k : goal.invariant-loop-k

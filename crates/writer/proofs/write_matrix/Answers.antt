@@ -2,7 +2,6 @@
 use lib.ListN.{length}
 use lib.Dec.{ltb}
 use Rattle.verdict.specs.Verdict.{when}
-use borrow.Author.Rules.{rules}
 use mathlib.Core.Path.{◌≡◌, sym, ap, ◌∙◌}
 use mathlib.Core.List.{List, [], ◌∷◌}
 use Prim.Native.Nat.{ℕ}

@@ -1,12 +1,9 @@
 -- `lines::all_digits` meets its contract. The loop's invariant: the bytes passed are digits.
-use Prim.Native.Nat.{◌-◌}
 use native.Mathlib.Omega.{arith}
-use borrow.Author.Rules.{rules}
 use mathlib.Core.Path.{sym, ◌∙◌}
 use mathlib.Core.Bool.{or-true}
-use lib.ListN.{length}
-use borrow.Author.Tests.{not-true, not-false}
-use Rattle.lines.proofs.Pairs.{Checked, checked-none, checked-end, checked-other, checked-more}
+use borrow.Author.Tests.{not-true}
+use Rattle.lines.proofs.Pairs.{checked-none, checked-end, checked-other, checked-more}
 use mathlib.Core.Bool.{not}
 use mathlib.Core.Path.{ap}
 use Rattle.lines.proofs.reading.all_digits.Goals as goal

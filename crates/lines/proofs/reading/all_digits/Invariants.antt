@@ -1,14 +1,6 @@
 use Prim.Native.Nat.{◌-◌}
-use native.Mathlib.Omega.{arith}
-use borrow.Author.Rules.{rules}
-use mathlib.Core.Path.{sym, ◌∙◌}
-use mathlib.Core.Bool.{or-true}
-use mathlib.Core.Logic.{⊎_elim}
 use lib.ListN.{length}
-use borrow.Author.Tests.{not-true, not-false}
-use Rattle.lines.proofs.Pairs.{Checked, checked-none, checked-end, checked-other, checked-more}
-use mathlib.Core.Bool.{not}
-use mathlib.Core.Path.{ap}
+use Rattle.lines.proofs.Pairs.{Checked}
 use Rattle.lines.proofs.reading.all_digits.Given as goal
 
 abbrev pub invariant-loop-i : goal.invariant-loop-i

@@ -1,9 +1,6 @@
 -- `lines::before` meets its contract. The loop's invariant: none of the bytes passed is the one looked for.
-use Prim.Native.Nat.{◌-◌}
 use native.Mathlib.Omega.{arith}
-use borrow.Author.Rules.{rules}
-use lib.ListN.{length}
-use Rattle.lines.proofs.Words.{Searched, searched-none, searched-end, searched-stop, searched-more}
+use Rattle.lines.proofs.Words.{searched-none, searched-end, searched-stop, searched-more}
 use Rattle.lines.proofs.reading.before.Goals as goal
 
 pub loop-i-init : goal.loop-i-init

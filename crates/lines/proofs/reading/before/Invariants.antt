@@ -1,8 +1,6 @@
 use Prim.Native.Nat.{◌-◌}
-use native.Mathlib.Omega.{arith}
-use borrow.Author.Rules.{rules}
 use lib.ListN.{length}
-use Rattle.lines.proofs.Words.{Searched, searched-none, searched-end, searched-stop, searched-more}
+use Rattle.lines.proofs.Words.{Searched}
 use Rattle.lines.proofs.reading.before.Given as goal
 
 abbrev pub invariant-loop-i : goal.invariant-loop-i

@@ -3,7 +3,6 @@ use Prim.Native.Nat.{◌-◌}
 use native.Mathlib.Omega.{arith}
 use mathlib.Core.Path.{◌≡◌, sym}
 use lib.Seq.{take_all}
-use borrow.Author.Rules.{rules}
 use Rattle.lines.proofs.reading.first.Goals as goal
 
 pub returns-then-s-count : goal.returns-then-s-count

@@ -2,7 +2,6 @@
 use mathlib.Core.Path.{sym, ◌∙◌}
 use borrow.Author.Tests.{eq-eqb, ne_eqb}
 use Rattle.lines.proofs.Pairs.{hexadecimal-none, hexadecimal-one, hexadecimal-pairs}
-use borrow.Author.Rules.{rules}
 use Rattle.lines.proofs.reading.is_hexadecimal.Goals as goal
 
 pub returns-then-s-eq0 : goal.returns-then-s-eq0

@@ -1,7 +1,6 @@
 -- `lines::next_word` meets its contract.
 use borrow.Author.Tests.{lt-ltb, le-ltb}
 use Rattle.arrays.proofs.Runs.{part-is}
-use borrow.Author.Rules.{rules}
 use Rattle.lines.proofs.reading.next_word.Goals as goal
 
 pub returns-then-s-at : goal.returns-then-s-at

@@ -1,5 +1,4 @@
 -- `lines::plus` meets its contract.
-use borrow.Author.Rules.{rules}
 use Rattle.lines.proofs.reading.plus.Goals as goal
 
 pub returns-in-Value : goal.returns-in-Value

@@ -1,10 +1,7 @@
 -- `lines::put_pairs` meets its contract. The loop's invariant: the bytes put so far, and those of the pairs that are left, make all.
-use Prim.Native.Nat.{◌-◌, ◌/◌}
 use native.Mathlib.Omega.{arith}
-use borrow.Author.Rules.{rules}
-use mathlib.Core.Path.{◌≡◌, refl}
-use lib.ListN.{length}
-use Rattle.lines.proofs.Pairs.{Filled, filled_none, filled-end, filled_more}
+use mathlib.Core.Path.{refl}
+use Rattle.lines.proofs.Pairs.{filled_none, filled-end, filled_more}
 use Rattle.lines.proofs.reading.put_pairs.Goals as goal
 
 pub loop-k-init : goal.loop-k-init

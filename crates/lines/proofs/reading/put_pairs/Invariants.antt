@@ -1,9 +1,7 @@
 use Prim.Native.Nat.{◌-◌, ◌/◌}
-use native.Mathlib.Omega.{arith}
-use borrow.Author.Rules.{rules}
-use mathlib.Core.Path.{◌≡◌, refl}
+use mathlib.Core.Path.{◌≡◌}
 use lib.ListN.{length}
-use Rattle.lines.proofs.Pairs.{Filled, filled_none, filled-end, filled_more}
+use Rattle.lines.proofs.Pairs.{Filled}
 use Rattle.lines.proofs.reading.put_pairs.Given as goal
 
 abbrev pub invariant-loop-k : goal.invariant-loop-k

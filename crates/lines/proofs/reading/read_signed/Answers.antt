@@ -3,7 +3,6 @@ use mathlib.Core.Path.{sym, ap, ◌∙◌}
 use Rattle.lines.specs.Decimal.{plus, minus}
 use Rattle.arrays.proofs.Runs.{part-is}
 use Rattle.lines.proofs.Numerals.{signed-none, signed-minus, signed-plus, minus-fits, plus-fits}
-use borrow.Author.Rules.{rules}
 use Rattle.lines.proofs.reading.read_signed.Goals as goal
 
 pub returns-then-s-eq0 : goal.returns-then-s-eq0

@@ -1,13 +1,12 @@
 -- `lines::read_whole` meets its contract. The loop's invariant: the numerals passed spell a number, and what is left is read behind it.
-use Prim.Native.Nat.{◌-◌, ◌≤◌, ◌<◌}
+use Prim.Native.Nat.{◌≤◌, ◌<◌}
 use mathlib.Core.Path.{◌≡◌, sym, ◌∙◌}
 use mathlib.Core.Bool.{true}
 use native.Mathlib.Omega.{arith}
-use borrow.Author.Rules.{rules}
-use lib.ListN.{length, get_or}
+use lib.ListN.{get_or}
 use borrow.Author.Tests.{not-true, not-false}
 use Rattle.lines.specs.Decimal.{is_numeral}
-use Rattle.lines.proofs.Numerals.{Spelled, spelled_none, spelled-end, spelled-other, spelled-large, spelled-more, whole-none, between}
+use Rattle.lines.proofs.Numerals.{spelled_none, spelled-end, spelled-other, spelled-large, spelled-more, whole-none, between}
 use mathlib.Core.Bool.{not}
 use mathlib.Core.Path.{ap}
 use Rattle.lines.proofs.reading.read_whole.Goals as goal

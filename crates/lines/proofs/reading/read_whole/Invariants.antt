@@ -1,14 +1,6 @@
-use Prim.Native.Nat.{◌-◌, ◌≤◌, ◌<◌}
-use mathlib.Core.Path.{◌≡◌, sym, ◌∙◌}
-use mathlib.Core.Bool.{true}
-use native.Mathlib.Omega.{arith}
-use borrow.Author.Rules.{rules}
-use lib.ListN.{length, get_or}
-use borrow.Author.Tests.{not-true, not-false}
-use Rattle.lines.specs.Decimal.{is_numeral}
-use Rattle.lines.proofs.Numerals.{Spelled, spelled_none, spelled-end, spelled-other, spelled-large, spelled-more, whole-none, between}
-use mathlib.Core.Bool.{not}
-use mathlib.Core.Path.{ap}
+use Prim.Native.Nat.{◌-◌}
+use lib.ListN.{length}
+use Rattle.lines.proofs.Numerals.{Spelled}
 use Rattle.lines.proofs.reading.read_whole.Given as goal
 
 abbrev pub invariant-loop-i : goal.invariant-loop-i

@@ -1,7 +1,6 @@
 -- `lines::word` meets its contract.
 use mathlib.Core.Path.{sym}
 use Rattle.lines.proofs.Words.{word-past, word-is}
-use borrow.Author.Rules.{rules}
 use Rattle.lines.proofs.reading.word.Goals as goal
 
 pub returns-then-s-at : goal.returns-then-s-at

@@ -1,5 +1,4 @@
 -- `lines::glyph` meets its contract.
-use borrow.Author.Rules.{rules}
 use borrow.Author.Tests.{lt-ltb, le-ltb}
 use Rattle.lines.proofs.writing.glyph.Goals as goal
 

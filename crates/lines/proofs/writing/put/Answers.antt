@@ -1,9 +1,6 @@
 -- `lines::put` meets its contract. The loop's invariant: what is put so far, and what is left, make the text.
-use Prim.Native.Nat.{◌-◌}
 use native.Mathlib.Omega.{arith}
-use borrow.Author.Rules.{rules}
-use lib.ListN.{length}
-use Rattle.lines.proofs.Text.{Put, put-none, put-end, put_full, put-more}
+use Rattle.lines.proofs.Text.{put-none, put-end, put_full, put-more}
 use Rattle.lines.proofs.writing.put.Goals as goal
 
 pub loop-i-init : goal.loop-i-init

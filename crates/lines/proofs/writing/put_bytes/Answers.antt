@@ -1,6 +1,5 @@
 -- `lines::put_bytes` meets its contract.
 use Rattle.lines.proofs.Text.{bytes-none, bytes-some}
-use borrow.Author.Rules.{rules}
 use Rattle.lines.proofs.writing.put_bytes.Goals as goal
 
 pub returns-then-s-eq0 : goal.returns-then-s-eq0

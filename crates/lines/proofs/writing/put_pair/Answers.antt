@@ -1,5 +1,4 @@
 -- `lines::put_pair` meets its contract.
-use borrow.Author.Rules.{rules}
 use Rattle.lines.proofs.writing.put_pair.Goals as goal
 
 pub returns : goal.returns

@@ -1,10 +1,6 @@
 -- `lines::put_pairs` meets its contract. The loop's invariant: the pairs put so far, and those that are left, make the text.
-use Prim.Native.Nat.{◌-◌}
 use native.Mathlib.Omega.{arith}
-use borrow.Author.Rules.{rules}
-use lib.ListN.{length}
-use Rattle.lines.specs.Text.{pair_text}
-use Rattle.lines.proofs.Text.{Spelt, spelt-none, spelt-end, spelt-more}
+use Rattle.lines.proofs.Text.{spelt-none, spelt-end, spelt-more}
 use Rattle.lines.proofs.writing.put_pairs.Goals as goal
 
 pub loop-i-init : goal.loop-i-init

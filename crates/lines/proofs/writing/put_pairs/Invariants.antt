@@ -1,9 +1,7 @@
 use Prim.Native.Nat.{◌-◌}
-use native.Mathlib.Omega.{arith}
-use borrow.Author.Rules.{rules}
 use lib.ListN.{length}
 use Rattle.lines.specs.Text.{pair_text}
-use Rattle.lines.proofs.Text.{Spelt, spelt-none, spelt-end, spelt-more}
+use Rattle.lines.proofs.Text.{Spelt}
 use Rattle.lines.proofs.writing.put_pairs.Given as goal
 
 abbrev pub invariant-loop-i : goal.invariant-loop-i

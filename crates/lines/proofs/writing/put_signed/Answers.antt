@@ -1,7 +1,6 @@
 -- `lines::put_signed` meets its contract.
 use Rattle.lines.specs.Ascii.{ascii}
 use Rattle.lines.proofs.Text.{puts-behind}
-use borrow.Author.Rules.{rules}
 use Rattle.lines.proofs.writing.put_signed.Goals as goal
 
 pub returns-then-negative : goal.returns-then-negative

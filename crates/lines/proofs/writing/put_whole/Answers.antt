@@ -2,7 +2,6 @@
 use native.Mathlib.Omega.{arith}
 use mathlib.Core.Path.{◌∙◌}
 use Rattle.lines.proofs.Numerals.{digits_decimal}
-use borrow.Author.Rules.{rules}
 use Rattle.lines.proofs.writing.put_whole.Goals as goal
 
 pub returns : goal.returns

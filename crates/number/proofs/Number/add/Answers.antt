@@ -1,5 +1,4 @@
 -- `Number::add` meets its contract: zero operands, and else the one with the lower exponent second. The laws of the direction are `lawful`.
-use borrow.Author.Rules.{rules}
 use mathlib.Core.Path.{◌≡◌, refl, sym, ◌∙◌, subst}
 use Prim.Native.Nat.{◌+◌, ◌-◌, ◌*◌, ◌^◌, ◌≤◌, ◌<◌}
 use native.Mathlib.Omega.{arith}

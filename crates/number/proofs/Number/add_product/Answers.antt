@@ -1,6 +1,5 @@
 -- `Number::add_product` meets its contract: the rounded product is added.
 use mathlib.Core.Path.{sym, subst, ap, ◌∙◌}
-use borrow.Author.Rules.{rules}
 use Rattle.number.specs.Number.{Ranged, reach, sum_of}
 use Rattle.number.proofs.Number.add_product.Goals as goal
 

@@ -3,7 +3,6 @@
 use mathlib.Core.Path.{◌≡◌, sym, ◌∙◌, subst}
 use Prim.Native.Nat.{◌+◌, ◌<◌}
 use native.Mathlib.Omega.{arith}
-use borrow.Author.Rules.{rules}
 use Rattle.fraction.specs.Fraction.{fraction_quotient}
 use Rattle.number.proofs.Division.{mantissa-full, quotient-at, quotient-divided}
 use Rattle.number.proofs.Zero.{zero_is, quotient-zero-left}

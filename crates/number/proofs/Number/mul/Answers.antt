@@ -2,7 +2,6 @@
 use mathlib.Core.Path.{◌≡◌, sym, ◌∙◌, subst}
 use Prim.Native.Nat.{◌+◌}
 use native.Mathlib.Omega.{arith}
-use borrow.Author.Rules.{rules}
 use Rattle.fraction.specs.Fraction.{fraction_product}
 use Rattle.number.proofs.Digits.{product-low, product_high}
 use Rattle.number.proofs.Zero.{zero_is, product-zero-left, product-zero-right}

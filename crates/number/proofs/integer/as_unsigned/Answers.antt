@@ -1,5 +1,4 @@
 -- `as_unsigned` meets its contract: a number that is not negative is its own size, and fits.
-use borrow.Author.Rules.{rules}
 use mir.Facts.{to_z-of_z, Fits-nat_abs}
 use mir.Syntax.{w64}
 use Rattle.number.proofs.Integers.{not_negative}

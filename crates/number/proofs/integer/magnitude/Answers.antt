@@ -1,5 +1,4 @@
 -- `magnitude` meets its contract. A negative number is raised by one before its sign is turned.
-use borrow.Author.Rules.{rules}
 use mathlib.Core.Path.{◌≡◌, sym, ◌∙◌}
 use mathlib.Core.Bool.{true}
 use Prim.Native.Nat.{◌+◌}

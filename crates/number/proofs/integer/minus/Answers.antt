@@ -1,5 +1,4 @@
 -- `minus` meets its contract: zero less the number, which fits and is its negative (minus-fits, minus_is).
-use borrow.Author.Rules.{rules}
 use mathlib.Core.Path.{◌≡◌, ◌∙◌}
 use lib.IntN.{pos}
 use mir.Syntax.{w64}

@@ -1,5 +1,4 @@
 -- `plus` meets its contract: a number below 2 ^ 63 is cast unchanged.
-use borrow.Author.Rules.{rules}
 use borrow.Author.Tests.{lt-ltb}
 use Rattle.number.proofs.integer.plus.Goals as goal
 

@@ -1,6 +1,5 @@
 -- `pack` meets its contract: it fits a word.
 use mathlib.Core.Path.{refl}
-use borrow.Author.Rules.{rules}
 use Rattle.number.specs.Packed.{pack_of}
 use Rattle.number.proofs.packed.pack.Goals as goal
 

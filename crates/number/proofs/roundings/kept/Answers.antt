@@ -1,7 +1,6 @@
 -- `kept` meets its contract: the digits that are kept of what was lifted are those of the direction.
 use mathlib.Core.Path.{ap, ◌∙◌}
 use Prim.Native.Nat.{ℕ}
-use borrow.Author.Rules.{rules}
 use Rattle.number.proofs.Digits.{last_of, kept-is}
 use Rattle.number.proofs.roundings.kept.Goals as goal
 

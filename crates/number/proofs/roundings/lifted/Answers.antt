@@ -1,7 +1,6 @@
 -- `lifted` meets its contract: what is added, by the direction, and it fits.
 use mathlib.Core.Path.{sym, ap, ◌∙◌}
 use native.Mathlib.Omega.{arith}
-use borrow.Author.Rules.{rules}
 use Rattle.number.specs.Digits.{lifted_of}
 use Rattle.number.specs.declared.Direction.{Direction}
 use Rattle.number.proofs.roundings.lifted.Goals as goal

@@ -1,6 +1,5 @@
 -- `multiplier` meets its contract, by the direction.
 use mathlib.Core.Path.{sym, ap}
-use borrow.Author.Rules.{rules}
 use Rattle.number.specs.Digits.{multiplier_of}
 use Rattle.number.specs.declared.Direction.{Direction}
 use Rattle.number.proofs.roundings.multiplier.Goals as goal

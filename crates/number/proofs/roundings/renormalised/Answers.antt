@@ -1,6 +1,5 @@
 -- `renormalised` meets its contract: by the one test on the mantissa.
 use borrow.Author.Tests.{eq-eqb, ne_eqb}
-use borrow.Author.Rules.{rules}
 use Rattle.number.specs.Number.{renormalised}
 use Rattle.number.proofs.roundings.renormalised.Goals as goal
 

@@ -1,7 +1,6 @@
 -- `round` meets its contract: the nearest whole number, with its carry.
 use mathlib.Core.Path.{sym, ap, ◌∙◌}
 use Prim.Native.Nat.{ℕ}
-use borrow.Author.Rules.{rules}
 use Rattle.number.proofs.Digits.{compared}
 use Rattle.number.proofs.Rounding.{round-parts}
 use Rattle.number.specs.Number.{renormalised}

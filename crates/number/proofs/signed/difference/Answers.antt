@@ -1,7 +1,6 @@
 -- `signed::difference` meets its contract: the smaller size is taken off the larger.
 use mathlib.Core.Bool.{true}
 use mathlib.Core.Path.{sym, ap, ◌∙◌}
-use borrow.Author.Rules.{rules}
 use Rattle.number.proofs.Signs.{signed-difference-below, signed-difference-not-below, below-not-below}
 use Rattle.number.specs.Signed.{plain}
 use Rattle.number.specs.declared.Number.{Number}

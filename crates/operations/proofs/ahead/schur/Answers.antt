@@ -12,7 +12,6 @@ use Rattle.places.proofs.Verdicts.{rows_few}
 use Rattle.words.specs.Effort.{minor_foretold, result_steps}
 use Rattle.operations.specs.Forecast.{clamped_alone}
 use Rattle.operations.proofs.Forecasts.{told-refused, told-steps}
-use borrow.Author.Rules.{rules}
 use Rattle.operations.proofs.ahead.schur.Goals as goal
 use Rattle.operations.proofs.ahead.schur.Goals.{After-test-v, In_default}
 

@@ -14,7 +14,6 @@ use Rattle.operations.proofs.MinorCalls.{sets-passed}
 use Rattle.words.specs.Effort.{minor_foretold, result_steps}
 use Rattle.words.proofs.Totals.{none-clamped}
 use Rattle.operations.proofs.Forecasts.{told-refused, told-steps}
-use borrow.Author.Rules.{rules}
 use Rattle.operations.proofs.ahead.submatrix.Goals as goal
 use Rattle.operations.proofs.ahead.submatrix.Goals.{After-test-v, In_default}
 

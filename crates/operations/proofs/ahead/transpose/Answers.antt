@@ -1,7 +1,6 @@
 -- The forecast of a transpose: the tests of its source, and no steps (laws in Forecasts).
 use mathlib.Core.Path.{refl, sym, ◌∙◌}
 use Rattle.operations.proofs.Forecasts.{told-refused, told-steps}
-use borrow.Author.Rules.{rules}
 use Rattle.operations.proofs.ahead.transpose.Goals as goal
 
 pub returns-in-Refused : goal.returns-in-Refused

@@ -1,11 +1,8 @@
 -- The loop of `effort::of_sizes`: the first p terms of the sum, which stays small, and how many are left.
-use borrow.Author.Rules.{rules}
-use mathlib.Core.Path.{◌≡◌, refl, sym, ap, ◌∙◌}
-use Prim.Native.Nat.{ℕ, ◌+◌, ◌-◌, ◌*◌, ◌≤◌}
-use native.Mathlib.Omega.{arith}
+use mathlib.Core.Path.{◌≡◌}
+use Prim.Native.Nat.{◌-◌, ◌*◌, ◌≤◌}
 use Rattle.words.specs.Effort.{sum_over}
-use Rattle.words.proofs.Totals.{total-by-rows}
-use Rattle.operations.proofs.Efforts.{term, term-more, term_few, product-few}
+use Rattle.operations.proofs.Efforts.{term}
 use Rattle.operations.proofs.effort.of_sizes.Given as goal
 
 abbrev pub invariant-loop-p : goal.invariant-loop-p

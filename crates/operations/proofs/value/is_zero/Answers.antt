@@ -1,5 +1,4 @@
 -- `value::is_zero` meets its contract: the word of one plain step is that of the matrix, and the walk in Bools tells of its minor.
-use borrow.Author.Rules.{rules}
 use mathlib.Core.Path.{◌≡◌, refl, ap, ◌∙◌}
 use mathlib.Core.Bool.{Bool, true, false, not}
 use Prim.Native.Nat.{◌^◌, ◌≤◌}

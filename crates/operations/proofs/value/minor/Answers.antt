@@ -5,7 +5,6 @@ use Rattle.words.specs.Operation.{joined_word}
 use Rattle.walk.specs.Steps.{step_of}
 use Rattle.walk.specs.declared.Way.TheVariants.{Plain}
 use Rattle.operations.proofs.Made.{made_none, made-ready, made-next, made-asked, made-minor}
-use borrow.Author.Rules.{rules}
 use Rattle.operations.proofs.value.minor.Goals as goal
 
 pub put_step-plain-requires : goal.put_step-plain-requires

@@ -3,7 +3,6 @@ use mathlib.Core.Path.{◌≡◌, sym, ◌∙◌, ap₂}
 use Rattle.verdict.specs.Verdict.{first_behind, first_of, or_else, when}
 use Rattle.operations.specs.Operations.{build_tests}
 use Rattle.operations.proofs.Building.{build-accepted, build-turned, build-worked}
-use borrow.Author.Rules.{rules}
 use Rattle.operations.proofs.work.built.Goals as goal
 use Rattle.operations.proofs.work.built.Goals.{After-test-v}
 

@@ -1,7 +1,6 @@
 -- A build's answer, by cases on the result's.
 use mathlib.Core.Path.{sym, ap}
 use Rattle.operations.specs.Proposed.{filled_answer, filled_by}
-use borrow.Author.Rules.{rules}
 use Rattle.operations.proofs.work.filled.Goals as goal
 
 pub returns-in-Done : goal.returns-in-Done

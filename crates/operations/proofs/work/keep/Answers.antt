@@ -4,7 +4,6 @@ use Rattle.places.specs.declared.Shelf.{Shelf}
 use Rattle.operations.specs.declared.Performed.TheVariants.{Done}
 use Rattle.operations.proofs.Proposals.{kept_by_lem}
 use mathlib.Core.Path.{refl, ap}
-use borrow.Author.Rules.{rules}
 use Rattle.operations.proofs.work.keep.Goals as goal
 
 pub with_table-after-requires : goal.with_table-after-requires

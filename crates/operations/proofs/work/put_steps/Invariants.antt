@@ -1,14 +1,6 @@
 -- The loop of `put_steps`: the first c steps are put (`Put`), and how many are left.
 use Prim.Native.Nat.{◌-◌, ◌≤◌}
-use native.Mathlib.Omega.{arith}
-use mathlib.Core.Path.{◌≡◌}
-use lib.ListN.{length}
-use Rattle.arrays.proofs.Structs.{length-mapped}
-use Rattle.operations.specs.Operations.{step_with}
-use Rattle.recipes.proofs.Slots.{taken-length}
-use Rattle.operations.proofs.Made.{made-ready}
-use Rattle.operations.proofs.Recipes.{Put, steps-none, steps_next, steps-put}
-use borrow.Author.Rules.{rules}
+use Rattle.operations.proofs.Recipes.{Put}
 use Rattle.operations.proofs.work.put_steps.Given as goal
 
 abbrev pub invariant-loop-c : goal.invariant-loop-c

@@ -1,7 +1,6 @@
 -- What the rule handed back, put to the test of its exponents: by cases on that test.
 use mathlib.Core.Path.{sym, ◌∙◌}
 use Rattle.operations.specs.Proposed.{ranged_of}
-use borrow.Author.Rules.{rules}
 use Rattle.operations.proofs.work.ranged.Goals as goal
 
 pub returns-then-outside : goal.returns-then-outside

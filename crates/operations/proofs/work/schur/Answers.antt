@@ -15,7 +15,6 @@ use Rattle.operations.specs.Operations.{schur_at, clamped_tests}
 use Rattle.operations.proofs.Results.{Ready, schur-clamped, schur-ready, answered-turned, answered-ranged}
 use Rattle.operations.proofs.Made.{made_none, made-ready, made-next}
 use Rattle.operations.proofs.Worked.{Sets, schur-sets, run-proper, run-result}
-use borrow.Author.Rules.{rules}
 use Rattle.operations.proofs.work.schur.Goals as goal
 use Rattle.operations.proofs.work.schur.Goals.{After-run-all, After-test-v, In_default, Start}
 

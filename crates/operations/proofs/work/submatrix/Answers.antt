@@ -13,7 +13,6 @@ use Rattle.walk.specs.declared.Way.TheVariants.{Plain}
 use Rattle.operations.proofs.Results.{Ready, submatrix-ready, submatrix-fit, answered-turned, answered-ranged}
 use Rattle.operations.proofs.Made.{made_none, made-ready, made-next}
 use Rattle.operations.proofs.Worked.{Sets, chosen-sets, run-proper, run-result}
-use borrow.Author.Rules.{rules}
 use Rattle.operations.proofs.work.submatrix.Goals as goal
 use Rattle.operations.proofs.work.submatrix.Goals.{After-rows_at-n, In_default}
 

@@ -1,5 +1,4 @@
 -- The tests of a submatrix: those of its places and its sets, and then, of sets that fit, that it is not singular (laws in Results).
-use borrow.Author.Rules.{rules}
 use mathlib.Core.Path.{◌≡◌, refl, sym, ap, ◌∙◌}
 use Prim.Native.Nat.{ℕ}
 use lib.Dec.{eqb}

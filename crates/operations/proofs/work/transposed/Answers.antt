@@ -6,7 +6,6 @@ use Rattle.verdict.specs.Verdict.{first_of}
 use Rattle.places.specs.Tests.{one_source}
 use Rattle.places.proofs.Verdicts.{one-accepted}
 use Rattle.operations.proofs.Proposals.{transpose-turned, transpose-done, transpose-answered}
-use borrow.Author.Rules.{rules}
 use Rattle.operations.proofs.work.transposed.Goals as goal
 use Rattle.operations.proofs.work.transposed.Goals.{In_default}
 

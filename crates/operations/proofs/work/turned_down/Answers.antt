@@ -4,7 +4,6 @@ use mathlib.Core.List.{List}
 use Rattle.number.specs.declared.Number.{Number}
 use Rattle.operations.specs.declared.Proposed.{Proposed}
 use Rattle.operations.specs.declared.Performed.TheVariants.{Refused}
-use borrow.Author.Rules.{rules}
 use Rattle.operations.proofs.work.turned_down.Goals as goal
 
 pub returns : goal.returns

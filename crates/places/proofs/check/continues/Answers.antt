@@ -1,7 +1,6 @@
 -- `continues` meets its contract.
 use mathlib.Core.Path.{◌∙◌, sym}
 use Rattle.places.specs.Check.{continues}
-use borrow.Author.Rules.{rules}
 use Rattle.places.proofs.check.continues.Goals as goal
 
 pub returns-then-zero : goal.returns-then-zero

@@ -1,6 +1,5 @@
 -- `is_good` meets its contract. The loops' invariants say what is passed: the places before p, and of place p the numbers before k; behind its rows, where no
 -- fault was gathered. The lengths of the two arrays are their types'.
-use Prim.Native.Nat.{◌-◌, ◌*◌, ◌≤◌}
 use native.Mathlib.Omega.{arith}
 use mathlib.Core.Path.{sym, subst, ◌∙◌}
 use mathlib.Core.Bool.{false≢true}
@@ -8,7 +7,7 @@ use borrow.Author.Tests.{not-true, not-false}
 use Rattle.arrays.proofs.Structs.{length-mapped}
 use Rattle.places.specs.Shelf.{rows_at}
 use Rattle.places.proofs.Checking.{tested-good}
-use Rattle.places.proofs.Passing.{seen_none, Passed, Gathered, all-passed, rows-failed, place-passed, number-failed, number_passed, gathered_none}
+use Rattle.places.proofs.Passing.{seen_none, Passed, all-passed, rows-failed, place-passed, number-failed, number_passed, gathered_none}
 use Rattle.places.proofs.Passing.{gathered-more}
 use borrow.Author.Rules.{rules}
 use mathlib.Core.Bool.{not}

@@ -1,17 +1,6 @@
 -- The loops of `is_good`: what is passed, and behind a place's rows what was gathered; how many numbers or places are left.
 use Prim.Native.Nat.{◌-◌, ◌*◌, ◌≤◌}
-use native.Mathlib.Omega.{arith}
-use mathlib.Core.Path.{sym, subst, ◌∙◌}
-use mathlib.Core.Bool.{false≢true}
-use borrow.Author.Tests.{not-true, not-false}
-use Rattle.arrays.proofs.Structs.{length-mapped}
-use Rattle.places.specs.Shelf.{rows_at}
-use Rattle.places.proofs.Checking.{tested-good}
-use Rattle.places.proofs.Passing.{seen_none, Passed, Gathered, all-passed, rows-failed, place-passed, number-failed, number_passed, gathered_none}
-use Rattle.places.proofs.Passing.{gathered-more}
-use borrow.Author.Rules.{rules}
-use mathlib.Core.Bool.{not}
-use mathlib.Core.Path.{ap}
+use Rattle.places.proofs.Passing.{Passed, Gathered}
 use Rattle.places.proofs.check.is_good.Given as goal
 
 abbrev pub invariant-loop-k : goal.invariant-loop-k

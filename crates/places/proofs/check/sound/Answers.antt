@@ -7,7 +7,6 @@ use lib.Dec.{leb}
 use borrow.Author.Tests.{le-leb, lt-leb, eq-eqb, ne_eqb}
 use Rattle.number.specs.declared.Number.{Number}
 use Rattle.places.specs.Check.{is_stored, continues, sound}
-use borrow.Author.Rules.{rules}
 use Rattle.places.proofs.check.sound.Goals as goal
 
 pub returns-then-n-k : goal.returns-then-n-k

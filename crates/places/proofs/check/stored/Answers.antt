@@ -3,7 +3,6 @@ use Prim.Native.Nat.{◌^◌}
 use mathlib.Core.Path.{◌∙◌}
 use borrow.Author.Tests.{le-leb, lt-leb, le-ltb, lt-ltb}
 use Rattle.places.specs.Check.{is_stored}
-use borrow.Author.Rules.{rules}
 use Rattle.places.proofs.check.stored.Goals as goal
 
 pub returns-then-a-lt2147483648 : goal.returns-then-a-lt2147483648

@@ -1,16 +1,14 @@
 -- `faults_of` meets its contract. The invariant: what any of the first c places has.
-use Prim.Native.Nat.{ℕ, ◌-◌, ◌≤◌, ◌<◌}
+use Prim.Native.Nat.{ℕ, ◌<◌}
 use native.Mathlib.Omega.{arith}
 use mathlib.Core.Path.{◌≡◌, refl, ap, ◌∙◌}
 use mathlib.Core.Bool.{Bool, not, ◌||◌}
-use mathlib.Core.List.{List, map}
+use mathlib.Core.List.{map}
 use lib.Dec.{eqb}
 use lib.ListN.{length, take}
 use Rattle.arrays.proofs.Structs.{length-mapped}
-use Rattle.recipes.specs.declared.RecipeStep.{RecipeStep}
 use Rattle.recipes.specs.Recipe.{place_of}
 use Rattle.conditions.specs.Conditions.{above, any_of, empty}
-use Rattle.places.specs.declared.Shelf.{Shelf}
 use Rattle.places.specs.declared.judge.Faults.{Faults}
 use Rattle.places.specs.Shelf.{rows_at}
 use Rattle.places.proofs.Recipes.{any-more, any-all}

@@ -1,6 +1,5 @@
 -- The tests of one source and a target are those of the list: each line adds one verdict behind those before it, and the list is folded the same way.
 use Rattle.verdict.specs.Verdict.{first_behind}
-use borrow.Author.Rules.{rules}
 use Rattle.places.proofs.judge.one_source.Goals as goal
 
 pub returns : goal.returns

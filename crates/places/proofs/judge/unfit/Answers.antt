@@ -1,5 +1,4 @@
 -- The test of row and column sets: its three parts are those of the definition.
-use borrow.Author.Rules.{rules}
 use Rattle.places.proofs.judge.unfit.Goals as goal
 
 pub returns : goal.returns

@@ -1,6 +1,5 @@
 -- `place` meets its contract: one less than the quarter, or 8.
 use mathlib.Core.Path.{sym}
-use borrow.Author.Rules.{rules}
 use Rattle.recipes.proofs.Coded.{place-far, place-near}
 use Rattle.recipes.proofs.codes.place.Goals as goal
 

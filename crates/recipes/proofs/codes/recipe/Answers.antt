@@ -1,17 +1,16 @@
 -- `codes::recipe` meets its contract. The invariant: the first c slots have their steps.
-use Prim.Native.Nat.{ℕ, zero, suc, ◌-◌, ◌<◌}
+use Prim.Native.Nat.{ℕ, zero, suc, ◌<◌}
 use native.Mathlib.Omega.{arith}
 use mathlib.Core.Path.{◌≡◌, refl, ap}
 use mathlib.Core.List.{List, map}
 use lib.ListN.{length, get_or}
-use Rattle.arrays.proofs.Filled.{Filled, filled_none, filled_more, filled-all}
+use Rattle.arrays.proofs.Filled.{filled_none, filled_more, filled-all}
 use Rattle.walk.specs.Lent.{numbered}
 use Rattle.walk.specs.declared.Way.TheVariants.{Plain}
 use Rattle.recipes.specs.declared.RecipeStep.{RecipeStep}
 use Rattle.recipes.specs.declared.Recipe.{Recipe}
 use Rattle.recipes.specs.Codes.{step_by, recipe_by}
 use Rattle.recipes.specs.Recipe.{taken}
-use borrow.Author.Rules.{rules}
 use Rattle.recipes.proofs.codes.recipe.Goals as goal
 
 -- slot i of the definition

@@ -1,7 +1,6 @@
 -- `slot` meets its contract: the step of its number, or of 0 where there is none.
 use mathlib.Core.Path.{sym, ap, ◌∙◌}
 use lib.ListN.{get_or-eq_default}
-use borrow.Author.Rules.{rules}
 use Rattle.recipes.specs.Codes.{step_by}
 use Rattle.recipes.proofs.codes.slot.Goals as goal
 

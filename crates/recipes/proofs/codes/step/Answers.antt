@@ -1,7 +1,6 @@
 -- `step` meets its contract: the place of the quarter, and the way of the remainder.
 use mathlib.Core.Path.{ap₂}
 use Prim.Native.Nat.{ℕ}
-use borrow.Author.Rules.{rules}
 use Rattle.walk.specs.declared.Way.{Way}
 use Rattle.recipes.specs.Recipe.{taken}
 use Rattle.recipes.specs.Codes.{step_by}

@@ -3,7 +3,6 @@ use mathlib.Core.Path.{◌≡◌, sym, ap, ◌∙◌}
 use mathlib.Core.Bool.{Bool, true, false, cond}
 use Prim.Native.Nat.{ℕ}
 use lib.IntN.{ℤ, pos, neg_ℤ}
-use borrow.Author.Rules.{rules}
 use Rattle.number.proofs.Integers.{held-is}
 use Rattle.rests.proofs.Rest.integer.Goals as goal
 

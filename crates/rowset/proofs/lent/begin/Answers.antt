@@ -1,5 +1,4 @@
 -- `begin` meets its contract: one computed comparison of the whole table.
-use borrow.Author.Rules.{rules}
 use mathlib.Core.Path.{◌≡◌, ◌∙◌}
 use native.Mathlib.Omega.{arith}
 use lib.ListN.{get_or}

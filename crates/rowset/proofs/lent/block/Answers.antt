@@ -1,5 +1,4 @@
 -- `block` meets its contract: in either order of the two rows.
-use borrow.Author.Rules.{rules}
 use mathlib.Core.Path.{sym}
 use Rattle.rowset.proofs.Blocks.{block_up, block-down}
 use Rattle.rowset.proofs.lent.block.Goals as goal

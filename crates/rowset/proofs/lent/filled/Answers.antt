@@ -4,11 +4,10 @@ use borrow.Author.Rules.{rules}
 use mathlib.Core.Path.{◌≡◌, ap, ◌∙◌}
 use Prim.Native.Nat.{ℕ, ◌+◌, ◌-◌, ◌*◌, ◌%◌, ◌^◌, ◌≤◌, ◌<◌}
 use native.Mathlib.Omega.{arith}
-use lib.ListN.{length, length-set}
+use lib.ListN.{length-set}
 use lib.Pow.{shl_exact}
 use Rattle.rowset.specs.Mask.{mask_replaced}
 use Rattle.rowset.specs.Sets.{changed_of}
-use Rattle.rowset.specs.Blocks.{Filled}
 use Rattle.rowset.proofs.Changed.{neighbours-up, changed-replaced}
 use Rattle.rowset.proofs.Blocks.{block_up, block-down, others-few, up-below, up_is, filled_next, filled_row}
 use Rattle.rowset.proofs.lent.filled.Goals as goal

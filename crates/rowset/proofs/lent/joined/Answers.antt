@@ -1,8 +1,7 @@
 -- `joined` meets its contract. The loop's invariant: the first s entries of both tables are copied.
 use borrow.Author.Rules.{rules}
-use Prim.Native.Nat.{◌-◌}
 use native.Mathlib.Omega.{arith}
-use Rattle.rowset.proofs.Blocks.{Copied, copied_next, copied_all}
+use Rattle.rowset.proofs.Blocks.{copied_next, copied_all}
 use Rattle.rowset.proofs.lent.joined.Goals as goal
 
 pub loop-s-init : goal.loop-s-init

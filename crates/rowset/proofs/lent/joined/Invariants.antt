@@ -1,7 +1,5 @@
-use borrow.Author.Rules.{rules}
 use Prim.Native.Nat.{◌-◌}
-use native.Mathlib.Omega.{arith}
-use Rattle.rowset.proofs.Blocks.{Copied, copied_next, copied_all}
+use Rattle.rowset.proofs.Blocks.{Copied}
 use Rattle.rowset.proofs.lent.joined.Given as goal
 
 abbrev pub invariant-loop-s : goal.invariant-loop-s

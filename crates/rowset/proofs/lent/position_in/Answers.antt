@@ -1,5 +1,4 @@
 -- `position_in` meets its contract: by what the table holds.
-use borrow.Author.Rules.{rules}
 use mathlib.Core.Path.{◌≡◌, ◌∙◌}
 use native.Mathlib.Omega.{arith}
 use Rattle.rowset.specs.Mask.{position_of}

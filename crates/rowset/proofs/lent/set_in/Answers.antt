@@ -1,5 +1,4 @@
 -- `set_in` meets its contract: by what the table holds.
-use borrow.Author.Rules.{rules}
 use native.Mathlib.Omega.{arith}
 use Rattle.rowset.proofs.Begins.{begin-fits, listed_at}
 use Rattle.rowset.proofs.lent.set_in.Goals as goal

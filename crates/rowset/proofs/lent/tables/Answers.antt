@@ -1,9 +1,8 @@
 -- `tables` meets its contract. The loop's invariant: the blocks of the rows below l are filled.
 use borrow.Author.Rules.{rules}
 use mathlib.Core.Path.{◌≡◌}
-use Prim.Native.Nat.{◌+◌, ◌-◌, ◌*◌, ◌≤◌}
+use Prim.Native.Nat.{◌+◌, ◌*◌}
 use native.Mathlib.Omega.{arith}
-use Rattle.rowset.specs.Blocks.{Filled}
 use Rattle.rowset.proofs.Blocks.{filled_none, filled-all}
 use Rattle.rowset.proofs.lent.tables.Goals as goal
 

@@ -1,9 +1,5 @@
-use borrow.Author.Rules.{rules}
-use mathlib.Core.Path.{◌≡◌}
-use Prim.Native.Nat.{◌+◌, ◌-◌, ◌*◌, ◌≤◌}
-use native.Mathlib.Omega.{arith}
+use Prim.Native.Nat.{◌-◌, ◌*◌, ◌≤◌}
 use Rattle.rowset.specs.Blocks.{Filled}
-use Rattle.rowset.proofs.Blocks.{filled_none, filled-all}
 use Rattle.rowset.proofs.lent.tables.Given as goal
 
 abbrev pub invariant-loop-l : goal.invariant-loop-l

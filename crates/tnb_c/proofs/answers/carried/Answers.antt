@@ -3,7 +3,6 @@ use mathlib.Core.Path.{sym, ap}
 use Rattle.tnb_c.specs.Answers.{status_of}
 use Rattle.verdict.specs.Report.{verdict_report}
 use Rattle.verdict.specs.declared.Verdict.{Verdict}
-use borrow.Author.Rules.{rules}
 use Rattle.tnb_c.proofs.answers.carried.Goals as goal
 
 pub returns-in-Accepted : goal.returns-in-Accepted

@@ -6,7 +6,6 @@ use Rattle.tnb_c.specs.declared.Answer.{Answer}
 use Rattle.places.specs.Outcome.{outcome}
 use Rattle.verdict.specs.Report.{verdict_report}
 use Rattle.verdict.specs.declared.Verdict.{Verdict}
-use borrow.Author.Rules.{rules}
 use Rattle.tnb_c.proofs.answers.changed.Goals as goal
 
 abbrev answer : Shelf → Verdict → Answer

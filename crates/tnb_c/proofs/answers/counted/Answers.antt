@@ -3,7 +3,6 @@ use mathlib.Core.Path.{sym, ap, ◌∙◌}
 use Rattle.tnb_c.specs.Answers.{length_of}
 use Rattle.lists.specs.Lists.{reversals_report}
 use Rattle.lists.specs.declared.Reversals.{Reversals}
-use borrow.Author.Rules.{rules}
 use Rattle.tnb_c.proofs.answers.counted.Goals as goal
 
 pub returns-in-Count : goal.returns-in-Count

@@ -6,7 +6,6 @@ use Rattle.tnb_c.specs.declared.Answer.{Answer}
 use Rattle.places.specs.Outcome.{outcome}
 use Rattle.operations.specs.Reports.{bounded_report}
 use Rattle.operations.specs.declared.Bounded.{Bounded}
-use borrow.Author.Rules.{rules}
 use Rattle.tnb_c.proofs.answers.filled.Goals as goal
 
 abbrev answer : Shelf → Bounded → Answer

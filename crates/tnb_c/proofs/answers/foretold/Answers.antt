@@ -3,7 +3,6 @@ use mathlib.Core.Path.{sym, ap}
 use Rattle.tnb_c.specs.Answers.{steps_of}
 use Rattle.operations.specs.Forecast.{foretold_report}
 use Rattle.operations.specs.declared.Foretold.{Foretold}
-use borrow.Author.Rules.{rules}
 use Rattle.tnb_c.proofs.answers.foretold.Goals as goal
 
 pub returns-in-Steps : goal.returns-in-Steps

@@ -6,7 +6,6 @@ use Rattle.tnb_c.specs.declared.Answer.{Answer}
 use Rattle.places.specs.Outcome.{outcome}
 use Rattle.operations.specs.Reports.{performed_report}
 use Rattle.operations.specs.declared.Performed.{Performed}
-use borrow.Author.Rules.{rules}
 use Rattle.tnb_c.proofs.answers.operated.Goals as goal
 
 abbrev answer : Shelf → Performed → Answer

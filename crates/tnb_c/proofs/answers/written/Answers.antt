@@ -3,7 +3,6 @@ use mathlib.Core.Path.{sym, ap, ◌∙◌}
 use Rattle.tnb_c.specs.Answers.{length_of}
 use Rattle.writer.specs.Encoding.{written_report}
 use Rattle.writer.specs.declared.Written.{Written}
-use borrow.Author.Rules.{rules}
 use Rattle.tnb_c.proofs.answers.written.Goals as goal
 
 pub returns-in-Length : goal.returns-in-Length

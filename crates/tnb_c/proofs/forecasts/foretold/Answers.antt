@@ -6,7 +6,6 @@ use Rattle.tnb_c.specs.declared.Steps.{Steps}
 use Rattle.tnb_c.specs.Answers.{steps_of}
 use Rattle.tnb_c.proofs.Checked.{answered}
 use Rattle.tnb_c.proofs.Ahead.{foretold-answered, away-foretold}
-use borrow.Author.Rules.{rules}
 use Rattle.tnb_c.proofs.forecasts.foretold.Goals as goal
 
 abbrev answer : Outcome → Steps

@@ -1,5 +1,4 @@
 -- `tnb_conversed` meets its contract (`step-answered`).
-use borrow.Author.Rules.{rules}
 use Rattle.walk.specs.declared.Way.TheVariants.{Conversed}
 use Rattle.tnb_c.proofs.Stepped.{step-answered}
 use Rattle.tnb_c.proofs.recipe.tnb_conversed.Goals as goal

@@ -8,7 +8,6 @@ use Rattle.tnb_c.specs.declared.Steps.{Steps}
 use Rattle.tnb_c.specs.Answers.{steps_of}
 use Rattle.tnb_c.proofs.Checked.{answered}
 use Rattle.tnb_c.proofs.Ahead.{recipe-foretold, away-foretold}
-use borrow.Author.Rules.{rules}
 use Rattle.tnb_c.proofs.recipe.tnb_forecast_recipe.Goals as goal
 
 abbrev answer : Outcome → Steps

@@ -7,7 +7,6 @@ use Rattle.shelf.specs.Run.{recipe, run}
 use Rattle.tnb_c.specs.Answers.{answer_of}
 use Rattle.tnb_c.proofs.Checked.{answered, turned-away}
 use Rattle.tnb_c.proofs.Answered.{with-demand, away-answered, recipe-answered}
-use borrow.Author.Rules.{rules}
 use Rattle.tnb_c.proofs.recipe.tnb_recipe.Goals as goal
 
 pub perform_recipe-requires : goal.perform_recipe-requires

@@ -1,5 +1,4 @@
 -- `tnb_transposed` meets its contract (`step-answered`).
-use borrow.Author.Rules.{rules}
 use Rattle.walk.specs.declared.Way.TheVariants.{Transposed}
 use Rattle.tnb_c.proofs.Stepped.{step-answered}
 use Rattle.tnb_c.proofs.recipe.tnb_transposed.Goals as goal

@@ -1,7 +1,6 @@
 -- `Signed::add` meets its contract, by the four pairs of signs.
 use mathlib.Core.Bool.{true}
 use mathlib.Core.Path.{sym, ap, ◌∙◌}
-use borrow.Author.Rules.{rules}
 use Rattle.number.proofs.Signs.{signed-sum-plain, signed-sum-negative, signed-sum-left, signed-sum-right, negative-positive}
 use Rattle.number.specs.Signed.{plain}
 use Rattle.number.specs.declared.Number.{Number}

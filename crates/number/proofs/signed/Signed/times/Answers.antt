@@ -1,6 +1,5 @@
 -- `Signed::times` meets its contract: a zero product is not negative.
 use mathlib.Core.Path.{sym, ap, ◌∙◌}
-use borrow.Author.Rules.{rules}
 use Rattle.number.proofs.Signs.{signed-product-zero, signed-product-sign}
 use Rattle.number.specs.Signed.{plain}
 use Rattle.number.specs.declared.Number.{Number}

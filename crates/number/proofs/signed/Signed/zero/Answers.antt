@@ -1,6 +1,5 @@
 -- `Signed::zero` meets its contract: the number zero, and no sign.
 use mathlib.Core.Path.{ap}
-use borrow.Author.Rules.{rules}
 use Rattle.number.specs.Signed.{plain}
 use Rattle.number.proofs.signed.Signed.zero.Goals as goal
 
