@@ -12,7 +12,8 @@ use Rattle.items.proofs.Fronts.{unset, ranged-front, write-next}
 use Rattle.items.proofs.write.Given as goal
 
 abbrev pub invariant-loop-k : goal.invariant-loop-k
-invariant-loop-k l = (l.k ≤ l.n) × (length l.out ≡ length l.initial.out) × (sets l.initial.out 0 (list_numbers (take l.n l.v)) ≡ sets l.out (3 * l.k) (list_numbers (drop l.k (take l.n l.v))))
+invariant-loop-k l = (l.k ≤ l.n) × (length l.out ≡ length l.initial.out) ×
+    (sets l.initial.out 0 (list_numbers (take l.n l.v)) ≡ sets l.out (3 * l.k) (list_numbers (drop l.k (take l.n l.v))))
 
 abbrev pub decreases-loop-k : goal.decreases-loop-k
 decreases-loop-k l = l.n - l.k
