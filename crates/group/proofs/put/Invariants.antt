@@ -1,3 +1,4 @@
+-- The invariant of the loop of `group::put`: what is written so far, and what is left, make the bytes of v.
 use Prim.Native.Nat.{◌-◌}
 use native.Mathlib.Omega.{arith}
 use borrow.Author.Rules.{rules}

@@ -1,3 +1,4 @@
+-- The invariant of the loop of `group::width`: the bytes counted so far, and those of what is left, are as many as those of v.
 use Prim.Native.Nat.{◌-◌}
 use native.Mathlib.Omega.{arith}
 use Rattle.group.proofs.Writing.{Counted, counted_none, counted-more, counted-last}
