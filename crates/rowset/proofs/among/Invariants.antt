@@ -1,3 +1,4 @@
+-- The invariant of the loop of `among`: the first i rows of p are gathered.
 use borrow.Author.Rules.{rules}
 use mathlib.Core.Logic.{⊎_elim}
 use mathlib.Core.Path.{◌≡◌, refl}

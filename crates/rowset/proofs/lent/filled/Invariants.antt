@@ -1,3 +1,4 @@
+-- The invariant of the loop of `filled`: the blocks of smaller rows stand, and of the two blocks of l and l + 1 the first m entries.
 use borrow.Author.Rules.{rules}
 use mathlib.Core.Path.{◌≡◌, ap, ◌∙◌}
 use Prim.Native.Nat.{ℕ, ◌+◌, ◌-◌, ◌*◌, ◌%◌, ◌^◌, ◌≤◌, ◌<◌}

@@ -1,3 +1,4 @@
+-- The invariant of the loop of `joined`: the first s entries of both tables are copied.
 use borrow.Author.Rules.{rules}
 use Prim.Native.Nat.{◌-◌}
 use native.Mathlib.Omega.{arith}

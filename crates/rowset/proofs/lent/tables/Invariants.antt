@@ -1,3 +1,4 @@
+-- The invariant of the loop of `tables`: the blocks of the rows below l are filled.
 use borrow.Author.Rules.{rules}
 use mathlib.Core.Path.{◌≡◌}
 use Prim.Native.Nat.{◌+◌, ◌-◌, ◌*◌, ◌≤◌}
