@@ -1,3 +1,4 @@
+-- The invariant of the loop of `items_of`: the whole list is what the rest of the numbers gives, put behind the k items read.
 use borrow.Author.Rules.{rules}
 use mathlib.Core.Path.{◌≡◌, sym, ap, ◌∙◌}
 use mathlib.Core.Bool.{true}

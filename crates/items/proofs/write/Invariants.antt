@@ -1,3 +1,4 @@
+-- The invariant of the loop of `write`: all items written at the start are the rest of them written behind the k that stand there.
 use borrow.Author.Rules.{rules}
 use mathlib.Core.Path.{◌≡◌, sym, ap, ◌∙◌}
 use mathlib.Core.List.{List}
