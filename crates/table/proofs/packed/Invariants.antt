@@ -1,3 +1,4 @@
+-- The invariant of the loop of `packed`: the first k factors are put, over zeros.
 use Prim.Native.Nat.{◌-◌, ◌*◌, ◌/◌, ◌%◌, ◌<◌, ◌≤◌}
 use native.Mathlib.Nat.{mul-le-mul}
 use native.Mathlib.Omega.{arith}
