@@ -1,3 +1,4 @@
+-- The invariant of the loop of `writer::matrix_length`: what is counted so far, and the bytes of the factors left, are as many as the encoding's.
 use Prim.Native.Nat.{◌+◌, ◌-◌, ◌*◌, ◌≤◌}
 use native.Mathlib.Omega.{arith}
 use borrow.Author.Rules.{rules}
