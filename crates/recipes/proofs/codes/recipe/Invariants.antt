@@ -1,3 +1,4 @@
+-- The invariant of the loop of `codes::recipe`: the first c slots have their steps.
 use Prim.Native.Nat.{ℕ, zero, suc, ◌-◌, ◌<◌}
 use native.Mathlib.Omega.{arith}
 use mathlib.Core.Path.{◌≡◌, refl, ap}
