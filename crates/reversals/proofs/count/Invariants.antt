@@ -1,3 +1,4 @@
+-- The invariant of the loop of `count`: the reversals of the list are those found and those of the rest behind the last item that is not zero.
 use borrow.Author.Rules.{rules}
 use mathlib.Core.Path.{◌≡◌, ap}
 use Prim.Native.Nat.{◌+◌, ◌-◌, ◌≤◌, ◌<◌}
