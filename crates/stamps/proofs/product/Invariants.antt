@@ -1,3 +1,4 @@
+-- The invariant of the loop of `product`: p is the product of the first k differences; it and each difference are numbers that the arithmetic takes.
 use Prim.Native.Nat.{ℕ, ◌+◌, ◌-◌, ◌≤◌}
 use native.Mathlib.Nat.{le_antisymm}
 use native.Mathlib.Numerals.{add-one}
