@@ -21,11 +21,13 @@ pub returns-then-direction-ge3 : goal.returns-then-direction-ge3
 returns-then-direction-ge3 c = c.nothing.ensures ∙ sym (no-direction _ _ _ _ c.if-direction-ge3.true)
 
 pub returns-then-not-is_workable : goal.returns-then-not-is_workable
-returns-then-not-is_workable c = c.nothing-then-not-is_workable.ensures ∙ sym (first-refused _ _ _ _ c.if-direction-ge3.false (sym c.is_workable.ensures ∙ not-true _ (ap not c.if-not-is_workable.true)))
+returns-then-not-is_workable c = c.nothing-then-not-is_workable.ensures
+    ∙ sym (first-refused _ _ _ _ c.if-direction-ge3.false (sym c.is_workable.ensures ∙ not-true _ (ap not c.if-not-is_workable.true)))
 
 pub returns-then-not-is_workable-2 : goal.returns-then-not-is_workable-2
 returns-then-not-is_workable-2 c = let e = sym c.is_workable-2.ensures ∙ not-true _ (ap not c.if-not-is_workable-2.true) in
-    c.nothing-then-not-is_workable-2.ensures ∙ sym (second-refused _ _ _ _ c.if-direction-ge3.false (first (goal.at.returns-then-not-is_workable-2 c).Else-not-is_workable) e)
+    c.nothing-then-not-is_workable-2.ensures ∙ sym (second-refused _ _ _ _ c.if-direction-ge3.false
+    (first (goal.at.returns-then-not-is_workable-2 c).Else-not-is_workable) e)
 
 pub worked-requires : goal.worked-requires
 worked-requires c = (first (goal.at.worked-requires c).Else-not-is_workable, second (goal.at.worked-requires c).Else-not-is_workable-2)

@@ -1,3 +1,4 @@
+-- The invariant of the loop of `group::group_at`: the group at the start is what the bytes passed give, in front of the group behind them.
 use Prim.Native.Nat.{◌-◌}
 use Rattle.group.proofs.Reading.{Passed}
 use Rattle.group.proofs.group_at.Given as goal

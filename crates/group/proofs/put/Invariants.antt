@@ -1,3 +1,4 @@
+-- The invariant of the loop of `group::put`: what is written so far, and what is left, make the bytes of v.
 use Prim.Native.Nat.{◌-◌}
 use Rattle.group.proofs.Writing.{Written}
 use Rattle.group.proofs.put.Given as goal

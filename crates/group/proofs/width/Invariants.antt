@@ -1,3 +1,4 @@
+-- The invariant of the loop of `group::width`: the bytes counted so far, and those of what is left, are as many as those of v.
 use Prim.Native.Nat.{◌-◌}
 use Rattle.group.proofs.Writing.{Counted}
 use Rattle.group.proofs.width.Given as goal

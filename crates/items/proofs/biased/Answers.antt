@@ -20,10 +20,12 @@ pub overflow_sub-result : goal.overflow_sub-result
 overflow_sub-result c = omega (arith, far (goal.at.overflow_sub-result c).After-magnitude-far, c.requires)
 
 pub returns-then-is_negative : goal.returns-then-is_negative
-returns-then-is_negative c = ap (λ (k : ℕ). bias - k) (far (goal.at.returns-then-is_negative c).After-magnitude-far) ∙ biased-negative c.args.e (sym (sign (goal.at.returns-then-is_negative c).After-is_negative) ∙ c.if-is_negative.true)
+returns-then-is_negative c = ap (λ (k : ℕ). bias - k) (far (goal.at.returns-then-is_negative c).After-magnitude-far)
+    ∙ biased-negative c.args.e (sym (sign (goal.at.returns-then-is_negative c).After-is_negative) ∙ c.if-is_negative.true)
 
 pub overflow_add-result : goal.overflow_add-result
 overflow_add-result c = record { fits = omega (arith, far (goal.at.overflow_add-result c).After-magnitude-far, c.requires) }
 
 pub returns : goal.returns
-returns c = ap (λ (k : ℕ). bias + k) (far (goal.at.returns c).After-magnitude-far) ∙ biased-plain c.args.e (sym (sign (goal.at.returns c).After-is_negative) ∙ c.if-is_negative.false)
+returns c = ap (λ (k : ℕ). bias + k) (far (goal.at.returns c).After-magnitude-far)
+    ∙ biased-plain c.args.e (sym (sign (goal.at.returns c).After-is_negative) ∙ c.if-is_negative.false)

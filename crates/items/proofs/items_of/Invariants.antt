@@ -1,3 +1,4 @@
+-- The invariant of the loop of `items_of`: the whole list is what the rest of the numbers gives, put behind the k items read.
 use mathlib.Core.Path.{◌≡◌}
 use Prim.Native.Nat.{◌-◌, ◌*◌, ◌≤◌}
 use lib.ListN.{drop}

@@ -1,3 +1,4 @@
+-- The invariant of the loop of `reader::factors_from`: the factors read so far, and those behind the offset, make what the definition reads.
 use Prim.Native.Nat.{◌-◌}
 use Rattle.reader.proofs.Reading.{ReadSoFar}
 use Rattle.reader.proofs.factors_from.Given as goal

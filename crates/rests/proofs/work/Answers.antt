@@ -15,7 +15,7 @@ pub returns-in-Add : goal.returns-in-Add
 returns-in-Add c = record { value = (done _ _ _ _ _ c.requires c.in-Add.is c.add.ensures).0; small = (done _ _ _ _ _ c.requires c.in-Add.is c.add.ensures).1 }
 
 pub returns-in-Multiply : goal.returns-in-Multiply
-returns-in-Multiply c = record { value = (done _ _ _ _ _ c.requires c.in-Multiply.is c.multiply.ensures).0; small = (done _ _ _ _ _ c.requires c.in-Multiply.is c.multiply.ensures).1 }
+returns-in-Multiply c = let met = done _ _ _ _ _ c.requires c.in-Multiply.is c.multiply.ensures in record { value = met.0; small = met.1 }
 
 pub returns-in-Divide : goal.returns-in-Divide
-returns-in-Divide c = record { value = (done _ _ _ _ _ c.requires c.in-Divide.is c.divide.ensures).0; small = (done _ _ _ _ _ c.requires c.in-Divide.is c.divide.ensures).1 }
+returns-in-Divide c = let met = done _ _ _ _ _ c.requires c.in-Divide.is c.divide.ensures in record { value = met.0; small = met.1 }

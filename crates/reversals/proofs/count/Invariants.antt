@@ -1,3 +1,4 @@
+-- The invariant of the loop of `count`: the reversals of the list are those found and those of the rest behind the last item that is not zero.
 use mathlib.Core.Path.{◌≡◌}
 use Prim.Native.Nat.{◌+◌, ◌-◌, ◌≤◌}
 use lib.ListN.{drop, take}

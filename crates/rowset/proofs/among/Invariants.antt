@@ -1,3 +1,4 @@
+-- The invariant of the loop of `among`: the first i rows of p are gathered.
 use Prim.Native.Nat.{◌-◌, ◌≤◌}
 use Rattle.rowset.proofs.Shifts.{Gathered}
 use Rattle.rowset.proofs.among.Given as goal

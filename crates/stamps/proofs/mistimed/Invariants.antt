@@ -1,3 +1,4 @@
+-- The invariant of the loop of `mistimed`: the first k stamps are passed, the last of them being `before` (`Passed`).
 use Prim.Native.Nat.{◌-◌}
 use Rattle.stamps.proofs.Timed.{Passed}
 use Rattle.stamps.proofs.mistimed.Given as goal

@@ -1,3 +1,4 @@
+-- The invariant of the loop of `product`: p is the product of the first k differences; it and each difference are numbers that the arithmetic takes.
 use Prim.Native.Nat.{◌-◌, ◌≤◌}
 use mathlib.Core.Path.{◌≡◌}
 use Rattle.number.specs.Number.{rounded}

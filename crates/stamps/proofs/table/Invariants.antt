@@ -1,3 +1,4 @@
+-- The invariant of the loop of `table`: the first k cells are those of the table.
 use Prim.Native.Nat.{◌-◌}
 use Rattle.number.specs.Number.{zero_number}
 use lib.ListN.{length}

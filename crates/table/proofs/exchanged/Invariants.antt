@@ -1,3 +1,4 @@
+-- The invariant of the loop of `exchanged`: the first k cells are those of the exchange.
 use Prim.Native.Nat.{◌-◌}
 use Rattle.number.specs.Number.{zero_number}
 use Rattle.words.specs.Word.{exchanged}

@@ -1,3 +1,4 @@
+-- The invariant of the loop of `outside`: the first k numbers are in range.
 use Prim.Native.Nat.{ℕ, ◌-◌, ◌<◌, ◌≤◌}
 use mathlib.Core.Path.{◌≡◌}
 use mathlib.Core.Bool.{true}

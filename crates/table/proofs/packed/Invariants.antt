@@ -1,3 +1,4 @@
+-- The invariant of the loop of `packed`: the first k factors are put, over zeros.
 use Prim.Native.Nat.{◌-◌, ◌*◌, ◌≤◌}
 use mathlib.Core.Path.{◌≡◌}
 use Rattle.table.proofs.Square.{packed_to}

@@ -1,3 +1,4 @@
+-- The invariant of the loop of `spread`: the first k cells are those of the table.
 use Prim.Native.Nat.{◌-◌}
 use Rattle.number.specs.Number.{zero_number}
 use Rattle.table.specs.Table.{square_of, cell_at}

@@ -9,4 +9,9 @@ pub returns-then-a-eq0 : goal.returns-then-a-eq0
 returns-then-a-eq0 c = record { value = c.width.ensures.value ∙ ap length (sym (factor-bytes-zero _ c.if-a-eq0.true)); upper_bound = omega arith }
 
 pub returns : goal.returns
-returns c = let split = factor-bytes-some c.args.a c.if-a-eq0.false in record { value = rw (c.width-2.ensures.value, c.width-3.ensures.value, c.minus.ensures, c.minus-2.ensures, split, length-append); upper_bound = omega arith }
+returns c =
+    let split = factor-bytes-some c.args.a c.if-a-eq0.false in
+    record {
+      value = rw (c.width-2.ensures.value, c.width-3.ensures.value, c.minus.ensures, c.minus-2.ensures, split, length-append);
+      upper_bound = omega arith;
+    }

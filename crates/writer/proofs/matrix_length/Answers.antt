@@ -24,8 +24,10 @@ overflow_add-total c = omega arith
 
 pub loop-k-preserved : goal.loop-k-preserved
 loop-k-preserved c = let h = factors-length c.args.n c.args.numbers (long (goal.at.loop-k-preserved c).Start) in
-    let e = factors-at c.args.n c.args.numbers (long (goal.at.loop-k-preserved c).Start) c.loop-k.k (omega arith) in
-    (counted-more _ c.loop-k.invariant.0 _ (omega arith) (c.factor_length-total.ensures.value ∙ ap (λ (x : Number). length (factor_bytes x)) (sym e)), omega arith)
+    let e = factors-at c.args.n c.args.numbers (long (goal.at.loop-k-preserved c).Start) c.loop-k.k (omega arith) in (
+      counted-more _ c.loop-k.invariant.0 _ (omega arith) (c.factor_length-total.ensures.value ∙ ap (λ (x : Number). length (factor_bytes x)) (sym e)),
+      omega arith,
+    )
 
 pub returns : goal.returns
 returns c = let h = factors-length c.args.n c.args.numbers (long (goal.at.returns c).Start) in

@@ -1,3 +1,4 @@
+-- The invariant of the loop of `writer::matrix_length`: what is counted so far, and the bytes of the factors left, are as many as the encoding's.
 use Prim.Native.Nat.{◌+◌, ◌-◌, ◌*◌, ◌≤◌}
 use Rattle.writer.specs.Encoding.{square_factors}
 use Rattle.writer.proofs.Writing.{Counted}

@@ -56,7 +56,10 @@ pub put-requires : goal.put-requires
 put-requires c = omega (arith, ap length (factor-bytes-zero c.args.a c.if-a-eq0.true))
 
 pub returns-then-a-eq0 : goal.returns-then-a-eq0
-returns-then-a-eq0 c = let e = sym (factor-bytes-zero _ c.if-a-eq0.true) in let a = c.args in record { value = c.put.ensures.value ∙ ap length e; out_after = c.put.ensures.out_after ∙ ap (sets a.out.now 0) e }
+returns-then-a-eq0 c =
+    let e = sym (factor-bytes-zero _ c.if-a-eq0.true) in
+    let a = c.args in
+    record { value = c.put.ensures.value ∙ ap length e; out_after = c.put.ensures.out_after ∙ ap (sets a.out.now 0) e }
 
 pub put-at-requires : goal.put-at-requires
 put-at-requires c = omega (arith, ap (λ (v : ℕ). length (bytes_of v)) c.minus.ensures, room (goal.at.put-at-requires c).Else-a-eq0)
@@ -72,7 +75,21 @@ put-requires-2 c = let whole = ap length (part-is c.put-at.new.out c.put-at.resu
     omega (arith, ap (λ (v : ℕ). length (bytes_of v)) c.minus-2.ensures, left (goal.at.put-requires-2 c).After-put-at)
 
 pub overflow_add-result : goal.overflow_add-result
-overflow_add-result c = omega (arith, left (goal.at.overflow_add-result c).After-put-at, c.put-2.ensures.value ∙ ap (λ (v : ℕ). length (bytes_of v)) c.minus-2.ensures)
+overflow_add-result c = omega (
+  arith,
+  left (goal.at.overflow_add-result c).After-put-at,
+  c.put-2.ensures.value
+      ∙ ap (λ (v : ℕ). length (bytes_of v)) c.minus-2.ensures,
+)
 
 pub returns : goal.returns
-returns c = let v = ap bytes_of c.minus-2.ensures in let two = rw v at c.put-2.ensures.out_after in record { value = rw (width (goal.at.returns c).After-put-at, c.put-2.ensures.value, v, split (goal.at.returns c).Else-a-eq0, length-append); out_after = rw (split (goal.at.returns c).Else-a-eq0) (sets-two (out (goal.at.returns c).Else-a-eq0) (code (goal.at.returns c).Else-a-eq0) (mantissa (goal.at.returns c).Else-a-eq0) _ _ _ (width (goal.at.returns c).After-put-at) (omega (arith, width (goal.at.returns c).After-put-at, room (goal.at.returns c).Else-a-eq0)) (one (goal.at.returns c).After-put-at) two) }
+returns c =
+    let v = ap bytes_of c.minus-2.ensures in
+    let two = rw v at c.put-2.ensures.out_after in
+    record {
+      value = rw (width (goal.at.returns c).After-put-at, c.put-2.ensures.value, v, split (goal.at.returns c).Else-a-eq0, length-append);
+      out_after = rw (split (goal.at.returns c).Else-a-eq0)
+          (sets-two (out (goal.at.returns c).Else-a-eq0) (code (goal.at.returns c).Else-a-eq0) (mantissa (goal.at.returns c).Else-a-eq0) _ _ _
+          (width (goal.at.returns c).After-put-at) (omega (arith, width (goal.at.returns c).After-put-at, room (goal.at.returns c).Else-a-eq0))
+          (one (goal.at.returns c).After-put-at) two);
+    }

@@ -1,3 +1,4 @@
+-- The invariant of the loop of `writer::put_matrix`: what is written so far, and the bytes of the factors left, make the encoding.
 use Prim.Native.Nat.{◌-◌}
 use Rattle.writer.specs.Encoding.{square_factors}
 use Rattle.writer.proofs.Writing.{WrittenSoFar}

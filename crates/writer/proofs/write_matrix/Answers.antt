@@ -35,10 +35,16 @@ fits : (c : In-Accepted) → room_test (out_at_In_Accepted c) (bytes_at_In_Accep
 fits c = sym (tested_at_In_Accepted c) ∙ c.in-Accepted.is
 
 pub put_matrix-requires : goal.put_matrix-requires
-put_matrix-requires c = writing-room (out (goal.at.put_matrix-requires c).After-test-verdict) (bytes (goal.at.put_matrix-requires c).After-test-verdict) (fits (goal.at.put_matrix-requires c).In-Accepted)
+put_matrix-requires c = writing-room (out (goal.at.put_matrix-requires c).After-test-verdict) (bytes (goal.at.put_matrix-requires c).After-test-verdict)
+    (fits (goal.at.put_matrix-requires c).In-Accepted)
 
 pub returns-in-Accepted : goal.returns-in-Accepted
-returns-in-Accepted c = let d = writing-done (out (goal.at.returns-in-Accepted c).After-test-verdict) (bytes (goal.at.returns-in-Accepted c).After-test-verdict) (fits (goal.at.returns-in-Accepted c).In-Accepted) in record { result_value = ap (λ (k : ℕ). accepted (pos k ∷ [])) c.put_matrix.ensures.value ∙ d.0; out_after = c.put_matrix.ensures.out_after ∙ d.1 }
+returns-in-Accepted c =
+    let d = writing-done (out (goal.at.returns-in-Accepted c).After-test-verdict) (bytes (goal.at.returns-in-Accepted c).After-test-verdict)
+    (fits (goal.at.returns-in-Accepted c).In-Accepted) in
+    record { result_value = ap (λ (k : ℕ). accepted (pos k ∷ [])) c.put_matrix.ensures.value ∙ d.0; out_after = c.put_matrix.ensures.out_after ∙ d.1 }
 
 pub returns-in-Refused : goal.returns-in-Refused
-returns-in-Refused c = record { result_value = (writing-refused _ _ _ (sym (tested (goal.at.returns-in-Refused c).After-test-verdict) ∙ c.in-Refused.is)).0; out_after = (writing-refused _ _ _ (sym (tested (goal.at.returns-in-Refused c).After-test-verdict) ∙ c.in-Refused.is)).1 }
+returns-in-Refused c =
+    let met = writing-refused _ _ _ (sym (tested (goal.at.returns-in-Refused c).After-test-verdict) ∙ c.in-Refused.is) in
+    record { result_value = met.0; out_after = met.1 }

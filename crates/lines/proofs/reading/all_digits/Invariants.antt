@@ -1,3 +1,4 @@
+-- The invariant of the loop of `lines::all_digits`: the bytes passed are digits.
 use Prim.Native.Nat.{◌-◌}
 use lib.ListN.{length}
 use Rattle.lines.proofs.Pairs.{Checked}

@@ -1,3 +1,4 @@
+-- The invariant of the loop of `lines::before`: none of the bytes passed is the one looked for.
 use Prim.Native.Nat.{◌-◌}
 use lib.ListN.{length}
 use Rattle.lines.proofs.Words.{Searched}

@@ -27,7 +27,10 @@ pub overflow_sub-result-then-is_letter : goal.overflow_sub-result-then-is_letter
 overflow_sub-result-then-is_letter c = omega (arith, between c.args.b 97 103 (is-letter c))
 
 pub returns-then-is_letter : goal.returns-then-is_letter
-returns-then-is_letter c = (simp (no-numeral (goal.at.returns-then-is_letter c).Else-is_numeral, is-letter c), omega (arith, between c.args.b 97 103 (is-letter c)))
+returns-then-is_letter c = (
+  simp (no-numeral (goal.at.returns-then-is_letter c).Else-is_numeral, is-letter c),
+  omega (arith, between c.args.b 97 103 (is-letter c)),
+)
 
 pub returns : goal.returns
 returns c = (simp (no-numeral (goal.at.returns c).Else-is_numeral, sym c.is_letter.ensures ∙ c.if-is_letter.false), omega arith)

@@ -1,3 +1,4 @@
+-- The invariant of the loop of `lines::put_pairs`: the bytes put so far, and those of the pairs that are left, make all.
 use Prim.Native.Nat.{◌-◌, ◌/◌}
 use mathlib.Core.Path.{◌≡◌}
 use lib.ListN.{length}

@@ -27,7 +27,11 @@ pub loop-i-init : goal.loop-i-init
 loop-i-init c = spelled_none _ _ c.if-s-eq0.false
 
 pub returns-then-not-is_numeral : goal.returns-then-not-is_numeral
-returns-then-not-is_numeral c = record { value = spelled-other c.loop-i.invariant (omega arith) (sym c.is_numeral.ensures ∙ not-true _ (ap not c.if-not-is_numeral.true)); whole_up_to = tt }
+returns-then-not-is_numeral c = record {
+  value = spelled-other c.loop-i.invariant (omega arith)
+      (sym c.is_numeral.ensures ∙ not-true _ (ap not c.if-not-is_numeral.true));
+  whole_up_to = tt;
+}
 
 pub overflow_sub-b : goal.overflow_sub-b
 overflow_sub-b c = (numeral c).0

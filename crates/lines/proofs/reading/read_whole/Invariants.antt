@@ -1,3 +1,4 @@
+-- The invariant of the loop of `lines::read_whole`: the numerals passed spell a number, and what is left is read behind it.
 use Prim.Native.Nat.{◌-◌}
 use lib.ListN.{length}
 use Rattle.lines.proofs.Numerals.{Spelled}

@@ -1,3 +1,4 @@
+-- The invariant of the loop of `lines::put`: what is put so far, and what is left, make the text.
 use Prim.Native.Nat.{◌-◌}
 use lib.ListN.{length}
 use Rattle.lines.proofs.Text.{Put}

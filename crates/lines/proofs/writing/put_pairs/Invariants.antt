@@ -1,3 +1,4 @@
+-- The invariant of the loop of `lines::put_pairs`: the pairs put so far, and those that are left, make the text.
 use Prim.Native.Nat.{◌-◌}
 use lib.ListN.{length}
 use Rattle.lines.specs.Text.{pair_text}

@@ -1,3 +1,4 @@
+-- The invariant of the loop of `codes::recipe`: the first c slots have their steps.
 use Prim.Native.Nat.{◌-◌}
 use lib.ListN.{get_or}
 use Rattle.arrays.proofs.Filled.{Filled}

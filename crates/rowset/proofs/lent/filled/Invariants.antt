@@ -1,3 +1,4 @@
+-- The invariant of the loop of `filled`: the blocks of smaller rows stand, and of the two blocks of l and l + 1 the first m entries.
 use mathlib.Core.Path.{◌≡◌}
 use Prim.Native.Nat.{◌+◌, ◌-◌, ◌*◌}
 use lib.ListN.{length}

@@ -1,3 +1,4 @@
+-- The invariant of the loop of `joined`: the first s entries of both tables are copied.
 use Prim.Native.Nat.{◌-◌}
 use Rattle.rowset.proofs.Blocks.{Copied}
 use Rattle.rowset.proofs.lent.joined.Given as goal

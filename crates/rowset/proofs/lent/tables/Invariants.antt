@@ -1,3 +1,4 @@
+-- The invariant of the loop of `tables`: the blocks of the rows below l are filled.
 use Prim.Native.Nat.{◌-◌, ◌*◌, ◌≤◌}
 use Rattle.rowset.specs.Blocks.{Filled}
 use Rattle.rowset.proofs.lent.tables.Given as goal
