@@ -1,3 +1,4 @@
+-- The invariant of the loop of `move_up`: the first k bytes are moved, and those from `start` + k on not yet reached (`Moved`).
 use Prim.Native.Nat.{◌-◌, ◌≤◌}
 use Rattle.tnb_console.proofs.Moves.{Moved}
 use Rattle.tnb_console.proofs.move_up.Given as goal

@@ -1,3 +1,4 @@
+-- The invariant of the loop of `respond_all`: the lines before `start` are answered (`Going`).
 use Prim.Native.Nat.{◌-◌}
 use lib.ListN.{length}
 use Rattle.tnb_console.proofs.Going.{Going}

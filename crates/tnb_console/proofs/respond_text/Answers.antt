@@ -3,4 +3,9 @@ use Rattle.tnb_console.proofs.Going.{orderly-as, text-answered}
 use Rattle.tnb_console.proofs.respond_text.Goals as goal
 
 pub returns : goal.returns
-returns c = record { orderly_2 = orderly-as c.respond_all-now.ensures.orderly_2 c.keep.ensures.0 c.keep.ensures.2; text_answered = text-answered c.respond_all-now.ensures.responded c.requires.start_value c.keep.result c.keep.ensures.0 c.keep.ensures.3 c.keep.ensures.2 c.keep.ensures.1 }
+returns c =
+    record {
+      orderly_2 = orderly-as c.respond_all-now.ensures.orderly_2 c.keep.ensures.0 c.keep.ensures.2;
+      text_answered = text-answered c.respond_all-now.ensures.responded c.requires.start_value c.keep.result c.keep.ensures.0 c.keep.ensures.3 c.keep.ensures.2
+          c.keep.ensures.1;
+    }

@@ -8,7 +8,15 @@ use borrow.Author.Rules.{rules}
 use Rattle.tnb_console.proofs.serve.Goals as goal
 
 pub loop-turns-init : goal.loop-turns-init
-loop-turns-init c = (refl, refl, c.requires.0, c.requires.1, kept-orderly (rw c.keep-now.ensures.0 c.new.ensures.good) c.keep-now.ensures.2 c.requires.1, c.keep-now.ensures.1, omega arith)
+loop-turns-init c = (
+  refl,
+  refl,
+  c.requires.0,
+  c.requires.1,
+  kept-orderly (rw c.keep-now.ensures.0 c.new.ensures.good) c.keep-now.ensures.2 c.requires.1,
+  c.keep-now.ensures.1,
+  omega arith,
+)
 
 pub finish-requires : goal.finish-requires
 finish-requires c = c.loop-turns.invariant.4
@@ -31,7 +39,8 @@ loop-turns-preserved c = (
   c.respond_piece-piece.ensures.orderly_2.whole ∙ sym c.loop-turns.invariant.3,
   c.loop-turns.invariant.2,
   c.loop-turns.invariant.3,
-  kept-orderly (rw (ap (λ (d : Session). d.shelf) (c.delivered-now.ensures.by_index [])) c.respond_piece-piece.ensures.orderly_2.good) c.delivered-now.ensures.start_value.1 c.respond_piece-piece.ensures.orderly_2.whole,
+  kept-orderly (rw (ap (λ (d : Session). d.shelf) (c.delivered-now.ensures.by_index [])) c.respond_piece-piece.ensures.orderly_2.good)
+      c.delivered-now.ensures.start_value.1 c.respond_piece-piece.ensures.orderly_2.whole,
   c.delivered-now.ensures.start_value.0,
   c.respond_piece-piece.ensures.piece_answered.few,
 )

@@ -1,3 +1,4 @@
+-- The invariant of the loop of `serve`: what is kept stays in order, no more is held than a line may have. Turns count down.
 use Prim.Native.Nat.{◌≤◌}
 use mathlib.Core.Path.{◌≡◌}
 use lib.ListN.{length}

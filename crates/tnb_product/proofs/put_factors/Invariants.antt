@@ -1,3 +1,4 @@
+-- The invariant of the loop of `put_factors`: i of the n rows are put.
 use Prim.Native.Nat.{◌-◌}
 use Rattle.tnb_product.specs.Printed.{row_lines}
 use Rattle.answers.proofs.Turns.{Turns}

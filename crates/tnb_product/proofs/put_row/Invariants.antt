@@ -1,3 +1,4 @@
+-- The invariant of the loop of `put_row`: j of the n factors are put.
 use Prim.Native.Nat.{◌-◌}
 use Rattle.shelf.specs.Calls.{factor_call}
 use Rattle.tnb_product.specs.Printed.{factor_line}
