@@ -10,6 +10,8 @@ import re
 from pathlib import Path
 
 LEMMAS = ["bytes_read", "words_left", "walk_steps", "held_by", "moved_at", "sum_over", "one_more", "kept_by"]
+# IEEE 754's own names, in comments.
+KEPT = ["roundTiesToEven", "roundTowardZero"]
 WORD = re.compile(r"(?<![\w'·-])[a-z][\w']*(?:-[\w']+)*")
 CAMEL = re.compile(r"[a-z0-9'][A-Z]")
 
@@ -24,7 +26,7 @@ def own_names(root):
     names = set()
     for path in root.glob("crates/**/*.antt"):
         for match in WORD.finditer(path.read_text()):
-            if CAMEL.search(match.group()):
+            if CAMEL.search(match.group()) and match.group() not in KEPT:
                 names.add(match.group())
     return names
 

@@ -1,4 +1,4 @@
--- What it means that a number is the nearest of 32 bits to an exact fraction, a tie going to the even mantissa (IEEE 754 round_ties_to_even).
+-- What it means that a number is the nearest of 32 bits to an exact fraction, a tie going to the even mantissa (IEEE 754 roundTiesToEven).
 use Rattle.std.specs.Prelude.{◌≡◌, ℕ, ◌+◌, ◌-◌, ◌*◌, ◌%◌, ◌^◌, ◌≤◌, ◌<◌}
 use Rattle.std.proofs.Common.{mul-pos, pow_pos}
 use Rattle.fraction.specs.Fraction.{Fraction, Same}

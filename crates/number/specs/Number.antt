@@ -1,4 +1,4 @@
--- Document 01's numbers, and IEEE 754 rounding at 32 bits of precision: round_ties_to_even, and document 02's other directions.
+-- Document 01's numbers, and IEEE 754 rounding at 32 bits of precision: roundTiesToEven, and document 02's other directions.
 -- A number with mantissa m and exponent e is kept as m and x = e + bias, so that all is said in whole numbers.
 use Rattle.std.specs.Prelude.{ℕ, ◌+◌, ◌-◌, ◌*◌, ◌/◌, ◌^◌, ◌≤◌, ◌<◌, min, ◌≡◌, Bool, cond, ◌&&◌, eqb, leb, ℤ}
 use Rattle.std.proofs.Math.IntN.{sub_ℕ}

@@ -9,7 +9,7 @@ use Rattle.number.specs.declared.Direction.{Direction}
 use Rattle.number.specs.declared.Direction.TheVariants.{Nearest, Down, Up}
 use Rattle.number.specs.declared.Number.{Number}
 
--- down (IEEE 754 round_toward_zero): of all m × 2 ^ (i - j) with m of at most 32 bits, zero among them, r is the largest that is not above q
+-- down (IEEE 754 roundTowardZero): of all m × 2 ^ (i - j) with m of at most 32 bits, zero among them, r is the largest that is not above q
 pub record LargestNotAbove (q : Fraction) (r : Number) : Type 0 where
   pub not-above : AtMost (value r) q
   pub largest : (m i j : ℕ) → m < 2 ^ 32 → AtMost (float m i j) q → AtMost (float m i j) (value r)

@@ -28,7 +28,7 @@ pub struct Number {
     pub x: u64,
 }
 
-// Which way a result is rounded: IEEE 754's round_ties_to_even, its round_toward_zero, and the upward partner of that.
+// Which way a result is rounded: IEEE 754's roundTiesToEven, its roundTowardZero, and the upward partner of that.
 #[derive(Clone, Copy)]
 pub enum Direction {
     Nearest,
