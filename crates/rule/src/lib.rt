@@ -217,7 +217,8 @@ impl Chosen {
         let run = self.alone(tables, letters, sources, s, i, j, turned);
         let above = self.with_row(tables, letters, sources, t, i - 1, j, turned);
         let steps = corner.steps + before.steps + (run.steps + above.steps);
-        if corner.number.m == 0 {
+        let vanishes = corner.number.m == 0;
+        if vanishes {
             return Counted {
                 number: Number::zero(),
                 steps,

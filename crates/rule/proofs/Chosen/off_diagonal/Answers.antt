@@ -76,13 +76,13 @@ made c =
       omega (arith, f.0, f.1, f.2, f.3),
     )
 
-pub returns-then-corner-eq0 : goal.returns-then-corner-eq0
-returns-then-corner-eq0 c =
+pub returns-then-vanishes : goal.returns-then-vanishes
+returns-then-vanishes c =
     let a = c.args in
     record {
-      number_value = banded-zero (size_of a.self) (minors (goal.at.returns-then-corner-eq0 c).Start) a.i a.j c.with_row-corner.ensures.number_value
-          c.if-corner-eq0.true c.zero.ensures;
-      steps_value = made (goal.at.returns-then-corner-eq0 c).After-with_row-above;
+      number_value = banded-zero (size_of a.self) (minors (goal.at.returns-then-vanishes c).Start) a.i a.j c.with_row-corner.ensures.number_value
+          c.if-vanishes.true c.zero.ensures;
+      steps_value = made (goal.at.returns-then-vanishes c).After-with_row-above;
     }
 
 pub mul-requires : goal.mul-requires
@@ -96,7 +96,7 @@ div-requires c =
     let a = c.args in
     let p = c.requires.workable in
     let d = p.0.divisible a.turned in
-    let z = corner-nonzero (size_of a.self) (minors (goal.at.div-requires c).Start) a.i a.j c.with_row-corner.ensures.number_value c.if-corner-eq0.false in (
+    let z = corner-nonzero (size_of a.self) (minors (goal.at.div-requires c).Start) a.i a.j c.with_row-corner.ensures.number_value c.if-vanishes.false in (
       subst (Ranged reach) (sym c.mul.ensures.value) (product-reach c.with_row-corner.ensures.ranged c.alone-before.ensures.ranged),
       subst (Ranged reach) (sym c.mul-2.ensures.value) (product-reach c.alone-run.ensures.ranged c.with_row-above.ensures.ranged),
       subst (λ (x : Number). 0 < x.m) (sym c.mul-2.ensures.value)
@@ -109,7 +109,7 @@ returns c =
     let a = c.args in
     record {
       number_value = banded-quotient (size_of a.self) (minors (goal.at.returns c).Start) a.i a.j c.with_row-corner.ensures.number_value
-          c.if-corner-eq0.false
+          c.if-vanishes.false
           c.alone-before.ensures.number_value c.alone-run.ensures.number_value c.with_row-above.ensures.number_value
           c.mul.ensures.value c.mul-2.ensures.value c.div.ensures.value;
       steps_value = made (goal.at.returns c).After-with_row-above;
