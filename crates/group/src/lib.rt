@@ -37,12 +37,14 @@ pub fn group_at(s: &[u8]) -> Group
         let b = wide(s[i]);
         if b < 128 {
             if b == 0 {
-                if i != 0 {
+                let later = i != 0;
+                if later {
                     return Group::Faulty;
                 }
             }
             let total = value + weight * b;
-            if total < 4294967296 {
+            let fits = total < 4294967296;
+            if fits {
                 return Group::Value {
                     value: total,
                     bytes: i + 1,

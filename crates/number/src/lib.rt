@@ -118,7 +118,8 @@ fn difference(a: u64, i: u64, b: u64, j: u64) -> Number
         return roundings::round_integer(a * power(k) - b, j);
     }
     if k == 33 {
-        if a == 0x8000_0000 {
+        let is_power = a == 0x8000_0000;
+        if is_power {
             return roundings::round_integer(u64::MAX - b + 1, j);
         }
     }

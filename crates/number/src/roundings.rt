@@ -31,7 +31,8 @@ fn renormalised(m: u64, x: u64) -> Number
     requires { x < 2 ^ 62 }
     ensures { result ≡ renormalised m x }
 {
-    if m == 0x1_0000_0000 {
+    let carried = m == 0x1_0000_0000;
+    if carried {
         return Number {
             m: 0x8000_0000,
             x: x + 1,

@@ -257,7 +257,8 @@ pub fn minor(shelf: Shelf, place: usize, rows: u8, columns: u8) -> Valued
         return Valued::Refused(why);
     }
     let a = value::minor(places::table_at(shelf, place), n, i, j);
-    if !a.in_range() {
+    let beyond = !a.in_range();
+    if beyond {
         return Valued::Refused(Refusal {
             number: 14,
             offset: 0,

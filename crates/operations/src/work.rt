@@ -113,7 +113,8 @@ fn ranged(res: Refactored) -> Proposed
     ensures { result ≡ ranged_of res }
 {
     let factors = res.factors;
-    if table::outside(factors) {
+    let beyond = table::outside(factors);
+    if beyond {
         return turned_down(Refusal {
             number: 14,
             offset: 0,

@@ -13,7 +13,8 @@ fn no_zero(factors: &[u64; 768], n: usize, c: usize) -> bool
 {
     for t in 0..n * 8 {
         if t % 8 < n {
-            if factors[2 * (c * 64 + t)] == 0 {
+            let vanishes = factors[2 * (c * 64 + t)] == 0;
+            if vanishes {
                 return false;
             }
         }

@@ -67,7 +67,8 @@ fn act(
     }
     let l = source::letter_in(letters, n, way, c, t);
     let w = source::factor_in(factors, c * 64 + l.at);
-    if w.m == 0 {
+    let vanishes = w.m == 0;
+    if vanishes {
         return v;
     }
     if turned {

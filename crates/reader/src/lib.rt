@@ -121,7 +121,8 @@ fn mantissa_at(s: &[u8], at: usize, code: u64) -> ByteFactor
     let item = item_at(s, at);
     match item {
         ByteItem::Value { value, next } => {
-            if value > 2147483647 {
+            let too_large = value > 2147483647;
+            if too_large {
                 return ByteFactor::Fault {
                     number: 5,
                     offset: at,

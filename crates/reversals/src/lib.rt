@@ -12,10 +12,12 @@ fn turn(a: Signed, b: Signed) -> u64
 {
     let x = a.size;
     let y = b.size;
-    if x.m == 0 {
+    let first_vanishes = x.m == 0;
+    if first_vanishes {
         return 0;
     }
-    if y.m == 0 {
+    let second_vanishes = y.m == 0;
+    if second_vanishes {
         return 0;
     }
     if a.negative {

@@ -27,7 +27,8 @@ pub fn mistimed(stamps: &[u64]) -> bool
         if stamp <= before {
             return true;
         }
-        if 0x1_0000_0000 <= stamp {
+        let too_large = 0x1_0000_0000 <= stamp;
+        if too_large {
             return true;
         }
         before = stamp;

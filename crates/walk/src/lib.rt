@@ -81,7 +81,8 @@ fn moved(
         let from = lent::changed_in(tables, n, o, a, m);
         let y = u[from];
         let b = packed::unpack(y);
-        if b.m == 0 {
+        let vanishes = b.m == 0;
+        if vanishes {
             continue;
         }
         let to = lent::changed_in(tables, n, a, o, m);

@@ -8,7 +8,7 @@ use Rattle.group.specs.Group.{Bytes}
 use Rattle.group.proofs.Reading.{passed_none, product_small, weight-small, passed-end, passed-five, passed-zero, passed-value, passed-large}
 use Rattle.group.proofs.Reading.{passed-more, group-found}
 use Rattle.group.proofs.group_at.Goals as goal
-use Rattle.group.proofs.group_at.Goals.{At-loop-i, Else-b-lt128, Joined-b-eq0, then-b-eq0+else-i-ne0, else-b-eq0}
+use Rattle.group.proofs.group_at.Goals.{At-loop-i, Else-b-lt128, Joined-b-eq0, then-b-eq0+else-later, else-b-eq0}
 
 -- the input, at the loop's head
 bytes : (c : At-loop-i) → Bytes c.args.s.now
@@ -21,7 +21,7 @@ weighted : (c : Else-b-lt128) → (c.loop-i.weight * (c.wide-b.result - 128) ≤
 weighted c = (product_small c.loop-i.invariant _ (omega arith) (omega (arith, (byte c))), weight-small c.loop-i.invariant (omega arith))
 
 lone : (c : Joined-b-eq0) → (c.wide-b.result ≡ 0 → ⊥) ⊎ (c.loop-i.i ≡ 0)
-lone c = elim c.if-b-eq0.branch [ then-b-eq0+else-i-ne0 w ↦ inr w.if-i-ne0.false | else-b-eq0 w ↦ inl w.if-b-eq0.false ]
+lone c = elim c.if-b-eq0.branch [ then-b-eq0+else-later w ↦ inr w.if-later.false | else-b-eq0 w ↦ inl w.if-b-eq0.false ]
 
 weighted-last : (c : Joined-b-eq0) → (c.loop-i.weight * c.wide-b.result ≤ 2 ^ 35) × (c.loop-i.weight ≤ 2 ^ 28)
 weighted-last c = (product_small c.loop-i.invariant _ (omega arith) (omega arith), weight-small c.loop-i.invariant (omega arith))
@@ -34,10 +34,10 @@ returns-then-s-i c =
     let met = group-found _ _ (bytes (goal.at.returns-then-s-i c).At-loop-i) (passed-end c.loop-i.invariant (search rules) c.if-s-i.true) in
     record { value = met.0; inside = met.1 }
 
-pub returns-then-i-ne0 : goal.returns-then-i-ne0
-returns-then-i-ne0 c =
-    let met = group-found _ _ (bytes (goal.at.returns-then-i-ne0 c).At-loop-i)
-    (passed-zero c.loop-i.invariant c.wide-b.result (omega arith) (omega arith) c.wide-b.ensures c.if-b-eq0.true c.if-i-ne0.true) in
+pub returns-then-later : goal.returns-then-later
+returns-then-later c =
+    let met = group-found _ _ (bytes (goal.at.returns-then-later c).At-loop-i)
+    (passed-zero c.loop-i.invariant c.wide-b.result (omega arith) (omega arith) c.wide-b.ensures c.if-b-eq0.true c.if-later.true) in
     record { value = met.0; inside = met.1 }
 
 pub overflow_mul-total : goal.overflow_mul-total
@@ -46,18 +46,18 @@ overflow_mul-total c = omega (arith, weighted-last c)
 pub overflow_add-total : goal.overflow_add-total
 overflow_add-total c = omega (arith, weighted-last c)
 
-pub returns-then-total-lt4294967296 : goal.returns-then-total-lt4294967296
-returns-then-total-lt4294967296 c =
-    let met = group-found _ _ (bytes (goal.at.returns-then-total-lt4294967296 c).At-loop-i)
+pub returns-then-fits : goal.returns-then-fits
+returns-then-fits c =
+    let met = group-found _ _ (bytes (goal.at.returns-then-fits c).At-loop-i)
     (passed-value c.loop-i.invariant c.wide-b.result (omega arith) (omega arith) c.wide-b.ensures c.if-b-lt128.true
-    (lone (goal.at.returns-then-total-lt4294967296 c).Joined-b-eq0) c.if-total-lt4294967296.true) in
+    (lone (goal.at.returns-then-fits c).Joined-b-eq0) c.if-fits.true) in
     record { value = met.0; inside = met.1 }
 
 pub returns-then-b-lt128 : goal.returns-then-b-lt128
 returns-then-b-lt128 c =
     let met = group-found _ _ (bytes (goal.at.returns-then-b-lt128 c).At-loop-i)
     (passed-large c.loop-i.invariant c.wide-b.result (omega arith) (omega arith) c.wide-b.ensures c.if-b-lt128.true
-    (lone (goal.at.returns-then-b-lt128 c).Joined-b-eq0) c.if-total-lt4294967296.false) in
+    (lone (goal.at.returns-then-b-lt128 c).Joined-b-eq0) c.if-fits.false) in
     record { value = met.0; inside = met.1 }
 
 pub overflow_mul-value : goal.overflow_mul-value

@@ -6,7 +6,7 @@ use lib.Pow.{pow_mono}
 use Rattle.number.proofs.Exact.{sum_fits, difference-far}
 use Rattle.number.specs.Number.{round}
 use Rattle.number.proofs.difference.Goals as goal
-use Rattle.number.proofs.difference.Goals.{After-power, Joined-k-eq33, then-k-eq33+else-a-eq2147483648, else-k-eq33}
+use Rattle.number.proofs.difference.Goals.{After-power, Joined-k-eq33, then-k-eq33+else-is_power, else-k-eq33}
 
 fits : (c : After-power)
     → (c.args.a * c.power.result < 2 ^ 64) × (c.args.a * c.power.result + c.args.b < 2 ^ 64)
@@ -19,7 +19,7 @@ quarter : (c : Joined-k-eq33) → c.args.a ≡ 2 ^ 31
 quarter c e = let k = c.args.i - c.args.j in
     let l : 33 ≤ k = c.if-k-lt33.false in
     let ne : k ≡ 33 → ⊥ = λ (f : k ≡ 33). elim c.if-k-eq33.branch
-    [ then-k-eq33+else-a-eq2147483648 w ↦ w.if-a-eq2147483648.false e | else-k-eq33 w ↦ w.if-k-eq33.false f ] in
+    [ then-k-eq33+else-is_power w ↦ w.if-is_power.false e | else-k-eq33 w ↦ w.if-k-eq33.false f ] in
     omega (arith, pow_mono {i = 34} {j = k} (omega arith), c.requires.3)
 
 pub overflow_mul-a : goal.overflow_mul-a
@@ -35,13 +35,13 @@ pub returns-then-k-lt33 : goal.returns-then-k-lt33
 returns-then-k-lt33 c = let a = c.args in
     c.round_integer.ensures ∙ ap (λ (d : ℕ). round (a.a * d - a.b) 1 a.j) c.power.ensures
 
-pub returns-then-a-eq2147483648 : goal.returns-then-a-eq2147483648
-returns-then-a-eq2147483648 c = let a = c.args in
+pub returns-then-is_power : goal.returns-then-is_power
+returns-then-is_power c = let a = c.args in
     let e : a.i - a.j ≡ 33 = c.if-k-eq33.true in
-    let f : a.a ≡ 2 ^ 31 = c.if-a-eq2147483648.true in
+    let f : a.a ≡ 2 ^ 31 = c.if-is_power.true in
     let g : a.a * 2 ^ (a.i - a.j) ≡ 2 ^ 64 = rw (e, f) refl in
     let h : 18446744073709551615 - a.b + 1 ≡ a.a * 2 ^ (a.i - a.j) - a.b = omega arith in
-    c.round_integer-then-a-eq2147483648.ensures ∙ ap (λ (n : ℕ). round n 1 a.j) h
+    c.round_integer-then-is_power.ensures ∙ ap (λ (n : ℕ). round n 1 a.j) h
 
 pub returns : goal.returns
 returns c = let a = c.args in

@@ -23,7 +23,7 @@ use borrow.Author.Tests.{not-true, not-false}
 use mathlib.Core.Bool.{not}
 use mathlib.Core.Path.{ap}
 use Rattle.operations.proofs.minor.Goals as goal
-use Rattle.operations.proofs.minor.Goals.{After-minor-a, After-test-v, Else-not-in_range, In_default}
+use Rattle.operations.proofs.minor.Goals.{After-minor-a, After-test-v, Else-beyond, In_default}
 
 tested : (c : After-test-v) → (let a = c.args in c.test-v.result ≡ first_of (set_tests a.shelf a.place a.rows a.columns))
 tested c = let a = c.args in
@@ -48,8 +48,8 @@ value c = let a = c.args in
     minor-is a.shelf a.place a.rows a.columns _ _ _ _ _ c.rows_at-n.ensures c.table_at.ensures
     c.wide-i.ensures.value c.wide-j.ensures.value c.minor-a.ensures
 
-ranged : (c : Else-not-in_range) → in_range c.minor-a.result ≡ true
-ranged c = sym c.in_range.ensures ∙ not-false _ (ap not c.if-not-in_range.false)
+ranged : (c : Else-beyond) → in_range c.minor-a.result ≡ true
+ranged c = sym c.in_range-beyond.ensures ∙ not-false _ (ap not c.if-beyond.false)
 
 pub unfit-requires : goal.unfit-requires
 unfit-requires c = (
@@ -74,10 +74,10 @@ minor-a-requires c = let a = c.args in let p = sets-passed a.shelf a.place a.row
       c.wide-j.ensures.value c.table_at.ensures c.requires p.0 p.1).1;
 }
 
-pub returns-then-not-in_range : goal.returns-then-not-in_range
-returns-then-not-in_range c = let a = c.args in
-    minor-outside a.shelf a.place a.rows a.columns (passed (goal.at.returns-then-not-in_range c).In_default)
-    (sym (ap in_range (value (goal.at.returns-then-not-in_range c).After-minor-a)) ∙ sym c.in_range.ensures ∙ not-true _ (ap not c.if-not-in_range.true))
+pub returns-then-beyond : goal.returns-then-beyond
+returns-then-beyond c = let a = c.args in
+    minor-outside a.shelf a.place a.rows a.columns (passed (goal.at.returns-then-beyond c).In_default)
+    (sym (ap in_range (value (goal.at.returns-then-beyond c).After-minor-a)) ∙ sym c.in_range-beyond.ensures ∙ not-true _ (ap not c.if-beyond.true))
 
 pub exponent-requires : goal.exponent-requires
 exponent-requires c = in-range-small _ (ranged c)
@@ -89,4 +89,4 @@ returns c =
     ap₂ (λ (x : Number) (e' : ℤ). let r : Report = valued_report (Value x.m e') in r) (value (goal.at.returns c).After-minor-a)
     (to_z-of_z f ∙ c.exponent.ensures ∙ ap exponent_of (value (goal.at.returns c).After-minor-a))
     ∙ minor-done a.shelf a.place a.rows a.columns (passed (goal.at.returns c).In_default)
-    (sym (ap in_range (value (goal.at.returns c).After-minor-a)) ∙ ranged (goal.at.returns c).Else-not-in_range)
+    (sym (ap in_range (value (goal.at.returns c).After-minor-a)) ∙ ranged (goal.at.returns c).Else-beyond)

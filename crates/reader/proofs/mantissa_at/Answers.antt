@@ -19,20 +19,20 @@ pub returns-then-code-eq0 : goal.returns-then-code-eq0
 unfolding mantissa_at
 returns-then-code-eq0 c = record { value = rw (eq-eqb _ _ c.if-code-eq0.true); factor_inside = search rules }
 
-pub returns-then-value-gt2147483647 : goal.returns-then-value-gt2147483647
+pub returns-then-too_large : goal.returns-then-too_large
 unfolding mantissa_at
-returns-then-value-gt2147483647 c = let a = c.args in record {
+returns-then-too_large c = let a = c.args in record {
   value = rw (ne_eqb _ _ c.if-code-eq0.false)
-      (matched (mantissa_by a.at a.code) c.item_at-item.ensures.value c.in-Value.is (simp (lt-ltb _ _ c.if-value-gt2147483647.true)));
+      (matched (mantissa_by a.at a.code) c.item_at-item.ensures.value c.in-Value.is (simp (lt-ltb _ _ c.if-too_large.true)));
   factor_inside = tt;
 }
 
-pub returns-else-value-gt2147483647 : goal.returns-else-value-gt2147483647
+pub returns-else-too_large : goal.returns-else-too_large
 unfolding mantissa_at
-returns-else-value-gt2147483647 c = let a = c.args in record {
+returns-else-too_large c = let a = c.args in record {
   value = rw (ne_eqb _ _ c.if-code-eq0.false)
-      (matched (mantissa_by a.at a.code) c.item_at-item.ensures.value c.in-Value.is (simp (le-ltb _ _ c.if-value-gt2147483647.false)));
-  factor_inside = inside (goal.at.returns-else-value-gt2147483647 c).In-Value;
+      (matched (mantissa_by a.at a.code) c.item_at-item.ensures.value c.in-Value.is (simp (le-ltb _ _ c.if-too_large.false)));
+  factor_inside = inside (goal.at.returns-else-too_large c).In-Value;
 }
 
 pub returns-in-Fault : goal.returns-in-Fault

@@ -4,26 +4,26 @@ use mathlib.Core.Bool.{xor}
 use Rattle.reversals.specs.Reversals.{opposite}
 use Rattle.reversals.proofs.turn.Goals as goal
 
-pub returns-then-x-eq0 : goal.returns-then-x-eq0
+pub returns-then-first_vanishes : goal.returns-then-first_vanishes
 unfolding opposite xor
-returns-then-x-eq0 c = simp (eq-eqb _ 0 c.if-x-eq0.true)
+returns-then-first_vanishes c = simp (eq-eqb _ 0 c.if-first_vanishes.true)
 
-pub returns-then-y-eq0 : goal.returns-then-y-eq0
+pub returns-then-second_vanishes : goal.returns-then-second_vanishes
 unfolding opposite xor
-returns-then-y-eq0 c = simp (ne_eqb _ 0 c.if-x-eq0.false, eq-eqb _ 0 c.if-y-eq0.true)
+returns-then-second_vanishes c = simp (ne_eqb _ 0 c.if-first_vanishes.false, eq-eqb _ 0 c.if-second_vanishes.true)
 
 pub returns-then-b : goal.returns-then-b
 unfolding opposite xor
-returns-then-b c = simp (ne_eqb _ 0 c.if-x-eq0.false, ne_eqb _ 0 c.if-y-eq0.false, c.if-a.true, c.if-b.true)
+returns-then-b c = simp (ne_eqb _ 0 c.if-first_vanishes.false, ne_eqb _ 0 c.if-second_vanishes.false, c.if-a.true, c.if-b.true)
 
 pub returns-then-a : goal.returns-then-a
 unfolding opposite xor
-returns-then-a c = simp (ne_eqb _ 0 c.if-x-eq0.false, ne_eqb _ 0 c.if-y-eq0.false, c.if-a.true, c.if-b.false)
+returns-then-a c = simp (ne_eqb _ 0 c.if-first_vanishes.false, ne_eqb _ 0 c.if-second_vanishes.false, c.if-a.true, c.if-b.false)
 
 pub returns-then-b-2 : goal.returns-then-b-2
 unfolding opposite xor
-returns-then-b-2 c = simp (ne_eqb _ 0 c.if-x-eq0.false, ne_eqb _ 0 c.if-y-eq0.false, c.if-a.false, c.if-b-2.true)
+returns-then-b-2 c = simp (ne_eqb _ 0 c.if-first_vanishes.false, ne_eqb _ 0 c.if-second_vanishes.false, c.if-a.false, c.if-b-2.true)
 
 pub returns : goal.returns
 unfolding opposite xor
-returns c = simp (ne_eqb _ 0 c.if-x-eq0.false, ne_eqb _ 0 c.if-y-eq0.false, c.if-a.false, c.if-b-2.false)
+returns c = simp (ne_eqb _ 0 c.if-first_vanishes.false, ne_eqb _ 0 c.if-second_vanishes.false, c.if-a.false, c.if-b-2.false)

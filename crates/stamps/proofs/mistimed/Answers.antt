@@ -16,11 +16,11 @@ loop-k-init c = passed_none _ (omega arith) (omega arith)
 pub returns-then-stamp-before : goal.returns-then-stamp-before
 returns-then-stamp-before c = sym (passed-low _ c.loop-k.invariant c.loop-k-test.true c.if-stamp-before.true)
 
-pub returns-then-stamp-ge4294967296 : goal.returns-then-stamp-ge4294967296
-returns-then-stamp-ge4294967296 c = sym (passed-large _ c.loop-k.invariant c.loop-k-test.true c.if-stamp-before.false c.if-stamp-ge4294967296.true)
+pub returns-then-too_large : goal.returns-then-too_large
+returns-then-too_large c = sym (passed-large _ c.loop-k.invariant c.loop-k-test.true c.if-stamp-before.false c.if-too_large.true)
 
 pub loop-k-preserved : goal.loop-k-preserved
-loop-k-preserved c = passed-more _ c.loop-k.invariant c.loop-k-test.true c.if-stamp-before.false c.if-stamp-ge4294967296.false
+loop-k-preserved c = passed-more _ c.loop-k.invariant c.loop-k-test.true c.if-stamp-before.false c.if-too_large.false
 
 pub returns : goal.returns
 returns c = sym (passed-end _ c.loop-k.invariant c.loop-k-test.false)

@@ -65,10 +65,10 @@ pub changed_in-from-requires : goal.changed_in-from-requires
 changed_in-from-requires c = (omega arith, neighbours-turned c.requires.le_k.3, others-low c, c.requires.u_len.1.paired)
 
 -- zero was read
-pub loop-p-preserved-then-b-eq0 : goal.loop-p-preserved-then-b-eq0
-loop-p-preserved-then-b-eq0 c = let z : (unpack_of (get_or c.loop-p.u c.changed_in-from.result 0)).m ≡ 0 =
-    ap (λ (q : Number). q.m) (sym c.unpack-b.ensures) ∙ c.if-b-eq0.true in
-    (next (goal.at.loop-p-preserved-then-b-eq0 c).In-loop-p, step-passed (at (goal.at.loop-p-preserved-then-b-eq0 c).After-unpack-b) z)
+pub loop-p-preserved-then-vanishes : goal.loop-p-preserved-then-vanishes
+loop-p-preserved-then-vanishes c = let z : (unpack_of (get_or c.loop-p.u c.changed_in-from.result 0)).m ≡ 0 =
+    ap (λ (q : Number). q.m) (sym c.unpack-b.ensures) ∙ c.if-vanishes.true in
+    (next (goal.at.loop-p-preserved-then-vanishes c).In-loop-p, step-passed (at (goal.at.loop-p-preserved-then-vanishes c).After-unpack-b) z)
 
 pub changed_in-to-requires : goal.changed_in-to-requires
 changed_in-to-requires c = (omega arith, c.requires.le_k.3, others-low (goal.at.changed_in-to-requires c).After-set_in-m, c.requires.u_len.1.paired)

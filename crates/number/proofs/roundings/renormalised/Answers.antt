@@ -3,10 +3,10 @@ use borrow.Author.Tests.{eq-eqb, ne_eqb}
 use Rattle.number.specs.Number.{renormalised}
 use Rattle.number.proofs.roundings.renormalised.Goals as goal
 
-pub returns-then-m-eq4294967296 : goal.returns-then-m-eq4294967296
+pub returns-then-carried : goal.returns-then-carried
 unfolding renormalised
-returns-then-m-eq4294967296 c = simp (eq-eqb _ _ c.if-m-eq4294967296.true)
+returns-then-carried c = simp (eq-eqb _ _ c.if-carried.true)
 
 pub returns : goal.returns
 unfolding renormalised
-returns c = simp (ne_eqb _ _ c.if-m-eq4294967296.false)
+returns c = simp (ne_eqb _ _ c.if-carried.false)

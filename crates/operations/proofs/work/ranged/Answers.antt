@@ -3,10 +3,10 @@ use mathlib.Core.Path.{sym, ◌∙◌}
 use Rattle.operations.specs.Proposed.{ranged_of}
 use Rattle.operations.proofs.work.ranged.Goals as goal
 
-pub returns-then-outside : goal.returns-then-outside
+pub returns-then-beyond : goal.returns-then-beyond
 unfolding ranged_of
-returns-then-outside c = c.turned_down.ensures ∙ simp (sym c.outside.ensures ∙ c.if-outside.true)
+returns-then-beyond c = c.turned_down.ensures ∙ simp (sym c.outside-beyond.ensures ∙ c.if-beyond.true)
 
 pub returns : goal.returns
 unfolding ranged_of
-returns c = simp (sym c.outside.ensures ∙ c.if-outside.false)
+returns c = simp (sym c.outside-beyond.ensures ∙ c.if-beyond.false)

@@ -5,23 +5,23 @@ use mathlib.Core.Bool.{false≢true}
 use borrow.Author.Rules.{rules}
 use Rattle.presence.proofs.NoZeros.{passed_none, passed-next, passed-all, zero-found}
 use Rattle.presence.proofs.full.no_zero.Goals as goal
-use Rattle.presence.proofs.full.no_zero.Goals.{then-t-n+else-factors-c-eq0, else-t-n}
+use Rattle.presence.proofs.full.no_zero.Goals.{then-t-n+else-vanishes, else-t-n}
 
 pub loop-t-init : goal.loop-t-init
 loop-t-init c = (search rules, passed_none)
 
-pub returns-then-factors-c-eq0 : goal.returns-then-factors-c-eq0
-returns-then-factors-c-eq0 c = (
+pub returns-then-vanishes : goal.returns-then-vanishes
+returns-then-vanishes c = (
   λ e. absurd (false≢true e),
   λ h. absurd
-      (zero-found _ _ _ _ (search rules) (search rules) (search rules) c.if-factors-c-eq0.true h),
+      (zero-found _ _ _ _ (search rules) (search rules) (search rules) c.if-vanishes.true h),
 )
 
 pub loop-t-preserved : goal.loop-t-preserved
 loop-t-preserved c = (
   search rules,
   passed-next c.loop-t.invariant.1 (elim c.if-t-n.branch [
-    | then-t-n+else-factors-c-eq0 w ↦ λ l e. w.if-factors-c-eq0.false e
+    | then-t-n+else-vanishes w ↦ λ l e. w.if-vanishes.false e
     | else-t-n w ↦ λ l e. omega arith
   ]),
 )
