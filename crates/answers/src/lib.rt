@@ -4,7 +4,8 @@
 ghost use Rattle.std.specs.Prelude.{◌++◌, [], ◌∷◌, pos};
 ghost use Rattle.lines.specs.Ascii.{ascii};
 ghost use Rattle.lines.specs.Text.{Puts, decimal};
-ghost use Rattle.verdict.specs.Report.{accepted, verdict_report};
+ghost use Rattle.verdict.specs.Report.{accepted, answer_report, verdict_report};
+ghost use Rattle.verdict.specs.Verdict.{number_of};
 ghost use Rattle.writer.specs.Encoding.{written_report};
 ghost use Rattle.lists.specs.Lists.{reversals_report};
 ghost use Rattle.arithmetic.specs.Arithmetic.{worked_report};
@@ -14,7 +15,7 @@ ghost use Rattle.notices.specs.Sentence.{refusal_text};
 ghost use Rattle.answers.specs.Answers.{integer_text, values_text, report_text, performed_text, worked_text, with_bytes, bad_text};
 
 use number::integer;
-use shelf::{Bounded, Foretold, Performed, Refusal, Reversals, Valued, Verdict, Worked, Written};
+use shelf::{Performed, Refusal, Value, Verdict, Worked};
 
 mod listed; // listed.rt: list items
 mod matrix; // matrix.rt: what a place holds
@@ -55,9 +56,9 @@ pub fn put_number(out: &mut [u8], at: usize, mantissa: u64, exponent: i64) -> us
 
 // `refused N at P`.
 pub fn put_refusal(out: &mut [u8], at: usize, why: Refusal) -> usize
-    ensures { Puts out.old at (refusal_text why.number why.offset) out.new result }
+    ensures { Puts out.old at (refusal_text (number_of why.reason) why.offset) out.new result }
 {
-    sentences::put_front(out, at, why.number as u64, why.offset as u64)
+    sentences::put_front(out, at, u64::from(why.reason.number()), why.offset as u64)
 }
 
 // A call that answers no more than a word where it was accepted.
@@ -65,12 +66,12 @@ pub fn put_verdict(out: &mut [u8], at: usize, verdict: Verdict, word: &[u8]) -> 
     ensures { Puts out.old at (report_text word.now (verdict_report verdict)) out.new result }
 {
     match verdict {
-        Verdict::Accepted => lines::put(out, at, word),
-        Verdict::Refused(why) => put_refusal(out, at, why),
+        Ok(()) => lines::put(out, at, word),
+        Err(why) => put_refusal(out, at, why),
     }
 }
 
-// A call that returned a number.
+// A word and a number.
 fn put_count(out: &mut [u8], at: usize, word: &[u8], n: u64) -> usize
     ensures { Puts out.old at (report_text word.now (accepted (pos n ∷ []))) out.new result }
 {
@@ -78,90 +79,83 @@ fn put_count(out: &mut [u8], at: usize, word: &[u8], n: u64) -> usize
     put_value(out, space, n)
 }
 
-// `bound K steps N`.
-pub fn put_performed(out: &mut [u8], at: usize, answer: Performed) -> usize
+// A call that returns a number.
+fn put_counted(out: &mut [u8], at: usize, word: &[u8], answer: Result<u64, Refusal>) -> usize
+    ensures { Puts out.old at (report_text word.now (answer_report (λ n. pos n ∷ []) answer)) out.new result }
+{
+    match answer {
+        Ok(n) => put_count(out, at, word, n),
+        Err(why) => put_refusal(out, at, why),
+    }
+}
+
+// `bound K steps N`. Where an answer has more than a number, a closure that puts it would be no plainer than the `match`.
+pub fn put_performed(out: &mut [u8], at: usize, answer: Result<Performed, Refusal>) -> usize
     ensures { Puts out.old at (performed_text (performed_report answer)) out.new result }
 {
     match answer {
-        Performed::Done { bound, steps } => {
-            let behind = put_count(out, at, b"bound", bound as u64);
+        Ok(Performed { bound, steps }) => {
+            let behind = put_count(out, at, b"bound", u64::from(bound));
             put_count(out, behind, b" steps", steps as u64)
         }
-        Performed::Refused(why) => put_refusal(out, at, why),
+        Err(why) => put_refusal(out, at, why),
     }
 }
 
 // `steps N`.
-pub fn put_foretold(out: &mut [u8], at: usize, answer: Foretold) -> usize
+pub fn put_foretold(out: &mut [u8], at: usize, answer: Result<usize, Refusal>) -> usize
     ensures { Puts out.old at (report_text (ascii "steps") (foretold_report answer)) out.new result }
 {
-    match answer {
-        Foretold::Steps(n) => put_count(out, at, b"steps", n as u64),
-        Foretold::Refused(why) => put_refusal(out, at, why),
-    }
+    put_written(out, at, b"steps", answer)
 }
 
 // `bound K`.
-pub fn put_bounded(out: &mut [u8], at: usize, answer: Bounded) -> usize
+pub fn put_bounded(out: &mut [u8], at: usize, answer: Result<u32, Refusal>) -> usize
     ensures { Puts out.old at (report_text (ascii "bound") (bounded_report answer)) out.new result }
 {
-    match answer {
-        Bounded::Bound(k) => put_count(out, at, b"bound", k as u64),
-        Bounded::Refused(why) => put_refusal(out, at, why),
-    }
+    put_counted(out, at, b"bound", answer.map(u64::from))
 }
 
 // `wrote N` or `length N`, by the word.
-pub fn put_written(out: &mut [u8], at: usize, word: &[u8], answer: Written) -> usize
+pub fn put_written(out: &mut [u8], at: usize, word: &[u8], answer: Result<usize, Refusal>) -> usize
     ensures { Puts out.old at (report_text word.now (written_report answer)) out.new result }
 {
-    match answer {
-        Written::Length(n) => put_count(out, at, word, n as u64),
-        Written::Refused(why) => put_refusal(out, at, why),
-    }
+    put_counted(out, at, word, answer.map(|n| n as u64))
 }
 
 // `reversals N`.
-pub fn put_reversals(out: &mut [u8], at: usize, answer: Reversals) -> usize
+pub fn put_reversals(out: &mut [u8], at: usize, answer: Result<u64, Refusal>) -> usize
     ensures { Puts out.old at (report_text (ascii "reversals") (reversals_report answer)) out.new result }
 {
-    match answer {
-        Reversals::Count(n) => put_count(out, at, b"reversals", n),
-        Reversals::Refused(why) => put_refusal(out, at, why),
-    }
+    put_counted(out, at, b"reversals", answer)
 }
 
 // `number M E`.
-pub fn put_valued(out: &mut [u8], at: usize, answer: Valued) -> usize
+pub fn put_valued(out: &mut [u8], at: usize, answer: Result<Value, Refusal>) -> usize
     ensures { Puts out.old at (report_text (ascii "number") (valued_report answer)) out.new result }
 {
     match answer {
-        Valued::Value { mantissa, exponent } => {
+        Ok(value) => {
             let space = lines::put(out, at, b"number");
-            put_number(out, space, mantissa, exponent)
+            put_factor(out, space, value)
         }
-        Valued::Refused(why) => put_refusal(out, at, why),
+        Err(why) => put_refusal(out, at, why),
     }
 }
 
 // `number M E rest R X`.
-pub fn put_worked(out: &mut [u8], at: usize, answer: Worked) -> usize
+pub fn put_worked(out: &mut [u8], at: usize, answer: Result<Worked, Refusal>) -> usize
     ensures { Puts out.old at (worked_text (worked_report answer)) out.new result }
 {
     match answer {
-        Worked::Result {
-            mantissa,
-            exponent,
-            rest,
-            rest_exponent,
-        } => {
+        Ok(worked) => {
             let space = lines::put(out, at, b"number");
-            let behind = put_number(out, space, mantissa, exponent);
+            let behind = put_number(out, space, worked.mantissa, worked.exponent);
             let first = lines::put(out, behind, b" rest");
-            let second = put_signed_value(out, first, rest);
-            put_signed_value(out, second, rest_exponent)
+            let second = put_signed_value(out, first, worked.rest);
+            put_signed_value(out, second, worked.rest_exponent)
         }
-        Worked::Refused(why) => put_refusal(out, at, why),
+        Err(why) => put_refusal(out, at, why),
     }
 }
 

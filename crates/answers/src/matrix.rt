@@ -7,10 +7,10 @@ ghost use Rattle.answers.specs.Answers.{report_text};
 ghost use Rattle.answers.specs.Matrix.{row_text, factors_text, place_text};
 
 use crate::{put_count, put_number};
-use shelf::{Factor, Shelf};
+use shelf::{Shelf, Value};
 
 // A factor, behind a space.
-pub fn put_factor(out: &mut [u8], at: usize, factor: Factor) -> usize
+pub fn put_factor(out: &mut [u8], at: usize, factor: Value) -> usize
     ensures { Puts out.old at (report_text [] (factor_report factor)) out.new result }
 {
     put_number(out, at, factor.mantissa, factor.exponent)
@@ -22,9 +22,7 @@ fn put_row(out: &mut [u8], at: usize, shelf: Shelf, place: usize, n: usize, i: u
     ensures { Puts out.old at (row_text shelf place n i) out.new result }
 {
     let mut to = at;
-    let mut j: usize = 0;
-    while j < n {
-        j += 1;
+    for j in 1..=n {
         to = put_factor(out, to, shelf::factor_at(shelf, place, i, j));
     }
     to
@@ -36,9 +34,7 @@ fn put_factors(out: &mut [u8], at: usize, shelf: Shelf, place: usize, n: usize) 
     ensures { Puts out.old at (factors_text shelf place n) out.new result }
 {
     let mut to = at;
-    let mut i: usize = 0;
-    while i < n {
-        i += 1;
+    for i in 1..=n {
         to = put_row(out, to, shelf, place, n, i);
     }
     to

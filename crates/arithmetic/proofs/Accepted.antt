@@ -3,7 +3,7 @@
 use mathlib.Core.Path.{◌≡◌, refl, sym, ap, ap₂, ◌∙◌, subst}
 use mathlib.Core.Bool.{Bool, true, not, cond}
 use mathlib.Core.List.{List, [], ◌∷◌}
-use mathlib.Core.Option.{some}
+use Rattle.std.specs.Prelude.{Ok, Some}
 use Prim.Native.Nat.{ℕ, ◌<◌}
 use native.Mathlib.Nat.{one-mul}
 use native.Mathlib.Omega.{arith}
@@ -11,7 +11,7 @@ use borrow.Author.Tests.{not-false, not-true, eqb-false}
 use lib.IntN.{ℤ, pos, negsuc, ◌*ℤ◌}
 use lib.ListN.{length}
 use Rattle.fraction.specs.SignedFraction.{SignedFraction, signed}
-use Rattle.verdict.specs.declared.Verdict.TheVariants.{Accepted}
+use Rattle.verdict.specs.declared.Reason.TheVariants.{WrongList}
 use Rattle.verdict.specs.Verdict.{first_of}
 use Rattle.verdict.proofs.Verdicts.{when-accepted}
 use Rattle.number.proofs.Reach.{ranged-more}
@@ -53,15 +53,15 @@ pair (a ∷ []) h = absurd (omega arith)
 pair (a ∷ b ∷ []) h = refl
 pair (a ∷ b ∷ c ∷ L) h = absurd (omega arith)
 
-pub accepted-two : (z : List ℤ) → first_of (arithmetic_tests z) ≡ Accepted → TwoPositive z
+pub accepted-two : (z : List ℤ) → first_of (arithmetic_tests z) ≡ Ok tt → TwoPositive z
 accepted-two z h =
-    let a = when-accepted (not (proper 2 2 (list_of z))) 9 _ h in
-    let b = when-accepted (not (is_positive (first_item z))) 9 _ a.1 in
-    let c = when-accepted (not (is_positive (second_item z))) 9 _ b.1 in
+    let a = when-accepted (not (proper 2 2 (list_of z))) WrongList _ h in
+    let b = when-accepted (not (is_positive (first_item z))) WrongList _ a.1 in
+    let c = when-accepted (not (is_positive (second_item z))) WrongList _ b.1 in
     let e = proper-exactly 2 (list_of z) (not-false (proper 2 2 (list_of z)) a.0) in
     let p = not-false (is_positive (first_item z)) b.0 in
     let q = not-false (is_positive (second_item z)) c.0 in
-    let ranged : RangedList (some (items_of z)) = subst RangedList e.0 (list-ranged z) in
+    let ranged : RangedList (Some (items_of z)) = subst RangedList e.0 (list-ranged z) in
     record {
       row = ap list_numbers (pair (items_of z) e.1) ∙ subst (Written z) e.0 (list_written z);
       first = p;
@@ -90,7 +90,7 @@ module _ (z : List ℤ) (t : TwoPositive z) where
   second-value = ap (λ (y : List ℤ). item_value y 1) (sym t.row) ∙ item-value (second_item z) t.second
 
   -- THE LOG BALANCES, in the numbers that go in and come out
-  pub logged : (o : Operator) → Logged o z (result_of (worked_by o (first_item z).size (second_item z).size))
+  pub logged : (o : Operator) → Logged o z (Ok (result_of (worked_by o (first_item z).size (second_item z).size)))
   logged o =
       let r = worked_by o (first_item z).size (second_item z).size in
       let Log : (a b c : SignedFraction) → Type 0 = λ a b c. Balanced o a b c (rest_integer r.rest) (rest_exponent r.rest) in

@@ -9,28 +9,22 @@ ghost use Rattle.arithmetic.specs.Promise.{Logged};
 use number::signed::Signed;
 pub use rests::Operator;
 use rests::Rounded;
-use verdict::{Refusal, Verdict, test};
+use verdict::{Reason, Refusal, refuse_if};
 
+// A working number, and its rest: an odd whole number with a sign and an exponent, or 0 with exponent 0.
 #[derive(Clone, Copy)]
-pub enum Worked {
-    // A working number, and its rest: an odd whole number with a sign and an exponent, or 0 with exponent 0.
-    Result {
-        mantissa: u64,
-        exponent: i64,
-        rest: i64,
-        rest_exponent: i64,
-    },
-    Refused(Refusal),
+pub struct Worked {
+    pub mantissa: u64,
+    pub exponent: i64,
+    pub rest: i64,
+    pub rest_exponent: i64,
 }
 
 fn positive(a: Signed) -> bool
     ensures { result ≡ is_positive a }
 {
-    let size = a.size;
-    if size.m == 0 {
-        return false;
-    }
-    !a.negative
+    let vanishes = a.size.m == 0;
+    !vanishes && !a.negative
 }
 
 // A result with its rest, as numbers.
@@ -38,33 +32,24 @@ fn told(done: Rounded) -> Worked
     requires { Small done }
     ensures { result ≡ result_of done }
 {
-    let number = done.number;
-    let rest = done.rest;
-    let exponent = number.exponent();
-    let odd = rest.integer();
-    let place = rest.exponent();
-    Worked::Result {
-        mantissa: number.m,
-        exponent,
-        rest: odd,
-        rest_exponent: place,
+    Worked {
+        mantissa: done.number.m,
+        exponent: done.number.exponent(),
+        rest: done.rest.integer(),
+        rest_exponent: done.rest.exponent(),
     }
 }
 
 // Adds, multiplies or divides two positive items, lent as three numbers each: sign, mantissa, exponent.
-pub fn arithmetic(operator: Operator, items: &[i64]) -> Worked
+pub fn arithmetic(operator: Operator, items: &[i64]) -> Result<Worked, Refusal>
     ensures result_value { worked_report result ≡ arithmetic_call operator items.now }
     ensures logged { Logged operator items.now result }
 {
-    let list = items::read(items, 2, 2);
-    let two = list.items;
-    let a = two[0];
-    let b = two[1];
-    let mut v = test(Verdict::Accepted, !list.proper, 9);
-    v = test(v, !positive(a), 9);
-    v = test(v, !positive(b), 9);
-    match v {
-        Verdict::Accepted => told(rests::work(operator, a.size, b.size)),
-        Verdict::Refused(why) => Worked::Refused(why),
-    }
+    let Some(list) = items::read(items, 2, 2) else {
+        return Err(Reason::WrongList.into());
+    };
+    let [a, b, ..] = list.items;
+    refuse_if(!positive(a), Reason::WrongList)?;
+    refuse_if(!positive(b), Reason::WrongList)?;
+    Ok(told(rests::work(operator, a.size, b.size)))
 }

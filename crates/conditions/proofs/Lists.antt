@@ -7,9 +7,10 @@ use mathlib.Core.Bool.{Bool, true, false, not, ◌||◌}
 use mathlib.Core.List.{List, [], ◌∷◌, ◌++◌}
 use lib.ListN.{length, get_or}
 use borrow.Author.Tests.{eq-eqb}
-use Rattle.verdict.specs.declared.Verdict.{Verdict}
-use Rattle.verdict.specs.declared.Verdict.TheVariants.{Accepted}
-use Rattle.verdict.specs.Verdict.{first_behind, first_of, or_else, when}
+use Rattle.std.specs.Prelude.{Ok}
+use Rattle.verdict.specs.declared.Reason.{Reason}
+use Rattle.verdict.specs.declared.Reason.TheVariants.{NoSuchPlace, SourceEmpty, TargetFull, SizesDiffer}
+use Rattle.verdict.specs.Verdict.{Verdict, first_behind, first_of, or_else, when}
 use Rattle.verdict.proofs.Verdicts.{or-else-accepted, or-else-assoc, first-behind, first-append}
 use Rattle.conditions.specs.Conditions.{above, each_tested, any_of, empty, full, differ, alike_tests, sources_alone, sources_to}
 
@@ -26,7 +27,7 @@ module _ (f : ℕ → Bool) where
       assoc true = refl
       assoc false = refl
 
-  each-any : (k : ℕ) (v : Verdict) (L : List ℕ) → first_behind v (each_tested f k L) ≡ or_else v (when (any_of f L) k)
+  each-any : (k : Reason) (v : Verdict) (L : List ℕ) → first_behind v (each_tested f k L) ≡ or_else v (when (any_of f L) k)
   unfolding first_behind
   each-any k v [] = sym (or-else-accepted v)
   each-any k v (p ∷ L) = each-any k (or_else v (when (f p) k)) L ∙ sym (or-else-assoc v _ _) ∙ ap (or_else v) (either (f p))
@@ -38,42 +39,42 @@ module _ (f : ℕ → Bool) where
 -- THE TESTS OF SOURCES L, the first of which is p
 module _ (rows : ℕ → ℕ) (p : ℕ) where
   abbrev seen : List ℕ → Verdict
-  seen L = when (any_of above L) 1
+  seen L = when (any_of above L) NoSuchPlace
 
   abbrev missed : List ℕ → Verdict
-  missed L = when (any_of (empty rows) L) 11
+  missed L = when (any_of (empty rows) L) SourceEmpty
 
   abbrev unlike : List ℕ → Verdict
-  unlike L = when (any_of (differ rows p) L) 13
+  unlike L = when (any_of (differ rows p) L) SizesDiffer
 
   -- the first has its own size
   alike-any : (L : List ℕ) → 1 ≤ length L → get_or L 0 0 ≡ p → first_of (alike_tests rows L) ≡ unlike L
   alike-any [] h e = absurd (not-suc-le-zero h)
   alike-any (q ∷ L) h e =
-      ap (λ (x : ℕ). first_of (each_tested (differ rows x) 13 L)) e ∙ each-any (differ rows p) 13 Accepted L
-      ∙ ap (λ (b : Bool). when (b || any_of (differ rows p) L) 13) (sym (ap not (eq-eqb (rows p) (rows q) (ap rows (sym e)))))
+      ap (λ (x : ℕ). first_of (each_tested (differ rows x) SizesDiffer L)) e ∙ each-any (differ rows p) SizesDiffer (Ok tt) L
+      ∙ ap (λ (b : Bool). when (b || any_of (differ rows p) L) SizesDiffer) (sym (ap not (eq-eqb (rows p) (rows q) (ap rows (sym e)))))
 
   pub alone-any : (L : List ℕ) → 1 ≤ length L → get_or L 0 0 ≡ p → or_else (or_else (seen L) (missed L)) (unlike L) ≡ first_of (sources_alone rows L)
   alone-any L h e =
       sym (or-else-assoc (seen L) (missed L) (unlike L))
-      ∙ sym (first-append (each_tested above 1 L) _
-      ∙ ap₂ or_else (each-any above 1 Accepted L)
-      (first-append (each_tested (empty rows) 11 L) _ ∙ ap₂ or_else (each-any (empty rows) 11 Accepted L) (alike-any L h e)))
+      ∙ sym (first-append (each_tested above NoSuchPlace L) _
+      ∙ ap₂ or_else (each-any above NoSuchPlace (Ok tt) L)
+      (first-append (each_tested (empty rows) SourceEmpty L) _ ∙ ap₂ or_else (each-any (empty rows) SourceEmpty (Ok tt) L) (alike-any L h e)))
 
   pub to-any : (L : List ℕ) (t : ℕ) → 1 ≤ length L → get_or L 0 0 ≡ p
-      → or_else (or_else (or_else (or_else (seen L) (when (above t) 1)) (missed L)) (when (full rows t) 12)) (unlike L) ≡ first_of (sources_to rows L t)
+      → or_else (or_else (or_else (or_else (seen L) (when (above t) NoSuchPlace)) (missed L)) (when (full rows t) TargetFull)) (unlike L) ≡ first_of (sources_to rows L t)
   unfolding first_behind
   to-any L t h e =
       let a = seen L in
-      let v = when (above t) 1 in
+      let v = when (above t) NoSuchPlace in
       let b = missed L in
-      let w = when (full rows t) 12 in
-      let E = each_tested (empty rows) 11 L in
+      let w = when (full rows t) TargetFull in
+      let E = each_tested (empty rows) SourceEmpty L in
       sym (or-else-assoc (or_else (or_else a v) b) w (unlike L))
       ∙ sym (or-else-assoc (or_else a v) b (or_else w (unlike L)))
       ∙ sym (or-else-assoc a v (or_else b (or_else w (unlike L))))
-      ∙ sym (first-append (each_tested above 1 L) (v ∷ (E ++ (w ∷ alike_tests rows L)))
-      ∙ ap₂ or_else (each-any above 1 Accepted L)
+      ∙ sym (first-append (each_tested above NoSuchPlace L) (v ∷ (E ++ (w ∷ alike_tests rows L)))
+      ∙ ap₂ or_else (each-any above NoSuchPlace (Ok tt) L)
       (first-behind v (E ++ (w ∷ alike_tests rows L))
       ∙ ap (or_else v) (first-append E (w ∷ alike_tests rows L)
-      ∙ ap₂ or_else (each-any (empty rows) 11 Accepted L) (first-behind w (alike_tests rows L) ∙ ap (or_else w) (alike-any L h e)))))
+      ∙ ap₂ or_else (each-any (empty rows) SourceEmpty (Ok tt) L) (first-behind w (alike_tests rows L) ∙ ap (or_else w) (alike-any L h e)))))

@@ -1,8 +1,9 @@
 -- THE CONDITIONS ON PLACES that turn a call down, with their numbers, and the order of their tests (document 01, "Turned down for the state"; document 02,
 -- (f), (l)). Of a shelf they ask only for the rows at each place, 0 where it is empty.
 use Rattle.std.specs.Prelude.{ℕ, Bool, false, not, ◌||◌, List, [], ◌∷◌, ◌++◌, ltb, leb, eqb}
-use Rattle.verdict.specs.declared.Verdict.{Verdict}
-use Rattle.verdict.specs.Verdict.{when}
+use Rattle.verdict.specs.declared.Reason.{Reason}
+use Rattle.verdict.specs.declared.Reason.TheVariants.{NoSuchPlace, WrongChoice, SourceEmpty, TargetFull, SizesDiffer, WrongStepCount}
+use Rattle.verdict.specs.Verdict.{Verdict, when}
 
 -- 18: the count of steps is not 2 to 6
 abbrev pub miscounted : ℕ → Bool
@@ -17,7 +18,7 @@ abbrev pub above : ℕ → Bool
 above p = ltb 7 p
 
 -- the same test of each of some places, in their order
-abbrev pub each_tested : (ℕ → Bool) → ℕ → List ℕ → List Verdict
+abbrev pub each_tested : (ℕ → Bool) → Reason → List ℕ → List Verdict
 each_tested f k [] = []
 each_tested f k (p ∷ L) = when (f p) k ∷ each_tested f k L
 
@@ -42,30 +43,30 @@ module _ (rows : ℕ → ℕ) where
   -- 13 of some sources: each that follows the first is compared with it
   abbrev pub alike_tests : List ℕ → List Verdict
   alike_tests [] = []
-  alike_tests (p ∷ L) = each_tested (differ p) 13 L
+  alike_tests (p ∷ L) = each_tested (differ p) SizesDiffer L
 
   -- A TARGET alone
   abbrev pub target_alone : ℕ → List Verdict
-  target_alone t = when (above t) 1 ∷ when (full t) 12 ∷ []
+  target_alone t = when (above t) NoSuchPlace ∷ when (full t) TargetFull ∷ []
 
   -- SOURCES alone, in the order given, a place once for each time it is used
   abbrev pub sources_alone : List ℕ → List Verdict
-  sources_alone L = each_tested above 1 L ++ (each_tested empty 11 L ++ alike_tests L)
+  sources_alone L = each_tested above NoSuchPlace L ++ (each_tested empty SourceEmpty L ++ alike_tests L)
 
   -- SOURCES AND A TARGET: 1 of the sources, then of the target, and 12 behind 11
   abbrev pub sources_to : List ℕ → ℕ → List Verdict
-  sources_to L t = each_tested above 1 L ++ (when (above t) 1 ∷ (each_tested empty 11 L ++ (when (full t) 12 ∷ alike_tests L)))
+  sources_to L t = each_tested above NoSuchPlace L ++ (when (above t) NoSuchPlace ∷ (each_tested empty SourceEmpty L ++ (when (full t) TargetFull ∷ alike_tests L)))
 
   -- A CHOICE among the rows of one source, wrong or not, and a target; and without one: 8 behind the places
   abbrev pub choice_to : ℕ → Bool → ℕ → List Verdict
-  choice_to p wrong t = sources_to (p ∷ []) t ++ (when wrong 8 ∷ [])
+  choice_to p wrong t = sources_to (p ∷ []) t ++ (when wrong WrongChoice ∷ [])
 
   abbrev pub choice_alone : ℕ → Bool → List Verdict
-  choice_alone p wrong = sources_alone (p ∷ []) ++ (when wrong 8 ∷ [])
+  choice_alone p wrong = sources_alone (p ∷ []) ++ (when wrong WrongChoice ∷ [])
 
   -- A RECIPE of m steps, and without its target: the count is tested first of all
   abbrev pub recipe_to : ℕ → List ℕ → ℕ → List Verdict
-  recipe_to m L t = when (miscounted m) 18 ∷ sources_to L t
+  recipe_to m L t = when (miscounted m) WrongStepCount ∷ sources_to L t
 
   abbrev pub recipe_alone : ℕ → List ℕ → List Verdict
-  recipe_alone m L = when (miscounted m) 18 ∷ sources_alone L
+  recipe_alone m L = when (miscounted m) WrongStepCount ∷ sources_alone L

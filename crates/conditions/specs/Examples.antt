@@ -2,17 +2,16 @@
 -- asked, a target, the number that turns the call down, 0 for none, and the number without a target: of recipes (order_table), the count of the steps and their
 -- places; of clamped rows (clamp_table), a source and how many rows.
 use Rattle.std.specs.Prelude.{ℕ, List, [], ◌∷◌, get_or}
-use Rattle.verdict.specs.declared.Verdict.{Verdict}
-use Rattle.verdict.specs.declared.Verdict.TheVariants.{Accepted, Refused}
-use Rattle.verdict.specs.Verdict.{first_of}
+use Rattle.std.specs.Prelude.{Ok, Err}
+use Rattle.verdict.specs.Verdict.{Verdict, number_of, first_of}
 use Rattle.conditions.specs.Conditions.{misclamped, choice_to, choice_alone, recipe_to, recipe_alone}
 
 abbrev pub sizes : ℕ → ℕ
 sizes p = get_or (2 ∷ 2 ∷ 3 ∷ 0 ∷ 1 ∷ []) p 0
 
-abbrev pub number_of : Verdict → ℕ
-number_of Accepted = 0
-number_of (Refused w) = w.number
+abbrev pub number_told : Verdict → ℕ
+number_told (Ok u) = 0
+number_told (Err w) = number_of w.reason
 
 pub data Row : Type 0 where
   row : (count : ℕ) (places : List ℕ) (target number alone : ℕ) → Row
@@ -40,7 +39,7 @@ order_table =
 
 -- what the definitions say of a row
 abbrev pub judged : Row → Row
-judged (row m L t a b) = row m L t (number_of (first_of (recipe_to sizes m L t))) (number_of (first_of (recipe_alone sizes m L)))
+judged (row m L t a b) = row m L t (number_told (first_of (recipe_to sizes m L t))) (number_told (first_of (recipe_alone sizes m L)))
 
 pub data Clamp : Type 0 where
   clamp : (source k target number alone : ℕ) → Clamp
@@ -66,4 +65,4 @@ clamp_table =
 abbrev pub clamp_judged : Clamp → Clamp
 clamp_judged (clamp p k t a b) =
     let wrong = misclamped (sizes p) k in
-    clamp p k t (number_of (first_of (choice_to sizes p wrong t))) (number_of (first_of (choice_alone sizes p wrong)))
+    clamp p k t (number_told (first_of (choice_to sizes p wrong t))) (number_told (first_of (choice_alone sizes p wrong)))

@@ -59,6 +59,14 @@ module _ (o : ℕ) (w : Direction) (a b : Number) where
 
 -- ---- what is answered
 module _ (o w : ℕ) (a b : Number) where
+  pub no-operation : 3 ≤ o → directed_of o w a b ≡ nothing
+  unfolding directed_of
+  no-operation h = go (ltb w 3 && (is_workable a && is_workable b))
+    where
+      go : (t : Bool) → cond t (worked_of o (direction_of w) a b) nothing ≡ nothing
+      go true = unknown o (direction_of w) a b h
+      go false = refl
+
   pub no-direction : 3 ≤ w → directed_of o w a b ≡ nothing
   unfolding directed_of
   no-direction h = simp (le-ltb w 3 h)

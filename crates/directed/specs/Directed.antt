@@ -4,6 +4,8 @@ use Rattle.number.specs.Number.{bias, reach, sum_by, product_by, quotient_by}
 use Rattle.number.specs.declared.Direction.{Direction}
 use Rattle.number.specs.declared.Direction.TheVariants.{Nearest, Down, Up}
 use Rattle.number.specs.declared.Number.{Number}
+use Rattle.directed.specs.declared.Operation.{Operation}
+use Rattle.directed.specs.declared.Operation.TheVariants.{Add, Multiply, Divide}
 
 -- no number: an exponent that no operation gives
 abbrev pub nothing : Number
@@ -19,6 +21,12 @@ abbrev pub direction_of : ℕ → Direction
 direction_of zero = Nearest
 direction_of (suc zero) = Down
 direction_of (suc (suc n)) = Up
+
+-- the number of an operation
+abbrev pub number_of : Operation → ℕ
+number_of Add = 0
+number_of Multiply = 1
+number_of Divide = 2
 
 -- 0 adds, 1 multiplies, 2 divides, by what is not zero
 unfoldable pub worked_of : ℕ → Direction → Number → Number → Number

@@ -2,21 +2,22 @@
 // caller hands over, so operands are tested, and what cannot be worked is answered with a number that no operation gives.
 #![tactic(auto)]
 
-ghost use Rattle.std.specs.Prelude.{◌≡◌, true};
-ghost use Rattle.directed.specs.Directed.{nothing, is_workable, direction_of, worked_of, directed_of};
+ghost use Rattle.std.specs.Prelude.{◌≡◌, ◌≤◌, ◌<◌, true, MatchOption, unwrap_or};
+ghost use Rattle.directed.specs.Directed.{nothing, is_workable, direction_of, number_of, worked_of, directed_of};
 
 use number::{BIAS, Direction, Number};
 
-// The least exponent that the operations take.
-const START: u64 = 2097216;
+// The operations take exponents from -REACH to REACH.
+const REACH: u64 = 2097088;
 
-// The largest.
-const STOP: u64 = 6291392;
+// No number: an exponent that no operation gives.
+const NOTHING: Number = Number { m: 0, x: 0 };
 
-fn nothing() -> Number
-    ensures { result ≡ nothing }
-{
-    Number { m: 0, x: 0 }
+#[derive(Clone, Copy)]
+enum Operation {
+    Add,
+    Multiply,
+    Divide,
 }
 
 // Zero, or a mantissa of 32 bits at an exponent that the operations take.
@@ -26,63 +27,61 @@ fn is_workable(a: Number) -> bool
     if a.m == 0 {
         return a.x == BIAS;
     }
-    if a.m < 0x8000_0000 {
-        return false;
-    }
-    if a.m >= 0x1_0000_0000 {
-        return false;
-    }
-    if a.x < START {
-        return false;
-    }
-    a.x <= STOP
+    0x8000_0000 <= a.m && a.m < 0x1_0000_0000 && BIAS - REACH <= a.x && a.x <= BIAS + REACH
 }
 
-// 0 is nearest, 1 is down, any other is up.
-fn direction_of(direction: u8) -> Direction
-    ensures { result ≡ direction_of direction }
+// 0 is nearest, 1 is down, 2 is up.
+fn direction_of(number: u8) -> Option<Direction>
+    ensures { MatchOption result (3 ≤ number) (λ w. (number < 3) × (w ≡ direction_of number)) }
 {
-    if direction == 0 {
-        return Direction::Nearest;
+    match number {
+        0 => Some(Direction::Nearest),
+        1 => Some(Direction::Down),
+        2 => Some(Direction::Up),
+        _ => None,
     }
-    if direction == 1 {
-        return Direction::Down;
-    }
-    Direction::Up
 }
 
 // 0 adds, 1 multiplies, 2 divides.
-fn worked(operation: u8, direction: Direction, a: Number, b: Number) -> Number
-    requires { (is_workable a ≡ true) × (is_workable b ≡ true) }
-    ensures { result ≡ worked_of operation direction a b }
+fn operation_of(number: u8) -> Option<Operation>
+    ensures { MatchOption result (3 ≤ number) (λ o. number_of o ≡ number) }
 {
-    if operation == 0 {
-        return a.add(b, direction);
+    match number {
+        0 => Some(Operation::Add),
+        1 => Some(Operation::Multiply),
+        2 => Some(Operation::Divide),
+        _ => None,
     }
-    if operation == 1 {
-        return a.mul(b, direction);
-    }
-    if operation != 2 {
-        return nothing();
-    }
-    if b.m == 0 {
-        return nothing();
-    }
-    a.div(b, direction)
 }
 
+// Nothing is divided by zero.
+fn worked(operation: Operation, direction: Direction, a: Number, b: Number) -> Option<Number>
+    requires { (is_workable a ≡ true) × (is_workable b ≡ true) }
+    ensures { unwrap_or result nothing ≡ worked_of (number_of operation) direction a b }
+{
+    match operation {
+        Operation::Add => Some(a.add(b, direction)),
+        Operation::Multiply => Some(a.mul(b, direction)),
+        Operation::Divide if b.m == 0 => None,
+        Operation::Divide => Some(a.div(b, direction)),
+    }
+}
+
+fn answer(operation: u8, direction: u8, a: Number, b: Number) -> Option<Number>
+    ensures { unwrap_or result nothing ≡ directed_of operation direction a b }
+{
+    let operation = operation_of(operation)?;
+    let direction = direction_of(direction)?;
+    if !is_workable(a) || !is_workable(b) {
+        return None;
+    }
+    worked(operation, direction, a, b)
+}
+
+// Numbers for the operation and the direction, and a number where there is no answer: the interface to C.
 #[unsafe(no_mangle)]
 pub extern "C" fn directed_work(operation: u8, direction: u8, a: Number, b: Number) -> Number
     ensures { result ≡ directed_of operation direction a b }
 {
-    if direction >= 3 {
-        return nothing();
-    }
-    if !is_workable(a) {
-        return nothing();
-    }
-    if !is_workable(b) {
-        return nothing();
-    }
-    worked(operation, direction_of(direction), a, b)
+    answer(operation, direction, a, b).unwrap_or(NOTHING)
 }

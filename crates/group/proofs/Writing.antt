@@ -3,7 +3,7 @@ use Prim.Native.Nat.{ℕ, suc, ◌+◌, ◌-◌, ◌/◌, ◌%◌, ◌^◌, ◌<
 use native.Mathlib.Numerals.{add-one}
 use native.Mathlib.Decide.{dec_lt}
 use native.Mathlib.Omega.{arith}
-use mathlib.Core.Path.{◌≡◌, refl, ◌∙◌}
+use mathlib.Core.Path.{◌≡◌, ◌∙◌}
 use mathlib.Core.List.{List}
 use lib.ListN.{length, set, length-set}
 use lib.Seq.{sets}
@@ -15,9 +15,6 @@ pub record Counted (v rest i : ℕ) : Type 0 where
   pub few : i < 10
   pub small : rest < 128 ^ (10 - i)
   pub count : length (bytes_of v) ≡ i + length (bytes_in (10 - i) rest)
-
-pub counted_none : (v : ℕ) → v < 2 ^ 64 → Counted v v 0
-counted_none v h = record { few = omega arith; small = omega arith; count = omega arith }
 
 module _ {v rest i : ℕ} (w : Counted v rest i) where
   left : 10 - i ≡ suc (10 - (i + 1))
@@ -49,9 +46,6 @@ pub record Written (out₀ : List ℕ) (v : ℕ) (out : List ℕ) (rest i : ℕ)
   pub counted : Counted v rest i
   pub kept : length out ≡ length out₀
   pub same : sets out₀ 0 (bytes_of v) ≡ sets out i (bytes_in (10 - i) rest)
-
-pub written_none : (out : List ℕ) (v : ℕ) → v < 2 ^ 64 → Written out v out v 0
-written_none out v h = record { counted = counted_none v h; kept = refl; same = refl }
 
 module _ {out₀ : List ℕ} {v : ℕ} {out : List ℕ} {rest i : ℕ} (w : Written out₀ v out rest i) (room : length (bytes_of v) ≤ length out₀) where
   module _ (h : rest < 128) where

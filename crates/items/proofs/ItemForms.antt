@@ -1,8 +1,9 @@
--- Laws of list items: what three numbers are by the code's tests (`Storable`, `item-zero`, `item-value`, `item-malformed`), that it is in range
+-- Laws of list items: what three numbers are by the code's tests (`Storable`, `item-zero`, `item-value`, `malformed`), that it is in range
 -- (`item-ranged`) and has these numbers (`item-numbers`), and three numbers written (`put_is`).
 use mathlib.Core.Path.{◌≡◌, refl, sym, ap, ◌∙◌}
 use mathlib.Core.Bool.{Bool, true, false, not, cond, ◌&&◌}
 use mathlib.Core.List.{List, [], ◌∷◌}
+use Rattle.std.specs.Prelude.{Some, None}
 use Prim.Native.Nat.{ℕ, suc, ◌+◌, ◌^◌, ◌≤◌, ◌<◌}
 use native.Mathlib.Omega.{arith}
 use borrow.Author.Tests.{eq-eqb, ne_eqb, le-leb, lt-ltb, eqb-true, leb-true, ltb-true, not-true}
@@ -10,14 +11,13 @@ use lib.Dec.{eqb, leb, ltb}
 use lib.IntN.{ℤ, pos, negsuc, nat_abs}
 use lib.ListN.{set}
 use lib.Seq.{sets}
-use lib.Signed.{pos-nat_abs}
+use lib.Signed.{pos-nat_abs, ◌≤ℤ◌, ◌<ℤ◌}
+use Rattle.std.proofs.lemmas.Int.{ints}
 use Rattle.number.specs.Signed.{zero_signed, SignedRanged}
 use Rattle.number.proofs.Tests.{both, unless}
 use Rattle.number.proofs.SignedReach.{signed-ranged-zero}
 use Rattle.number.specs.Integer.{is_negative, biased}
-use Rattle.items.specs.Items.{storable, signed_item, item_numbers}
-use Rattle.items.specs.declared.ListItem.{ListItem}
-use Rattle.items.specs.declared.ListItem.TheVariants.{Value, Malformed}
+use Rattle.items.specs.Items.{ListItem, storable, signed_item, item_numbers}
 use Rattle.number.proofs.Integers.{not_negative, biased-near, exponent-biased}
 
 -- three numbers
@@ -61,16 +61,16 @@ module _ (s m e : ℤ) where
   all_zero : Bool
   all_zero = eqb (nat_abs s) 0 && (eqb (nat_abs m) 0 && eqb (nat_abs e) 0)
 
-  pub item-zero : nat_abs s ≡ 0 → nat_abs m ≡ 0 → nat_abs e ≡ 0 → signed_item s m e ≡ Value zero_signed
+  pub item-zero : nat_abs s ≡ 0 → nat_abs m ≡ 0 → nat_abs e ≡ 0 → signed_item s m e ≡ Some zero_signed
   unfolding signed_item
   item-zero p q r = simp (eq-eqb (nat_abs s) 0 p, eq-eqb (nat_abs m) 0 q, eq-eqb (nat_abs e) 0 r)
 
   pub item-value : Storable → (t : Bool) (a x : ℕ) → t ≡ is_negative s → a ≡ nat_abs m → x ≡ biased e →
-      signed_item s m e ≡ Value (record { negative = t; size = record { m = a; x = x } })
+      signed_item s m e ≡ Some (record { negative = t; size = record { m = a; x = x } })
   unfolding signed_item
   item-value h t a x p q r = rw (p, q, r) (simp (ne_eqb (nat_abs s) 0 (λ z. omega (arith, h.sign)), storable-true h))
 
-  pub item-malformed : (nat_abs s ≡ 0 → nat_abs m ≡ 0 → nat_abs e ≡ 0 → ⊥) → (Storable → ⊥) → signed_item s m e ≡ Malformed
+  item-malformed : (nat_abs s ≡ 0 → nat_abs m ≡ 0 → nat_abs e ≡ 0 → ⊥) → (Storable → ⊥) → signed_item s m e ≡ None
   unfolding signed_item all_zero
   item-malformed p q = simp (
     unless all_zero (λ h.
@@ -80,17 +80,33 @@ module _ (s m e : ℤ) where
     unless (storable s m e) (λ h. q (storable-facts h)),
   )
 
+  -- the same by the order of whole numbers, as the code compares them
+  pub malformed : (nat_abs s ≡ 0 → nat_abs m ≡ 0 → nat_abs e ≡ 0 → ⊥)
+      → (nat_abs s ≡ 1 → pos (2 ^ 31) ≤ℤ m → m <ℤ pos (2 ^ 32) → nat_abs e ≤ 1000 → ⊥) → None ≡ signed_item s m e
+  malformed p q = sym (item-malformed p (λ h.
+      let f : pos (nat_abs m) ≡ m = pos-nat_abs m (not_negative m h.plain) in
+      q h.sign (omega (arith, ints, h.low)) (omega (arith, ints, h.high)) h.near))
+
+  pub item-stored : nat_abs s ≡ 1 → pos (2 ^ 31) ≤ℤ m → m <ℤ pos (2 ^ 32) → nat_abs e ≤ 1000 →
+      signed_item s m e ≡ Some (record { negative = is_negative s; size = record { m = nat_abs m; x = biased e } })
+  item-stored p l h n =
+      item-value (record { sign = p; plain = plain m l; low = omega (arith, ints); high = omega (arith, ints); near = n }) _ _ _ refl refl refl
+    where
+      plain : (m : ℤ) → pos (2 ^ 31) ≤ℤ m → is_negative m ≡ false
+      plain (pos k) l = refl
+      plain (negsuc k) l = absurd (omega (arith, ints))
+
 -- a well-formed item is in range
 abbrev pub RangedItem : ListItem → Type 0
-RangedItem (Value a) = SignedRanged 1000 a
-RangedItem Malformed = Unit {0}
+RangedItem (Some a) = SignedRanged 1000 a
+RangedItem None = Unit {0}
 
 pub item-ranged : (s m e : ℤ) → RangedItem (signed_item s m e)
 unfolding signed_item
 item-ranged s m e = go (eqb (nat_abs s) 0 && (eqb (nat_abs m) 0 && eqb (nat_abs e) 0)) (storable s m e) refl
   where
     go : (t y : Bool) → storable s m e ≡ y →
-        RangedItem (cond t (Value zero_signed) (cond y (Value (record { negative = is_negative s; size = record { m = nat_abs m; x = biased e } })) Malformed))
+        RangedItem (cond t (Some zero_signed) (cond y (Some (record { negative = is_negative s; size = record { m = nat_abs m; x = biased e } })) None))
     go true y h = signed-ranged-zero 1000
     go false true h =
         let f = storable-facts s m e h in
@@ -111,15 +127,15 @@ unit-integer (pos n) h = ap pos (sym h)
 unit-integer (negsuc n) h = let e : 0 ≡ n = omega arith in ap negsuc e
 
 abbrev pub NumbersOf : (s m e : ℤ) → ListItem → Type 0
-NumbersOf s m e (Value a) = item_numbers a ≡ s ∷ m ∷ e ∷ []
-NumbersOf s m e Malformed = Unit {0}
+NumbersOf s m e (Some a) = item_numbers a ≡ s ∷ m ∷ e ∷ []
+NumbersOf s m e None = Unit {0}
 
 pub item-numbers : (s m e : ℤ) → NumbersOf s m e (signed_item s m e)
 unfolding signed_item
 item-numbers s m e = go (eqb (nat_abs s) 0 && (eqb (nat_abs m) 0 && eqb (nat_abs e) 0)) (storable s m e) refl refl
   where
     go : (t y : Bool) → (eqb (nat_abs s) 0 && (eqb (nat_abs m) 0 && eqb (nat_abs e) 0)) ≡ t → storable s m e ≡ y → NumbersOf s m e
-        (cond t (Value zero_signed) (cond y (Value (record { negative = is_negative s; size = record { m = nat_abs m; x = biased e } })) Malformed))
+        (cond t (Some zero_signed) (cond y (Some (record { negative = is_negative s; size = record { m = nat_abs m; x = biased e } })) None))
     go true y g h =
         let a = both (eqb (nat_abs s) 0) _ g in
         let b = both (eqb (nat_abs m) 0) _ a.1 in

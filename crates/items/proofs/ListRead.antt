@@ -1,10 +1,10 @@
--- A list as a reader hands it on (`Read`, `read_is`): judged, so many items at the start of eight, all of them in range (`read-ranged`), and where it is
--- proper those of the row that was read.
+-- A list as a reader hands it on (`Read`, `read_is`): so many items at the start of eight, all of them in range (`read-ranged`), those of the row that was
+-- read; and where it hands none on, the row is no proper list (`not-read`).
 use mathlib.Core.Path.{◌≡◌, refl, sym, ap, ◌∙◌, subst}
 use mathlib.Core.Bool.{Bool, true, false, cond, false≢true}
 use mathlib.Core.List.{List, [], ◌∷◌}
-use mathlib.Core.Option
-use mathlib.Core.Option.{Option, none, some}
+use Rattle.std.specs.Prelude.{Option, Some, None, unwrap_or}
+use Rattle.std.proofs.lemmas.Option.{none-some, same_Some}
 use Prim.Native.Nat.{ℕ, zero, suc, ◌+◌, ◌-◌, ◌≤◌}
 use native.Mathlib.Omega.{arith}
 use borrow.Author.Tests.{leb-true}
@@ -21,15 +21,15 @@ use Rattle.items.specs.Items.{blank_items, list_of, proper, listed_within, liste
 use Rattle.items.specs.declared.ItemList.{ItemList}
 use Rattle.items.proofs.Reading.{RangedList, list-ranged}
 
--- whether it is proper; and then so many items, at the start of eight
+-- a proper list, so many items of it at the start of eight
 pub record Read (least most : ℕ) (o : Option (List Signed)) (r : ItemList) : Type 0 where
-  pub judged : r.proper ≡ proper least most o
+  pub judged : proper least most o ≡ true
   pub few : r.count ≤ 8
   pub eight : length r.items ≡ 8
   pub ranged : (i : ℕ) → SignedRanged 1000 (get_or r.items i zero_signed)
-  pub low : r.proper ≡ true → least ≤ r.count
-  pub high : r.proper ≡ true → r.count ≤ most
-  pub front : r.proper ≡ true → take r.count r.items ≡ Option.get_or o []
+  pub low : least ≤ r.count
+  pub high : r.count ≤ most
+  pub front : take r.count r.items ≡ unwrap_or o []
 
 -- all items are in range
 abbrev Ranged : List Signed → Type 0
@@ -42,7 +42,7 @@ ranged-set (x ∷ v) zero a u h (suc i) = h (suc i)
 ranged-set (x ∷ v) (suc k) a u h zero = h zero
 ranged-set (x ∷ v) (suc k) a u h (suc i) = ranged-set v k a u (λ j. h (suc j)) i
 
-ranged-sets : (L v : List Signed) (k : ℕ) → RangedList (some L) → Ranged v → Ranged (sets v k L)
+ranged-sets : (L v : List Signed) (k : ℕ) → RangedList (Some L) → Ranged v → Ranged (sets v k L)
 ranged-sets [] v k u h = h
 ranged-sets (a ∷ L) v k u h = ranged-sets L (set v k a) (suc k) (λ j p. u (suc j) (omega arith)) (ranged-set v k a (u 0 (omega arith)) h)
 
@@ -54,35 +54,38 @@ ranged-blank = go 8
     go (suc n) zero = signed-ranged-zero 1000
     go (suc n) (suc i) = go n i
 
-pub read_is : (least most : ℕ) (z : List ℤ) (r : ItemList) → most ≤ 8 → r ≡ listed_within least most (list_of z) → Read least most (list_of z) r
-unfolding listed_within
-read_is least most z r m e = subst (Read least most (list_of z)) (sym e) (go (list_of z) (list-ranged z) (proper least most (list_of z)) refl)
-  where
-    go : (o : Option (List Signed)) → RangedList o → (t : Bool) → proper least most o ≡ t → Read least most o (listed_from blank_items 0 (cond t o none))
-    go o u false g =
-        record {
-          judged = sym g;
-          few = omega arith;
-          eight = refl;
-          ranged = ranged-blank;
-          low = λ h. absurd (false≢true h);
-          high = λ h. absurd (false≢true h);
-          front = λ h. absurd (false≢true h);
-        }
-    go none u true g = absurd (false≢true g)
-    go (some L) u true g =
-        let p = both (leb least (length L)) (leb (length L) most) g in
-        let hi : length L ≤ most = leb-true (length L) most p.1 in
-        let e : 0 + length L ≡ length L = omega arith in
-        record {
-          judged = sym g;
-          few = omega arith;
-          eight = length-sets blank_items 0 L;
-          ranged = ranged-sets L blank_items 0 u ranged-blank;
-          low = λ h. omega (arith, leb-true least (length L) p.0);
-          high = λ h. omega arith;
-          front = λ h. ap (λ (k : ℕ). take k (sets blank_items 0 L)) e ∙ take-sets-front (length L) blank_items L refl (omega arith);
-        }
+module _ (least most : ℕ) (z : List ℤ) where
+  pub read_is : (r : ItemList) → most ≤ 8 → Some r ≡ listed_within least most (list_of z) → Read least most (list_of z) r
+  unfolding listed_within
+  read_is r m e = go (list_of z) (list-ranged z) (proper least most (list_of z)) refl e
+    where
+      go : (o : Option (List Signed)) → RangedList o → (t : Bool) → proper least most o ≡ t → Some r ≡ listed_from blank_items 0 (cond t o None)
+          → Read least most o r
+      go o u false g h = absurd (none-some r (sym h))
+      go None u true g h = absurd (false≢true g)
+      go (Some L) u true g h =
+          let p = both (leb least (length L)) (leb (length L) most) g in
+          let hi : length L ≤ most = leb-true (length L) most p.1 in
+          let n : 0 + length L ≡ length L = omega arith in
+          subst (Read least most (Some L)) (sym (same_Some _ _ h))
+          (record {
+            judged = g;
+            few = omega arith;
+            eight = length-sets blank_items 0 L;
+            ranged = ranged-sets L blank_items 0 u ranged-blank;
+            low = omega (arith, leb-true least (length L) p.0);
+            high = omega arith;
+            front = ap (λ (k : ℕ). take k (sets blank_items 0 L)) n ∙ take-sets-front (length L) blank_items L refl (omega arith);
+          })
+
+  pub not-read : None ≡ listed_within least most (list_of z) → proper least most (list_of z) ≡ false
+  unfolding listed_within
+  not-read e = go (list_of z) (proper least most (list_of z)) refl e
+    where
+      go : (o : Option (List Signed)) → (t : Bool) → proper least most o ≡ t → None ≡ listed_from blank_items 0 (cond t o None) → proper least most o ≡ false
+      go o false g h = g
+      go None true g h = refl
+      go (Some L) true g h = absurd (none-some _ h)
 
 pub read-ranged : {least most : ℕ} {o : Option (List Signed)} {r : ItemList} (n : ℕ) → Read least most o r → ItemsRanged 1000 n r.items
 read-ranged n w = record { eight = w.eight; ranged = λ i p. w.ranged (i - 1) }

@@ -5,40 +5,33 @@ use native.Mathlib.Nat.{pow-succ', pow-le-pow_right}
 use native.Mathlib.Decide.{dec_le}
 use native.Mathlib.Omega.{arith}
 use mathlib.Core.Path.{◌≡◌, refl, sym, ◌∙◌}
-use mathlib.Core.Bool.{Bool, true, false, not, ◌&&◌, and-false}
+use mathlib.Core.Bool.{true, false, and-false}
 use mathlib.Core.List.{List, [], ◌∷◌}
-use lib.Dec.{ltb}
 use lib.ListN.{length, get_or, drop, drop_of_length-le}
 use lib.Seq.{drop-cons}
-use borrow.Author.Tests.{lt-ltb, le-ltb, ltb-true, ltb-false, le-leb, lt-leb, eq-eqb, ne_eqb}
+use borrow.Author.Tests.{lt-ltb, le-ltb, le-leb, lt-leb}
+use Rattle.std.specs.Char.{is_ascii_digit}
+use Rattle.std.proofs.lemmas.Bool.Decides.{nat_tests}
 use Rattle.io.specs.Digits.{hex_digit_ascii, last_digits, IsDigitCount}
-use Rattle.lines.specs.declared.reading.ReadWhole.{ReadWhole}
-use Rattle.lines.specs.declared.reading.ReadWhole.TheVariants.{Value, Malformed}
-use Rattle.lines.specs.declared.reading.ReadSigned.TheVariants as ReadSigned
-use Rattle.lines.specs.Decimal.{is_numeral, all_numerals, value_from, whole_from, spelled_whole, plus, minus, spelled_signed, WholeUpTo, SignedFits}
+use Rattle.std.specs.Prelude.{Some, None}
+use Rattle.lines.specs.Decimal.{is_numeral, all_numerals, value_from, whole_from, spelled_whole}
 use Rattle.lines.specs.Text.{decimal_in, decimal}
-
-both : (s t : Bool) → not s && t ≡ true → (s ≡ false) × (t ≡ true)
-both false t e = (refl, e)
-both true t e = (sym e, cc)
-
--- a byte from `low` to before `high`, as the tests of numerals and letters have it
-pub between : (b low high : ℕ) → not (ltb b low) && ltb b high ≡ true → (low ≤ b) × (b < high)
-between b low high e =
-    let p = both (ltb b low) (ltb b high) e in
-    (ltb-false b low p.0, ltb-true b high p.1)
 
 value_grows : (s : List ℕ) (v : ℕ) → v ≤ value_from v s
 unfolding value_from
 value_grows [] v = omega arith
 value_grows (b ∷ s) v = omega (arith, value_grows s (v * 10 + (b - 48)))
 
+-- std's test of a numeral is that of the definition
+numeral-is : (b : ℕ) → is_numeral b ≡ is_ascii_digit b
+numeral-is b = grind (arith, nat_tests)
+
 module _ (b : ℕ) (s : List ℕ) (v most : ℕ) where
-  judged-other : is_numeral b ≡ false → Malformed ≡ whole_from (b ∷ s) v most
+  judged-other : is_numeral b ≡ false → None ≡ whole_from (b ∷ s) v most
   unfolding all_numerals
   judged-other e = rw e
 
-  judged-large : most < v * 10 + (b - 48) → Malformed ≡ whole_from (b ∷ s) v most
+  judged-large : most < v * 10 + (b - 48) → None ≡ whole_from (b ∷ s) v most
   unfolding value_from
   judged-large h =
       let g : most < value_from (v * 10 + (b - 48)) s = omega (arith, value_grows s (v * 10 + (b - 48))) in
@@ -48,7 +41,7 @@ module _ (b : ℕ) (s : List ℕ) (v most : ℕ) where
   unfolding all_numerals value_from
   judged-more e = rw e
 
-judged-end : (v most : ℕ) → v ≤ most → Value v ≡ whole_from [] v most
+judged-end : (v most : ℕ) → v ≤ most → Some v ≡ whole_from [] v most
 unfolding all_numerals value_from
 judged-end v most h = rw (le-leb _ _ h)
 
@@ -56,54 +49,30 @@ whole-some : (s : List ℕ) (most : ℕ) → (length s ≡ 0 → ⊥) → spelle
 whole-some [] most n = absurd (n refl)
 whole-some (b ∷ s) most n = refl
 
-pub whole-none : (s : List ℕ) (most : ℕ) → length s ≡ 0 → Malformed ≡ spelled_whole s most
-whole-none [] most e = refl
-whole-none (b ∷ s) most e = absurd (omega arith)
-
 pub record Spelled (s : List ℕ) (most value i : ℕ) : Type 0 where
-  pub within : i ≤ length s
   pub small : value ≤ most
   pub same : spelled_whole s most ≡ whole_from (drop i s) value most
 
 pub spelled_none : (s : List ℕ) (most : ℕ) → (length s ≡ 0 → ⊥) → Spelled s most 0 0
-spelled_none s most n = record { within = omega arith; small = omega arith; same = whole-some s most n }
+spelled_none s most n = record { small = omega arith; same = whole-some s most n }
 
 module _ {s : List ℕ} {most value i : ℕ} (p : Spelled s most value i) where
-  pub spelled-end : length s ≤ i → Value value ≡ spelled_whole s most
+  pub spelled-end : length s ≤ i → Some value ≡ spelled_whole s most
   spelled-end h = judged-end value most p.small ∙ sym (p.same ∙ rw (drop_of_length-le s h))
 
   module _ (h : i < length s) where
     at_byte : spelled_whole s most ≡ whole_from (get_or s i 0 ∷ drop (i + 1) s) value most
     at_byte = p.same ∙ rw (drop-cons s i 0 h, add-one)
 
-    pub spelled-other : is_numeral (get_or s i 0) ≡ false → Malformed ≡ spelled_whole s most
-    spelled-other e = judged-other _ _ value most e ∙ sym at_byte
+    pub spelled-other : is_ascii_digit (get_or s i 0) ≡ false → None ≡ spelled_whole s most
+    spelled-other e = judged-other _ _ value most (numeral-is (get_or s i 0) ∙ e) ∙ sym at_byte
 
-    pub spelled-large : most < value * 10 + (get_or s i 0 - 48) → Malformed ≡ spelled_whole s most
+    pub spelled-large : most < value * 10 + (get_or s i 0 - 48) → None ≡ spelled_whole s most
     spelled-large g = judged-large _ _ value most g ∙ sym at_byte
 
-    pub spelled-more : is_numeral (get_or s i 0) ≡ true → value * 10 + (get_or s i 0 - 48) ≤ most → Spelled s most (value * 10 + (get_or s i 0 - 48)) (i + 1)
-    spelled-more e g = record { within = omega arith; small = g; same = at_byte ∙ judged-more _ _ value most e }
-
-pub signed-none : (s : List ℕ) → length s ≡ 0 → ReadSigned.Malformed ≡ spelled_signed s
-signed-none [] e = refl
-signed-none (b ∷ s) e = absurd (omega arith)
-
-pub signed-minus : (s : List ℕ) → (length s ≡ 0 → ⊥) → get_or s 0 0 ≡ 45 → spelled_signed s ≡ minus (spelled_whole (drop 1 s) (2 ^ 63))
-signed-minus [] n e = absurd (n refl)
-signed-minus (b ∷ s) n e = rw (eq-eqb b 45 e)
-
-pub signed-plus : (s : List ℕ) → (length s ≡ 0 → ⊥) → (get_or s 0 0 ≡ 45 → ⊥) → spelled_signed s ≡ plus (spelled_whole s (2 ^ 63 - 1))
-signed-plus [] n m = absurd (n refl)
-signed-plus (b ∷ s) n m = rw (ne_eqb b 45 m)
-
-pub minus-fits : (w : ReadWhole) → WholeUpTo (2 ^ 63) w → SignedFits (minus w)
-minus-fits (Value n) h = h
-minus-fits Malformed h = tt
-
-pub plus-fits : (w : ReadWhole) → WholeUpTo (2 ^ 63 - 1) w → SignedFits (plus w)
-plus-fits (Value n) h = h
-plus-fits Malformed h = tt
+    pub spelled-more : is_ascii_digit (get_or s i 0) ≡ true → value * 10 + (get_or s i 0 - 48) ≤ most
+        → Spelled s most (value * 10 + (get_or s i 0 - 48)) (i + 1)
+    spelled-more e g = record { small = g; same = at_byte ∙ judged-more _ _ value most (numeral-is (get_or s i 0) ∙ e) }
 
 -- the digits that are written are those of the definition
 power_below : (k n : ℕ) → (1 < suc (suc k) → 10 ^ (suc (suc k) - 1) ≤ n) → 10 * 10 ^ k ≤ n
@@ -128,7 +97,8 @@ digits-one n j h =
     let e : n % 10 ≡ n = omega arith in
     rw (last-digit n, e, lt-ltb n 10 h)
 
-digits_more : (k j n : ℕ) → IsDigitCount 10 1 n (suc (suc k)) → last_digits 10 (suc k) (n / 10) ≡ decimal_in j (n / 10) → last_digits 10 (suc (suc k)) n ≡ decimal_in (suc j) n
+digits_more : (k j n : ℕ) → IsDigitCount 10 1 n (suc (suc k)) → last_digits 10 (suc k) (n / 10) ≡ decimal_in j (n / 10)
+    → last_digits 10 (suc (suc k)) n ≡ decimal_in (suc j) n
 unfolding decimal_in
 digits_more k j n (l, u, m) e =
     let x : 10 * 10 ^ k ≤ n = power_below k n m in

@@ -10,7 +10,7 @@ use lib.Dec.{ltb}
 use lib.ListN.{length, get_or, length-append}
 use borrow.Author.Tests.{lt-ltb, le-ltb, le-leb, ltb-true}
 use Rattle.io.specs.Digits.{hex_digit_ascii}
-use Rattle.lines.specs.declared.reading.ReadWhole.TheVariants.{Value}
+use Rattle.std.specs.Prelude.{Some}
 use Rattle.lines.specs.Decimal.{is_numeral, all_numerals, value_from, spelled_whole}
 use Rattle.lines.specs.Hexadecimal.{is_letter, nibble_of, byte_of, all_digits, spelled_bytes, hexadecimal}
 use Rattle.lines.proofs.Pairs.{hexadecimal-pairs}
@@ -66,11 +66,11 @@ spells-in (suc k) n h =
 pub spells-decimal : (n : ℕ) → n < 2 ^ 64 → Spells (decimal n) n
 spells-decimal n h = spells-in 19 n (omega arith)
 
-whole-spelt : (s : List ℕ) (n most : ℕ) → Spells s n → n ≤ most → spelled_whole s most ≡ Value n
+whole-spelt : (s : List ℕ) (n most : ℕ) → Spells s n → n ≤ most → spelled_whole s most ≡ Some n
 whole-spelt [] n most p h = absurd (omega (arith, p.some))
 whole-spelt (b ∷ s) n most p h = rw (p.numerals, p.value, le-leb n most h)
 
-pub whole-decimal : (n most : ℕ) → n < 2 ^ 64 → n ≤ most → spelled_whole (decimal n) most ≡ Value n
+pub whole-decimal : (n most : ℕ) → n < 2 ^ 64 → n ≤ most → spelled_whole (decimal n) most ≡ Some n
 whole-decimal n most u h = whole-spelt (decimal n) n most (spells-decimal n u) h
 
 -- ---- bytes

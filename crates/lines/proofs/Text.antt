@@ -1,14 +1,15 @@
--- Text put one piece behind the other (`puts-behind`, and in a loop `Left`), a byte at a time (`Put`), and an element of a list at a time (`Spelt`). How long
+-- Text put one piece behind the other (`puts-behind`, and in a loop `Left`), at once (`puts-part`), and an element of a list at a time (`Spelt`). How long
 -- texts are at most (`spaced-short`, `bytes-short`).
 use Prim.Native.Nat.{ℕ, suc, ◌+◌, ◌-◌, ◌*◌, ◌≤◌, ◌<◌, min}
 use native.Mathlib.Numerals.{add-one}
 use native.Mathlib.Decide.{dec_le}
 use native.Mathlib.Omega.{arith}
-use mathlib.Core.Path.{◌≡◌, refl, sym, ◌∙◌}
+use mathlib.Core.Path.{◌≡◌, refl, sym, ap, ◌∙◌}
 use mathlib.Core.Bool.{Bool, true, false, cond}
-use mathlib.Core.List.{List, [], ◌∷◌, ◌++◌, flat_map}
-use lib.ListN.{length, get_or, take, drop, set, length-append, length-set, drop_of_length-le}
-use lib.Seq.{drop-cons, sets, length-sets, sets-eq, length-take-le, take_at}
+use mathlib.Core.List.{List, [], ◌∷◌, ◌++◌, append_assoc, flat_map}
+use borrow.Rule.Slice.PartMut.{put_mid}
+use lib.ListN.{length, get_or, take, drop, length-append, drop_of_length-le, take-append-drop}
+use lib.Seq.{drop-cons, drop-drop, sets, length-sets, sets-eq, length-take-le, take_all, take_at}
 use Rattle.arrays.proofs.Runs.{sets-append, sets-out}
 use Rattle.lines.specs.Ascii.{ascii}
 use Rattle.lines.specs.Text.{index_after, Puts, spaced, pair_text, pairs_text, bytes_text}
@@ -76,35 +77,30 @@ pub bytes-some : (s : List ℕ) → (length s ≡ 0 → ⊥) → bytes_text s �
 bytes-some [] n = absurd (n refl)
 bytes-some (b ∷ s) n = refl
 
-pub record Put (out₀ : List ℕ) (at : ℕ) (text out : List ℕ) (to i : ℕ) : Type 0 where
-  pub within : i ≤ length text
-  pub reached : to ≡ at + i
-  pub room : i ≤ length out₀ - at
-  pub kept : length out ≡ length out₀
-  pub same : sets out₀ at text ≡ sets out to (drop i text)
+-- text past the end of `out`, where nothing is put
+pub puts-out : (out text : List ℕ) (at : ℕ) → length out ≤ at → Puts out at text out at
+unfolding index_after
+puts-out out text at h = record { index = omega arith; bytes = sym (sets-out out text at h) }
 
-pub put-none : (out : List ℕ) (at : ℕ) (text : List ℕ) → Put out at text out at 0
-put-none out at text = record { within = omega arith; reached = omega arith; room = omega arith; kept = refl; same = refl }
+-- text that is put at once, as much of it as there is room for
+module _ (out text : List ℕ) (at n : ℕ) (h : at ≤ length out) (e : n ≡ min (length text) (length out - at)) where
+  cut : sets out at text ≡ sets out at (take n text)
+  cut = go (dec_le (length text) n)
+    where
+      go : Dec (length text ≤ n) → sets out at text ≡ sets out at (take n text)
+      go (yes f) = rw (take_all n text f)
+      go (no f) =
+          let l : length (take n text) ≡ n = length-take-le n text (omega arith) in
+          ap (sets out at) (sym (take-append-drop n text))
+          ∙ sym (sets-append out (take n text) (drop n text) at)
+          ∙ sets-out (sets out at (take n text)) (drop n text) _ (omega (arith, length-sets out at (take n text), l))
 
-module _ {out₀ : List ℕ} {at : ℕ} {text out : List ℕ} {to i : ℕ} (p : Put out₀ at text out to i) where
-  pub put-end : length text ≤ i → Puts out₀ at text out to
+  pub puts-part : Puts out at text (put_mid at (at + n - at) out (take n text)) (at + n)
   unfolding index_after
-  put-end h = record { index = omega (arith, p); bytes = sym (p.same ∙ rw (drop_of_length-le text h)) }
-
-  module _ (h : i < length text) where
-    pub put_full : length out ≤ to → Puts out₀ at text out to
-    unfolding index_after
-    put_full f = record { index = omega (arith, p); bytes = sym (p.same ∙ sets-out out (drop i text) to f) }
-
-    pub put-more : to < length out → Put out₀ at text (set out to (get_or text i 0)) (to + 1) (i + 1)
-    put-more r =
-        record {
-          within = omega arith;
-          reached = omega (arith, p);
-          room = omega (arith, p);
-          kept = length-set out to _ ∙ p.kept;
-          same = p.same ∙ rw (drop-cons text i 0 h, add-one to, add-one i);
-        }
+  puts-part =
+      let l : length (take n text) ≡ n = length-take-le n text (omega arith) in
+      let m : at + n - at ≡ n = omega arith in
+      record { index = omega arith; bytes = rw (m, drop-drop n at out) (sym (cut ∙ sets-eq (take n text) out at (omega arith) ∙ rw (l, append_assoc))) }
 
 -- A LOOP that puts the texts of a list's elements, one behind the other: the first i are put
 module _ {A : Type 0} (text : A → List ℕ) where

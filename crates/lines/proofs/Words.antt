@@ -1,21 +1,16 @@
--- Looking for the end of a word: `Searched` is what holds when the first i bytes are passed. Sameness of words as equality (`same-is`).
-use Prim.Native.Nat.{ℕ, suc, ◌+◌, ◌-◌, ◌≤◌, ◌<◌}
-use native.Mathlib.Numerals.{add-one}
+-- The end of a word by the index of its stop (`before-first`). Sameness of words as equality (`same-is`).
+use Prim.Native.Nat.{ℕ, ◌≤◌, ◌<◌}
 use native.Mathlib.Omega.{arith}
 use mathlib.Core.Path.{◌≡◌, refl, sym, ap}
 use mathlib.Core.Bool.{Bool, true, false, cond, and-eq-true_iff}
 use mathlib.Core.List.{List, [], ◌∷◌}
 use lib.Dec.{eqb}
-use lib.ListN.{length, get_or, take, drop, drop_of_length-le}
-use lib.Seq.{drop-cons}
+use lib.ListN.{length, take, drop_of_length-le}
+use Rattle.std.specs.Prelude.{Option, MatchOption, unwrap_or, HoldsAt}
+use Rattle.std.specs.List.{AllWithin}
+use Rattle.std.proofs.lemmas.Iterator.{index_from_first}
 use borrow.Author.Tests.{eq-eqb, ne_eqb, eqb-true}
-use Rattle.arrays.proofs.Runs.{part-is}
 use Rattle.lines.specs.Words.{before, word_at, same}
-
-before_at : (stop i : ℕ) (s : List ℕ) → i < length s →
-    before stop (drop i s) ≡ cond (eqb (get_or s i 0) stop) [] (get_or s i 0 ∷ before stop (drop (i + 1) s))
-unfolding before
-before_at stop i s h = rw (drop-cons s i 0 h, add-one)
 
 before-none : (stop : ℕ) → before stop [] ≡ []
 unfolding before
@@ -35,35 +30,12 @@ unfolding before
 take-before stop [] = refl
 take-before stop (b ∷ s) = take_step b (before stop s) s (eqb b stop) (take-before stop s)
 
-pub word-is : (s : List ℕ) (at n : ℕ) → n ≡ length (before 32 (take (length s - at) (drop at s)))
-    → take (n - 0) (take (length s - at) (drop at s)) ≡ word_at s at
-word-is s at n e =
-    let z : n - 0 ≡ length (before 32 (drop at s)) = omega (arith, rw (part-is s at) at e) in
-    rw (part-is s at, z) (take-before 32 (drop at s))
-
-pub record Searched (s : List ℕ) (stop i : ℕ) : Type 0 where
-  pub within : i ≤ length s
-  pub same : length (before stop s) ≡ i + length (before stop (drop i s))
-
-pub searched-none : (s : List ℕ) (stop : ℕ) → Searched s stop 0
-searched-none s stop = record { within = omega arith; same = omega arith }
-
-module _ {s : List ℕ} {stop i : ℕ} (p : Searched s stop i) where
-  pub searched-end : length s ≤ i → i ≡ length (before stop s)
-  searched-end h =
-      let e : length (before stop (drop i s)) ≡ 0 = rw (drop_of_length-le s h, before-none stop) in
-      omega (arith, p.same)
-
-  module _ (h : i < length s) where
-    pub searched-stop : get_or s i 0 ≡ stop → i ≡ length (before stop s)
-    searched-stop e =
-        let z : length (before stop (drop i s)) ≡ 0 = rw (before_at stop i s h, eq-eqb _ _ e) in
-        omega (arith, p.same)
-
-    pub searched-more : (get_or s i 0 ≡ stop → ⊥) → Searched s stop (i + 1)
-    searched-more n =
-        let z : length (before stop (drop i s)) ≡ suc (length (before stop (drop (i + 1) s))) = rw (before_at stop i s h, ne_eqb _ _ n) in
-        record { within = omega arith; same = omega (arith, p.same) }
+-- the bytes before the first stop are as many as stand before its index, all where there is none
+pub before-first : (stop : ℕ) (s : List ℕ) (r : Option ℕ) → MatchOption r (AllWithin (λ b. b ≡ stop → ⊥) s 0 (length s))
+    (λ i. (i < length s) × HoldsAt (λ b. b ≡ stop) s i × AllWithin (λ b. b ≡ stop → ⊥) s 0 i) → length (before stop s) ≡ unwrap_or r (length s)
+unfolding before
+before-first stop = index_from_first (λ s. length (before stop s)) (λ b. b ≡ stop) (λ b. b ≡ stop → ⊥) refl
+    (λ b s e. rw (eq-eqb b stop e)) (λ b s n. rw (ne_eqb b stop n) (omega arith))
 
 -- ---- whether two words are the same
 pub same_refl : (s : List ℕ) → same s s ≡ true
@@ -71,7 +43,7 @@ unfolding same
 same_refl [] = refl
 same_refl (a ∷ s) = rw (eq-eqb a a refl) (same_refl s)
 
-same-eq : (s t : List ℕ) → same s t ≡ true → s ≡ t
+pub same-eq : (s t : List ℕ) → same s t ≡ true → s ≡ t
 unfolding same
 same-eq [] [] h = refl
 same-eq [] (b ∷ t) h = ap (λ x. cond x (b ∷ t) []) h

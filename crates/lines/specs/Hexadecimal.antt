@@ -1,8 +1,6 @@
 -- Bytes in hexadecimal, two digits in lower case for each, `-` for none: what a word spells (`spelled_bytes`, where it is `hexadecimal`).
-use Rattle.std.specs.Prelude.{ℕ, ◌+◌, ◌-◌, ◌*◌, ◌/◌, ◌%◌, Bool, true, false, not, cond, ◌&&◌, ◌||◌, List, [], ◌∷◌, ltb, eqb, length}
+use Rattle.std.specs.Prelude.{ℕ, ◌+◌, ◌-◌, ◌*◌, ◌/◌, ◌%◌, Bool, true, false, not, cond, ◌&&◌, ◌||◌, List, [], ◌∷◌, ltb, eqb, length, Option, Some, None}
 use Rattle.std.proofs.lemmas.List.Edits.{sets}
-use Rattle.lines.specs.declared.reading.ReadBytes.{ReadBytes}
-use Rattle.lines.specs.declared.reading.ReadBytes.TheVariants.{Count, Malformed}
 use Rattle.lines.specs.Decimal.{is_numeral}
 
 -- `a` to `f`
@@ -36,8 +34,9 @@ hexadecimal (a ∷ b ∷ s) = not (eqb (length s % 2) 1) && all_digits (a ∷ b 
 abbrev pub taken : List ℕ → List ℕ → Bool
 taken s out = hexadecimal s && not (ltb (length out) (length s / 2))
 
-abbrev pub bytes_read : List ℕ → List ℕ → ReadBytes
-bytes_read s out = cond (taken s out) (Count (length s / 2)) Malformed
+-- how many bytes were read, where s is taken
+abbrev pub bytes_read : List ℕ → List ℕ → Option ℕ
+bytes_read s out = cond (taken s out) (Some (length s / 2)) None
 
 abbrev pub bytes_into : List ℕ → List ℕ → List ℕ
 bytes_into s out = cond (taken s out) (sets out 0 (spelled_bytes s)) out

@@ -1,5 +1,5 @@
--- The parts of a text (`parted`). Words of a line: `word_at`, from an index to the next space; `next_word`, where the word behind it starts; `same`, whether two
--- are the same.
+-- The parts of a text (`parted`). Words of a line: `word_at`, from an index to the next space; `next_word`, where the word behind it starts; `same`, whether
+-- two are the same.
 use Rattle.std.specs.Prelude.{ℕ, ◌+◌, Bool, true, false, cond, ◌&&◌, List, [], ◌∷◌, ltb, eqb, length, drop}
 
 -- the bytes before the first that is `stop`; all, where none is

@@ -4,8 +4,5 @@
 mod reading; // reading.rt: words, numbers and bytes of a line
 mod writing; // writing.rt: the same put into a buffer
 
-pub use reading::{
-    ReadBytes, ReadSigned, ReadWhole, before, first, next_word, read_bytes, read_signed,
-    read_whole, word,
-};
+pub use reading::{before, first, next_word, read_bytes, read_signed, read_whole, word};
 pub use writing::{put, put_bytes, put_signed, put_whole};

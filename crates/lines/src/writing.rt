@@ -7,17 +7,12 @@ ghost use Rattle.lines.specs.Text.{Puts, decimal, signed_text, pair_text, pairs_
 pub fn put(out: &mut [u8], at: usize, text: &[u8]) -> usize
     ensures { Puts out.old at text.now out.new result }
 {
-    let mut to = at;
-    let mut i: usize = 0;
-    while i < text.len() {
-        if out.len() <= to {
-            return to;
-        }
-        out[to] = text[i];
-        to += 1;
-        i += 1;
+    if out.len() < at {
+        return at;
     }
-    to
+    let count = text.len().min(out.len() - at);
+    out[at..at + count].copy_from_slice(&text[..count]);
+    at + count
 }
 
 // A whole number in decimal.
@@ -58,10 +53,8 @@ fn put_pairs(out: &mut [u8], at: usize, s: &[u8]) -> usize
     ensures { Puts out.old at (pairs_text s.now) out.new result }
 {
     let mut to = at;
-    let mut i: usize = 0;
-    while i < s.len() {
-        to = put_pair(out, to, s[i]);
-        i += 1;
+    for &b in s {
+        to = put_pair(out, to, b);
     }
     to
 }
@@ -70,7 +63,7 @@ fn put_pairs(out: &mut [u8], at: usize, s: &[u8]) -> usize
 pub fn put_bytes(out: &mut [u8], at: usize, s: &[u8]) -> usize
     ensures { Puts out.old at (bytes_text s.now) out.new result }
 {
-    if s.len() == 0 {
+    if s.is_empty() {
         return put(out, at, b"-");
     }
     put_pairs(out, at, s)

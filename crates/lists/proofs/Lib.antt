@@ -1,4 +1,3 @@
-pub mod Fronts
 pub mod Vectors
 pub mod Outcomes
 pub mod LetterReach

@@ -3,7 +3,7 @@ use mathlib.Core.Path.{◌≡◌, refl, sym, ap, ap₂, ◌∙◌, subst}
 use mathlib.Core.Bool.{Bool, false, not, ◌&&◌}
 use mathlib.Core.List.{List, [], ◌∷◌}
 use mathlib.Core.Logic.{inl, inr}
-use mathlib.Core.Option.{some}
+use Rattle.std.specs.Prelude.{Some, Ok}
 use Prim.Native.Nat.{ℕ, zero, suc, ◌+◌, ◌-◌, ◌*◌, ◌≤◌, ◌<◌}
 use native.Mathlib.Omega.{arith}
 use borrow.Author.Tests.{ne_eqb, not-false}
@@ -11,9 +11,7 @@ use lib.IntN.{ℤ}
 use lib.ListN.{length, get_or, take}
 use lib.Seq.{sets}
 use Rattle.arrays.proofs.Runs.{take-sets-front}
-use Rattle.verdict.specs.declared.Verdict.{Verdict}
-use Rattle.verdict.specs.declared.Verdict.TheVariants.{Accepted}
-use Rattle.verdict.specs.Verdict.{first_of, after}
+use Rattle.verdict.specs.Verdict.{Verdict, first_of, after}
 use Rattle.number.specs.Number.{Ranged, in_range}
 use Rattle.number.specs.Signed.{zero_signed, SignedRanged}
 use Rattle.number.specs.declared.Number.{Number}
@@ -51,7 +49,7 @@ formed-list (a ∷ L) u h =
 
 module _ (n : ℕ) (b : Factors Number) (low : 1 ≤ n) (high : n ≤ 8) (s : Each (Ranged 1000) n b) (z out : List ℤ) where
   -- the carried items of a well-formed list are formed, if none is outside
-  pub carried-formed : (L : List Signed) → list_of z ≡ some L → length L ≡ n → any_outside (carried_list n b L) ≡ false → AllFormed (carried_list n b L)
+  pub carried-formed : (L : List Signed) → list_of z ≡ Some L → length L ≡ n → any_outside (carried_list n b L) ≡ false → AllFormed (carried_list n b L)
   carried-formed L e f h = formed-list (carried_list n b L) (λ k p.
       let l : k < n = omega (arith, first-length n (carried_vector n b (vector_of L))) in
       subst (SignedRanged working_reach) (sym (first-at n (carried_vector n b (vector_of L)) k l))
@@ -59,7 +57,7 @@ module _ (n : ℕ) (b : Factors Number) (low : 1 ≤ n) (high : n ≤ 8) (s : Ea
       (k + 1) (omega arith, omega arith))) h
 
   -- an accepted carry has written a well-formed list, the carried one
-  pub carry_back : first_of (carry_tests n b z out) ≡ Accepted → list_of (take (3 * n) (items_after_carry n b z out)) ≡ some (carried_list n b (items_of z))
+  pub carry_back : first_of (carry_tests n b z out) ≡ Ok tt → list_of (take (3 * n) (items_after_carry n b z out)) ≡ Some (carried_list n b (items_of z))
   unfolding items_after_carry
   carry_back h =
       let a = carry-accepted n b z out h in

@@ -3,13 +3,13 @@
 use mathlib.Core.Path.{◌≡◌, refl, ap, ◌∙◌, subst}
 use mathlib.Core.Bool.{not}
 use mathlib.Core.List.{List, [], ◌∷◌}
-use mathlib.Core.Option.{Option, some, get_or}
+use Rattle.std.specs.Prelude.{Option, Some, Ok, unwrap_or}
 use Prim.Native.Nat.{ℕ, ◌*◌, ◌≤◌}
 use native.Mathlib.Omega.{arith}
 use borrow.Author.Tests.{le-leb}
 use lib.IntN.{ℤ, pos}
 use lib.ListN.{length, take}
-use Rattle.verdict.specs.declared.Verdict.TheVariants.{Accepted}
+use Rattle.verdict.specs.declared.Reason.TheVariants.{WrongList}
 use Rattle.verdict.specs.Verdict.{when, first_behind, first_of}
 use Rattle.verdict.specs.Report.{accepted, report_of}
 use Rattle.number.specs.declared.Number.{Number}
@@ -41,14 +41,14 @@ carried-steady n b L e =
 
 -- ---- by the calls
 -- what the count answers for a well-formed row of 1 to 8 items
-reversals-answered : (z : List ℤ) (L : List Signed) → list_of z ≡ some L → 1 ≤ length L → length L ≤ 8 → reversals_call z ≡ accepted (pos (reversals L) ∷ [])
+reversals-answered : (z : List ℤ) (L : List Signed) → list_of z ≡ Some L → 1 ≤ length L → length L ≤ 8 → reversals_call z ≡ accepted (pos (reversals L) ∷ [])
 unfolding reversals_call first_behind
 reversals-answered z L e l m =
-    ap (λ (o : Option (List Signed)). report_of (when (not (proper 1 8 o)) 9) (pos (reversals (get_or o [])) ∷ [])) e
+    ap (λ (o : Option (List Signed)). report_of (when (not (proper 1 8 o)) WrongList) (pos (reversals (unwrap_or o [])) ∷ [])) e
     ∙ simp (le-leb 1 (length L) l, le-leb (length L) 8 m)
 
 module _ (n : ℕ) (b : Factors Number) (low : 1 ≤ n) (high : n ≤ 8) (s : Each (Ranged 1000) n b) (z out : List ℤ) where
-  pub carry-steady : first_of (carry_tests n b z out) ≡ Accepted → NoMoreReversals z (take (length z) (items_after_carry n b z out))
+  pub carry-steady : first_of (carry_tests n b z out) ≡ Ok tt → NoMoreReversals z (take (length z) (items_after_carry n b z out))
   carry-steady h =
       let a = carry-accepted n b z out h in
       let L : List Signed = items_of z in

@@ -1,10 +1,11 @@
 -- The list calls (document 01, "Shelf calls" and its tables of refusals): the tests of a carry and of a count of reversals (`carry_tests`,
 -- `reversals_tests`), what a carry writes (`items_after_carry`), and what a count returns (`reversals_call`).
-use Rattle.std.specs.Prelude.{Bool, false, not, ◌&&◌, ◌||◌, List, [], ◌∷◌, ℕ, ◌*◌, ltb, ℤ, pos, length}
+use Rattle.std.specs.Prelude.{Bool, false, not, ◌&&◌, ◌||◌, List, [], ◌∷◌, ℕ, ◌*◌, ltb, ℤ, pos, length, Result}
 use Rattle.std.proofs.lemmas.List.Edits.{sets}
-use Rattle.verdict.specs.declared.Verdict.{Verdict}
-use Rattle.verdict.specs.Verdict.{when, first_of, after}
-use Rattle.verdict.specs.Report.{Report, accepted, refused, report_of}
+use Rattle.verdict.specs.declared.Reason.TheVariants.{WrongList, ExponentOutOfRange, OutputTooShort}
+use Rattle.verdict.specs.declared.Refusal.{Refusal}
+use Rattle.verdict.specs.Verdict.{Verdict, when, first_of, after}
+use Rattle.verdict.specs.Report.{Report, report_of, answer_report}
 use Rattle.number.specs.Number.{in_range}
 use Rattle.number.specs.Signed.{plain, signed_arithmetic}
 use Rattle.number.specs.declared.Number.{Number}
@@ -13,8 +14,6 @@ use Rattle.words.specs.Word.{Factors, Word, word, for_up}
 use Rattle.words.specs.Walk.{carry}
 use Rattle.items.specs.Items.{is_zero_item, list_of, items_of, list_numbers, proper, vector_of}
 use Rattle.reversals.specs.Reversals.{reversals}
-use Rattle.lists.specs.declared.Reversals.{Reversals}
-use Rattle.lists.specs.declared.Reversals.TheVariants.{Count, Refused}
 
 -- ---- carrying
 -- the first n items of a vector as a list
@@ -43,7 +42,10 @@ any_outside (a ∷ L) = item_outside a || any_outside L
 -- CARRY: not a list of n items; an item of the result outside the stored range; too little room
 abbrev pub carry_tests : ℕ → Factors Number → (items out : List ℤ) → List Verdict
 carry_tests n b items out =
-    when (not (proper n n (list_of items))) 9 ∷ when (any_outside (carried_list n b (items_of items))) 14 ∷ when (ltb (length out) (3 * n)) 10 ∷ []
+    when (not (proper n n (list_of items))) WrongList
+    ∷ when (any_outside (carried_list n b (items_of items))) ExponentOutOfRange
+    ∷ when (ltb (length out) (3 * n)) OutputTooShort
+    ∷ []
 
 -- what the lent output holds after a carry: the carried items in its first 3 n numbers, and nothing else changed; a refusal changes nothing
 unfoldable pub items_after_carry : ℕ → Factors Number → (items out : List ℤ) → List ℤ
@@ -51,13 +53,12 @@ items_after_carry n b items out = after (first_of (carry_tests n b items out)) o
 
 -- REVERSALS: not a list of 1 to 8 items
 abbrev pub reversals_tests : List ℤ → List Verdict
-reversals_tests items = when (not (proper 1 8 (list_of items))) 9 ∷ []
+reversals_tests items = when (not (proper 1 8 (list_of items))) WrongList ∷ []
 
 -- what a count of reversals returns
 unfoldable pub reversals_call : List ℤ → Report
 reversals_call items = report_of (first_of (reversals_tests items)) (pos (reversals (items_of items)) ∷ [])
 
 -- what its answers report
-abbrev pub reversals_report : Reversals → Report
-reversals_report (Count k) = accepted (pos k ∷ [])
-reversals_report (Refused w) = refused w.number w.offset
+abbrev pub reversals_report : Result ℕ Refusal → Report
+reversals_report r = answer_report (λ k. pos k ∷ []) r

@@ -14,48 +14,37 @@ use number::signed::Signed;
 use walk::{Way, letters};
 
 // Item `to` gets w times item `from` added: E_j(w) with to = j and from = j - 1, Et_j(w) with to = j - 1 and from = j.
-fn added(v: [Signed; 8], to: usize, from: usize, w: Number) -> [Signed; 8]
+fn add(v: &mut [Signed; 8], to: usize, from: usize, w: Number)
     requires le_to { (1 ≤ to) × (to ≤ 8) × (1 ≤ from) × (from ≤ 8) }
-    requires signed_ranged { SignedRanged working_reach (vector_of v to) × SignedRanged working_reach (vector_of v from) × Ranged 1000 w }
-    ensures { result ≡ set v (to - 1) (signed_sum (vector_of v to) (signed_product (vector_of v from) (plain w))) }
+    requires signed_ranged { SignedRanged working_reach (vector_of v.old to) × SignedRanged working_reach (vector_of v.old from) × Ranged 1000 w }
+    ensures { v.new ≡ set v.old (to - 1) (signed_sum (vector_of v.old to) (signed_product (vector_of v.old from) (plain w))) }
 {
-    let mut u = v;
-    let x = u[to - 1];
-    let y = u[from - 1];
-    u[to - 1] = x.add(y.times(w));
-    u
+    v[to - 1] = v[to - 1].add(v[from - 1].times(w));
 }
 
 // D: each item times its entry.
-fn diagonal(v: [Signed; 8], b: [Number; 64], n: usize) -> [Signed; 8]
+fn scale(v: &mut [Signed; 8], b: [Number; 64], n: usize)
     requires n_bound { n ≤ 8 }
-    requires items_ranged { ItemsRanged working_reach n v × Each (Ranged 1000) n (factors_of b) }
-    ensures { Scaled n (factors_of b) v result }
+    requires items_ranged { ItemsRanged working_reach n v.old × Each (Ranged 1000) n (factors_of b) }
+    ensures { Scaled n (factors_of b) v.old v.new }
 {
-    let mut u = v;
-    let mut k = 0;
-    while k < n {
-        let x = u[k];
-        let w = b[k * 9];
-        u[k] = x.times(w);
-        k += 1;
+    for k in 0..n {
+        v[k] = v[k].times(b[k * 9]);
     }
-    u
 }
 
 // Letter t of the word.
-fn letter(v: [Signed; 8], b: [Number; 64], n: usize, t: usize) -> [Signed; 8]
+fn letter(v: &mut [Signed; 8], b: [Number; 64], n: usize, t: usize)
     requires le_n { (1 ≤ n) × (n ≤ 8) × (t < 2 * middle n + 1) }
-    requires items_ranged { ItemsRanged working_reach n v × Each (Ranged 1000) n (factors_of b) }
-    ensures { Carries n (letter_of n (factors_of b) t ∷ []) v result }
+    requires items_ranged { ItemsRanged working_reach n v.old × Each (Ranged 1000) n (factors_of b) }
+    ensures { Carries n (letter_of n (factors_of b) t ∷ []) v.old v.new }
 {
     if t == letters::middle(n) {
-        return diagonal(v, b, n);
+        scale(v, b, n);
+    } else {
+        let l = letters::move_at(n, Way::Plain, t);
+        add(v, l.to, l.from, b[l.at]);
     }
-    let l = letters::move_at(n, Way::Plain, t);
-    let at = l.at;
-    let w = b[at];
-    added(v, l.to, l.from, w)
 }
 
 // The whole word.
@@ -65,11 +54,8 @@ pub fn through(v: [Signed; 8], b: [Number; 64], n: usize) -> [Signed; 8]
     ensures items_ranged { ItemsRanged reach n result }
 {
     let mut u = v;
-    let mut t = 2 * letters::middle(n) + 1;
-    while 0 < t {
-        t -= 1;
-        let x = letter(u, b, n, t);
-        u = x;
+    for t in (0..2 * letters::middle(n) + 1).rev() {
+        letter(&mut u, b, n, t);
     }
     u
 }

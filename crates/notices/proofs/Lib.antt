@@ -1,5 +1,4 @@
 -- Laws that belong to no one function.
-pub mod Ends
 pub mod Asked
 pub mod Only
 pub mod Room

@@ -1,10 +1,10 @@
 -- THE PROMISES of the sentence call (document 02, request (n)): what was written tells these numbers, and they can be recovered from it in only one way
 -- (`TellsOnly`); and 220 lent bytes are always enough (`sentence_room`).
-use Rattle.std.specs.Prelude.{ℕ, ◌^◌, ◌≤◌, ◌<◌, ◌≡◌, List, [], ◌∷◌, pos, length, get_or, take}
+use Rattle.std.specs.Prelude.{ℕ, ◌^◌, ◌≤◌, ◌<◌, ◌≡◌, List, [], ◌∷◌, pos, length, get_or, take, Result, Ok, Err}
+use Rattle.verdict.specs.declared.Reason.TheVariants.{WrongList}
+use Rattle.verdict.specs.declared.Refusal.{Refusal}
 use Rattle.verdict.specs.Verdict.{when}
 use Rattle.verdict.specs.Report.{Report, report_of}
-use Rattle.writer.specs.declared.Written.{Written}
-use Rattle.writer.specs.declared.Written.TheVariants.{Length, Refused}
 use Rattle.writer.specs.Encoding.{written_report}
 use Rattle.notices.specs.Sentence.{Notice, sentence_of, is_unsayable}
 
@@ -23,9 +23,9 @@ pub record TellsOnly (a : Notice) (text : List ℕ) : Type 0 where
   pub only : (b : Notice) → Bits64 b → sentence_of b ≡ text → b ≡ a
 
 -- so of the bytes that an accepted call wrote, of a length n; of a refused call nothing
-abbrev pub Recovered : Notice → (left : List ℕ) → Written → Type 0
-Recovered a left (Length n) = TellsOnly a (take n left)
-Recovered a left (Refused w) = Unit {0}
+abbrev pub Recovered : Notice → (left : List ℕ) → Result ℕ Refusal → Type 0
+Recovered a left (Ok n) = TellsOnly a (take n left)
+Recovered a left (Err w) = Unit {0}
 
 -- what a panel lends
 abbrev pub sentence_room : ℕ
@@ -33,9 +33,9 @@ sentence_room = 220
 
 -- with that room nothing but 9 turns the call down
 abbrev pub Roomy : Notice → (out : List ℕ) → Report → Type 0
-Roomy a out r = sentence_room ≤ length out → r ≡ report_of (when (is_unsayable a) 9) (pos (length (sentence_of a)) ∷ [])
+Roomy a out r = sentence_room ≤ length out → r ≡ report_of (when (is_unsayable a) WrongList) (pos (length (sentence_of a)) ∷ [])
 
 -- both, of an answer to the lent bytes `out`, which it leaves as `left`
-pub record Worded (a : Notice) (out left : List ℕ) (r : Written) : Type 0 where
+pub record Worded (a : Notice) (out left : List ℕ) (r : Result ℕ Refusal) : Type 0 where
   pub recovered : Recovered a left r
   pub roomy : Roomy a out (written_report r)

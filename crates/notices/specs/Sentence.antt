@@ -2,8 +2,8 @@
 -- bytes: its tests (`sentence_tests`), what it returns (`sentence_report`) and leaves (`bytes_after_sentence`).
 use Rattle.std.specs.Prelude.{ℕ, Bool, not, ◌&&◌, ◌||◌, List, [], ◌∷◌, ◌++◌, leb, ltb, pos, length}
 use Rattle.std.proofs.lemmas.List.Edits.{sets}
-use Rattle.verdict.specs.declared.Verdict.{Verdict}
-use Rattle.verdict.specs.Verdict.{when, first_of, after}
+use Rattle.verdict.specs.declared.Reason.TheVariants.{WrongList}
+use Rattle.verdict.specs.Verdict.{Verdict, when, first_of, after}
 use Rattle.verdict.specs.Report.{Report, report_of}
 use Rattle.lines.specs.Ascii.{ascii}
 use Rattle.lines.specs.Text.{decimal, spaced}
@@ -37,7 +37,7 @@ is_unsayable a = unsayable a.number (length a.places)
 
 -- 9, tested first; 10: the lent bytes are too few
 abbrev pub sentence_tests : Notice → (out : List ℕ) → List Verdict
-sentence_tests a out = when (is_unsayable a) 9 ∷ room_test out (sentence_of a) ∷ []
+sentence_tests a out = when (is_unsayable a) WrongList ∷ room_test out (sentence_of a) ∷ []
 
 -- what the call returns: the length
 unfoldable pub sentence_report : Notice → (out : List ℕ) → Report

@@ -29,18 +29,15 @@ module _ (n z j : ℕ) (c : z + suc j ≡ 64) (lo : 2 ^ j ≤ n) (hi : n < 2 ^ s
       let hi' : n < 2 ^ j * 2 = omega arith in
       omega (arith, mul-le-mul_right (2 ^ (z - 32)) lo, mul-lt-mul_of_pos_right hi' (pow_pos (z - 32)))
 
-module _ (n : ℕ) (p : 0 < n) (f : n < 2 ^ 64) where
-  abbrev zeros : ℕ
-  zeros = count_leading_zeros 64 n
-
-  pub zeros-lt : zeros < 64
+module _ (n z : ℕ) (e : z ≡ count_leading_zeros 64 n) (p : 0 < n) (f : n < 2 ^ 64) where
+  pub zeros-lt : z < 64
   zeros-lt = omega (arith, (leading_top 64 n p f).1)
 
-  pub zeros-long : zeros ≤ 32 → (2 ^ 31 * 2 ^ (32 - zeros) ≤ n) × (n < 2 ^ 32 * 2 ^ (32 - zeros))
-  zeros-long h = let t = leading_top 64 n p f in long n zeros t.0 t.1 t.2 t.3 h
+  pub zeros-long : z ≤ 32 → (2 ^ 31 * 2 ^ (32 - z) ≤ n) × (n < 2 ^ 32 * 2 ^ (32 - z))
+  zeros-long = let t = leading_top 64 n p f in rw e (long n (count_leading_zeros 64 n) t.0 t.1 t.2 t.3)
 
-  pub zeros-short : 32 ≤ zeros → (2 ^ 31 ≤ n * 2 ^ (zeros - 32)) × (n * 2 ^ (zeros - 32) < 2 ^ 32)
-  zeros-short h = let t = leading_top 64 n p f in short n zeros t.0 t.1 t.2 t.3 h
+  pub zeros-short : 32 ≤ z → (2 ^ 31 ≤ n * 2 ^ (z - 32)) × (n * 2 ^ (z - 32) < 2 ^ 32)
+  zeros-short = let t = leading_top 64 n p f in rw e (short n (count_leading_zeros 64 n) t.0 t.1 t.2 t.3)
 
 -- ---- whole numbers: k digits are dropped, or k zeros joined
 pub integer-long : (w : Direction) (n x k : ℕ) → 0 < n → 2 ^ 31 * 2 ^ k ≤ n → n < 2 ^ 32 * 2 ^ k → round_by w n 1 x ≡ round_by w n (2 ^ k) (x + k)

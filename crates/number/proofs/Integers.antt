@@ -1,15 +1,15 @@
--- Laws of whole numbers with a sign, as the code steps through them: their signs (`below-zero`, `not_negative`), a negative number without its sign (`Flipped`,
--- `flipped`), a sign put on (`minus-fits`, `minus_is`), and kept exponents (`biased-negative`, `biased-plain`, `biased-near`,
--- `exponent-near`, `biased-exponent`, `exponent-biased`).
+-- Laws of whole numbers with a sign: what a local holds that was given one (`held-is`, `read_is`), their signs (`below-zero`,
+-- `not_negative`), and kept exponents
+-- (`biased-negative`, `biased-plain`, `biased-near`, `exponent-near`, `biased-exponent`, `exponent-biased`).
 use mathlib.Core.Path.{◌≡◌, refl, ap, ◌∙◌}
 use mathlib.Core.Bool.{true, false, true≢false, false≢true}
 use mathlib.Core.List.{List}
-use Prim.Native.Nat.{ℕ, zero, suc, ◌+◌, ◌-◌, ◌<◌, ◌≤◌, ◌^◌}
+use Prim.Native.Nat.{ℕ, suc, ◌+◌, ◌-◌, ◌<◌, ◌≤◌, ◌^◌}
 use native.Mathlib.Decide.{dec_lt}
 use native.Mathlib.Omega.{arith}
 use borrow.Author.Tests.{le-ltb, lt-ltb}
 use lib.Dec.{T}
-use lib.IntN.{ℤ, pos, negsuc, nat_abs, sub_ℕ, neg_ℤ, ◌+ℤ◌, ◌-ℤ◌, +ℤ_one, +ℤ_idl}
+use lib.IntN.{ℤ, pos, negsuc, nat_abs, sub_ℕ}
 use lib.ListN.{get_or}
 use lib.Signed.{mag, lt_z, non_neg}
 use mir.Syntax.{w64}
@@ -33,34 +33,6 @@ below-zero (negsuc n) = refl
 pub not_negative : (x : ℤ) → is_negative x ≡ false → T (non_neg x)
 not_negative (pos n) e = tt
 not_negative (negsuc n) e = absurd (true≢false e)
-
--- a negative number and one, and what that is without its sign
-pub record Flipped (x : ℤ) : Type 0 where
-  pub up : SFits w64 (x +ℤ pos 1)
-  pub flips : SFits w64 (pos 0 -ℤ (x +ℤ pos 1))
-  pub plain : is_negative (pos 0 -ℤ (x +ℤ pos 1)) ≡ false
-  pub size : nat_abs (pos 0 -ℤ (x +ℤ pos 1)) + 1 ≡ nat_abs x
-
-pub flipped : (x : ℤ) → is_negative x ≡ true → SFits w64 x → Flipped x
-flipped (pos n) e f = absurd (false≢true e)
-flipped (negsuc zero) e f = record { up = record { sfits = omega arith }; flips = record { sfits = omega arith }; plain = refl; size = refl }
-flipped (negsuc (suc n)) e f =
-    record {
-      up = rw (+ℤ_one (negsuc (suc n))) (record { sfits = omega (arith, f.sfits) });
-      flips = rw (+ℤ_one (negsuc (suc n))) (record { sfits = omega (arith, f.sfits) });
-      plain = rw (+ℤ_one (negsuc (suc n)));
-      size = rw (+ℤ_one (negsuc (suc n))) (omega arith);
-    }
-
-pub minus_is : (n : ℕ) → pos 0 -ℤ pos n ≡ neg_ℤ (pos n)
-minus_is n = +ℤ_idl (neg_ℤ (pos n))
-
-pub minus-fits : (n : ℕ) → n < 2 ^ 63 → SFits w64 (pos 0 -ℤ pos n)
-minus-fits n h = rw (minus_is n) (go n h)
-  where
-    go : (k : ℕ) → k < 2 ^ 63 → SFits w64 (neg_ℤ (pos k))
-    go zero h = record { sfits = omega arith }
-    go (suc k) h = record { sfits = omega arith }
 
 -- ---- exponents
 pub biased-negative : (e : ℤ) → is_negative e ≡ true → bias - nat_abs e ≡ biased e

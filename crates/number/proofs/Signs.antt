@@ -1,12 +1,12 @@
--- Signed sums by the signs of their operands, where the code has its tests: `signed-sum-plain`, `signed-sum-negative`, `signed-sum-left` and
--- `signed-sum-right`; the difference of two sizes by their order (`signed-difference-below`, `signed-difference-not-below`); products.
+-- Signed sums by the signs of their operands, where the code has its tests: `signed-sum-alike`, `signed-sum-left` and `signed-sum-right`;
+-- the difference of two sizes by their order (`signed-difference-below`, `signed-difference-not-below`); products.
 use mathlib.Core.Path.{◌≡◌, refl, sym, ap, ap₂, ◌∙◌}
-use mathlib.Core.Bool.{Bool, true, false, xor, not, ◌&&◌, true≢false}
+use mathlib.Core.Bool.{Bool, true, false, xor, not, beq, ◌&&◌, true≢false, false≢true}
 use Prim.Native.Nat.{ℕ, zero, suc, ◌+◌, ◌-◌, ◌≤◌, ◌<◌, min}
 use native.Mathlib.Nat.{min_comm, mul-pos, sub-zero}
 use native.Mathlib.Omega.{arith}
-use borrow.Author.Tests.{lt-ltb, le-ltb, ltb-true, ltb-false, eq-eqb, ne_eqb}
-use lib.Dec.{ltb}
+use borrow.Author.Tests.{lt-ltb, le-ltb, ltb-true, ltb-false}
+use lib.Dec.{eqb, ltb}
 use lib.Pow.{pow_pos}
 use Rattle.number.proofs.Zero.{product-comm}
 use Rattle.number.specs.Number.{round, sum_of, sum_by, product_of}
@@ -48,6 +48,14 @@ below-not-below a b h =
     let l : ℕ = min a.x b.x in
     ap (λ (k : ℕ). ltb (integer_at k b) (integer_at k a)) (min_comm b.x a.x)
     ∙ le-ltb (integer_at l b) (integer_at l a) (omega (arith, ltb-true (integer_at l a) (integer_at l b) h))
+
+-- ---- a negative number is no zero
+pub negative-positive : {r : ℕ} (a : Signed) → SignedRanged r a → a.negative ≡ true → 0 < a.size.m
+negative-positive a u e = go a.size.m refl
+  where
+    go : (k : ℕ) → a.size.m ≡ k → 0 < a.size.m
+    go zero z = absurd (true≢false (sym e ∙ u.zero z))
+    go (suc k) z = omega arith
 
 -- ---- sums
 module _ (a b : Number) where
@@ -100,6 +108,24 @@ module _ (a b : Signed) where
   pub signed-sum-right : a.negative ≡ false → b.negative ≡ true → signed_sum a b ≡ signed_difference a.size b.size
   signed-sum-right e f = by-signs false true e f ∙ second-minus a.size b.size
 
+-- by one test of the signs: where they agree the sizes are added, else the first is negative, or the second
+module _ {r : ℕ} (a b : Signed) (A : SignedRanged r a) where
+  pub signed-sum-alike : beq a.negative b.negative ≡ true → signed_sum a b ≡ record { negative = a.negative; size = sum_of a.size b.size }
+  signed-sum-alike e = go a.negative b.negative refl refl e
+    where
+      go : (s t : Bool) → a.negative ≡ s → b.negative ≡ t → beq s t ≡ true
+          → signed_sum a b ≡ record { negative = a.negative; size = sum_of a.size b.size }
+      go true true f g e = signed-sum-negative a b f g (negative-positive a A f) ∙ ap (λ (s : Bool). record { negative = s; size = sum_of a.size b.size }) (sym f)
+      go false false f g e = signed-sum-plain a b f g ∙ ap (λ (s : Bool). record { negative = s; size = sum_of a.size b.size }) (sym f)
+      go true false f g e = absurd (false≢true e)
+      go false true f g e = absurd (false≢true e)
+
+pub other-sign : (s t : Bool) → beq s t ≡ false → t ≡ not s
+other-sign true true e = absurd (true≢false e)
+other-sign true false e = refl
+other-sign false true e = refl
+other-sign false false e = absurd (true≢false e)
+
 -- ---- products
 pub signed-product-comm : (a b : Signed) → signed_product a b ≡ signed_product b a
 unfolding signed_product xor
@@ -111,32 +137,13 @@ signed-product-comm a b = ap₂ with_sign (go a.negative b.negative) (product-co
     go false true = refl
     go false false = refl
 
-pub signed-product-zero : (a : Signed) (w : Number) → (product_of a.size w).m ≡ 0 → signed_product a (plain w) ≡ plain (product_of a.size w)
-unfolding signed_product with_sign
-signed-product-zero a w e =
-    ap (λ (t : Bool). record { negative = xor a.negative false && not t; size = product_of a.size w }) (eq-eqb (product_of a.size w).m 0 e)
-    ∙ go (xor a.negative false)
-  where
-    go : (s : Bool) → ◌≡◌ {A = Signed} (record { negative = s && false; size = product_of a.size w }) (plain (product_of a.size w))
-    go true = refl
-    go false = refl
-
-pub signed-product-sign : (a : Signed) (w : Number) → ((product_of a.size w).m ≡ 0 → ⊥)
-    → signed_product a (plain w) ≡ record { negative = a.negative; size = product_of a.size w }
+-- by a number with the sign plus
+pub signed-product-plain : (a : Signed) (w : Number)
+    → signed_product a (plain w) ≡ record { negative = a.negative && not (eqb (product_of a.size w).m 0); size = product_of a.size w }
 unfolding signed_product with_sign xor
-signed-product-sign a w e =
-    ap (λ (t : Bool). record { negative = xor a.negative false && not t; size = product_of a.size w }) (ne_eqb (product_of a.size w).m 0 e)
-    ∙ go a.negative
+signed-product-plain a w =
+    ap (λ (s : Bool). record { negative = s && not (eqb (product_of a.size w).m 0); size = product_of a.size w }) (go a.negative)
   where
-    go : (s : Bool)
-        → ◌≡◌ {A = Signed} (record { negative = xor s false && true; size = product_of a.size w }) (record { negative = s; size = product_of a.size w })
+    go : (s : Bool) → xor s false ≡ s
     go true = refl
     go false = refl
-
--- ---- a negative number is no zero
-pub negative-positive : {r : ℕ} (a : Signed) → SignedRanged r a → a.negative ≡ true → 0 < a.size.m
-negative-positive a u e = go a.size.m refl
-  where
-    go : (k : ℕ) → a.size.m ≡ k → 0 < a.size.m
-    go zero z = absurd (true≢false (sym e ∙ u.zero z))
-    go (suc k) z = omega arith

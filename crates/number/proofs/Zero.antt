@@ -12,7 +12,7 @@ use lib.Dec.{ltb}
 use lib.Pow.{pow_pos, pow-add}
 use Rattle.number.proofs.Rounding.{round-zero, round_exact, round-represents}
 use Rattle.number.proofs.Tests.{none}
-use Rattle.number.specs.Number.{bias, reach, zero_number, round_by, Ranged, sum_by, product_by, quotient_by}
+use Rattle.number.specs.Number.{bias, reach, zero_number, round_by, FullDigits, Ranged, sum_by, product_by, quotient_by}
 use Rattle.number.specs.declared.Direction.{Direction}
 use Rattle.number.specs.declared.Number.{Number}
 
@@ -128,16 +128,15 @@ quotient-zero w a b u v q =
 
 -- the operands in order: first the one whose exponent is not the lower, chosen by a test t
 module _ (w : Direction) (a b : Number) (A : Ranged reach a) (B : Ranged reach b) (ha : 0 < a.m) (hb : 0 < b.m) where
-  pub sum-ordered : (t : Bool) → ltb a.x b.x ≡ t → {p i q j : ℕ} → p ≡ cond t b.m a.m → i ≡ cond t b.x a.x
-      → q ≡ cond t a.m b.m → j ≡ cond t a.x b.x
-      → ((2 ^ 31 ≤ p) × (p < 2 ^ 32) × (q < 2 ^ 32) × (j ≤ i) × (32 ≤ j) × (i < 2 ^ 61)) × (round_by w (p * 2 ^ (i - j) + q) 1 j ≡ sum_by w a b)
-  sum-ordered true e ep ei eq ej =
-      let l : a.x < b.x = ltb-true a.x b.x e in (
-        omega (arith, A.high, A.start, B.low hb, B.high, B.stop),
-        rw (ep, ei, eq, ej) (sym (sum_is w b a (omega arith)) ∙ sum_comm w b a),
+  pub sum-ordered : (t : Bool) → ltb a.x b.x ≡ t → {c d : Number} → c ≡ cond t b a → d ≡ cond t a b
+      → (FullDigits c.m × (d.m < 2 ^ 32) × (d.x ≤ c.x) × (32 ≤ d.x) × (c.x < 2 ^ 61)) × (round_by w (c.m * 2 ^ (c.x - d.x) + d.m) 1 d.x ≡ sum_by w a b)
+  sum-ordered true e ec ed =
+      let l : a.x < b.x = ltb-true a.x b.x e in rw (ec, ed) (
+        (record { low = B.low hb; high = B.high }, A.high, omega arith, omega (arith, A.start), omega (arith, B.stop)),
+        sym (sum_is w b a (omega arith)) ∙ sum_comm w b a,
       )
-  sum-ordered false e ep ei eq ej =
-      let l : b.x ≤ a.x = ltb-false a.x b.x e in (
-        omega (arith, A.low ha, A.high, A.stop, B.high, B.start),
-        rw (ep, ei, eq, ej) (sym (sum_is w a b l)),
+  sum-ordered false e ec ed =
+      let l : b.x ≤ a.x = ltb-false a.x b.x e in rw (ec, ed) (
+        (record { low = A.low ha; high = A.high }, B.high, l, omega (arith, B.start), omega (arith, A.stop)),
+        sym (sum_is w a b l),
       )

@@ -3,7 +3,7 @@
 // `whole`, since nothing is carried; differences to nearest by `round_integer`. Where a caller names a direction, it is chosen when the code is compiled.
 #![tactic(auto)]
 
-ghost use Rattle.std.specs.Prelude.{◌≡◌, false, cond, ◌+◌, ◌-◌, ◌*◌, ◌^◌, ◌≤◌, ◌<◌, min};
+ghost use Rattle.std.specs.Prelude.{◌≡◌, false, cond, ◌+◌, ◌-◌, ◌*◌, ◌^◌, ◌≤◌, ◌<◌};
 ghost use Rattle.fraction.specs.Fraction.{fraction_sum, fraction_product, fraction_quotient};
 ghost use Rattle.number.specs.Number.{zero_number, one_number, natural_number, unbiased, round, round_by, sum_of, product_of, sum_by, product_by, quotient_by};
 ghost use Rattle.number.specs.Number.{value, Ranged, reach, exponent_of, in_range, FullDigits};
@@ -21,8 +21,9 @@ pub mod signed; // signed.rt: numbers with a sign
 pub const BIAS: u64 = 4194304;
 
 // m times 2 to the power x - BIAS. Zero has m 0 and x BIAS.
+// C fills the fields, so each operation asks for its range, and no ghost field holds it.
 #[repr(C)]
-#[derive(Clone, Copy)]
+#[derive(Clone, Copy, PartialEq, Eq)]
 pub struct Number {
     pub m: u64,
     pub x: u64,
@@ -51,6 +52,16 @@ fn either(first: bool, a: u64, b: u64) -> u64
     if first { a } else { b }
 }
 
+// The same of numbers: a branch on the order of two operands is slower wherever the order is hard to foretell.
+fn either_number(first: bool, a: Number, b: Number) -> Number
+    ensures { result ≡ cond first a b }
+{
+    Number {
+        m: either(first, a.m, b.m),
+        x: either(first, a.x, b.x),
+    }
+}
+
 pub fn power(k: u64) -> u64
     requires { k < 64 }
     ensures { result ≡ 2 ^ k }
@@ -73,17 +84,11 @@ fn quotient(a: u64, b: u64, x: u64, direction: Direction) -> Number
     Number { m, x: y }
 }
 
-fn lower(a: u64, b: u64) -> u64
-    ensures { result ≡ min a b }
-{
-    if a < b { a } else { b }
-}
-
 // Whether digits were dropped, as a number.
 fn unlike(a: u64, b: u64) -> u64
     ensures { result ≡ unlike_of a b }
 {
-    if a == b { 0 } else { 1 }
+    u64::from(a != b)
 }
 
 // Twice the sum of a and of b moved k places down, both with 30 more digits, and 1 more where digits of b are dropped.
@@ -99,31 +104,30 @@ fn aligned(a: u64, b: u64, k: u64) -> u64
 
 // The sum, where the second exponent is not above the first. Up to 31 places apart it is exact before it is rounded; from 32 on it rounds as the exact one,
 // in every direction, since a digit stands for those of b that are dropped.
-fn sum(a: u64, i: u64, b: u64, j: u64, direction: Direction) -> Number
-    requires { (2 ^ 31 ≤ a) × (a < 2 ^ 32) × (b < 2 ^ 32) × (j ≤ i) × (32 ≤ j) × (i < 2 ^ 61) }
-    ensures { result ≡ round_by direction (a * 2 ^ (i - j) + b) 1 j }
+fn sum(a: Number, b: Number, direction: Direction) -> Number
+    requires { FullDigits a.m × (b.m < 2 ^ 32) × (b.x ≤ a.x) × (32 ≤ b.x) × (a.x < 2 ^ 61) }
+    ensures { result ≡ round_by direction (a.m * 2 ^ (a.x - b.x) + b.m) 1 b.x }
 {
-    roundings::kept(aligned(a, b, lower(i - j, 63)), i - 31, direction)
+    let k = (a.x - b.x).min(63);
+    roundings::kept(aligned(a.m, b.m, k), a.x - 31, direction)
 }
 
 // The difference, where the second number is the smaller and its exponent not above the first's.
 // From 33 places on the second is less than half a unit of the first's last place; an eighth stands for it. But below 2^31 units are
 // half as large: there 33 places are worked in full, 2^64 less the second number.
-fn difference(a: u64, i: u64, b: u64, j: u64) -> Number
-    requires { (2 ^ 31 ≤ a) × (a < 2 ^ 32) × (0 < b) × (b < 2 ^ 32) × (j ≤ i) × (32 ≤ j) × (i < 2 ^ 61) × (b < a * 2 ^ (i - j)) }
-    ensures { result ≡ round (a * 2 ^ (i - j) - b) 1 j }
+fn difference(a: Number, b: Number) -> Number
+    requires { FullDigits a.m × (0 < b.m) × (b.m < 2 ^ 32) × (b.x ≤ a.x) × (32 ≤ b.x) × (a.x < 2 ^ 61) × (b.m < a.m * 2 ^ (a.x - b.x)) }
+    ensures { result ≡ round (a.m * 2 ^ (a.x - b.x) - b.m) 1 b.x }
 {
-    let k = i - j;
+    let k = a.x - b.x;
     if k < 33 {
-        return roundings::round_integer(a * power(k) - b, j);
+        return roundings::round_integer(a.m * power(k) - b.m, b.x);
     }
-    if k == 33 {
-        let is_power = a == 0x8000_0000;
-        if is_power {
-            return roundings::round_integer(u64::MAX - b + 1, j);
-        }
+    let is_power = a.m == 0x8000_0000;
+    if k == 33 && is_power {
+        return roundings::round_integer(u64::MAX - b.m + 1, b.x);
     }
-    roundings::round_integer(a * 8 - 1, i - 3)
+    roundings::round_integer(a.m * 8 - 1, a.x - 3)
 }
 
 impl Number {
@@ -162,10 +166,7 @@ impl Number {
     pub fn in_range(self) -> bool
         ensures { result ≡ in_range self }
     {
-        if self.x < BIAS - 1000 {
-            return false;
-        }
-        self.x <= BIAS + 1000
+        BIAS - 1000 <= self.x && self.x <= BIAS + 1000
     }
 
     pub fn add(self, other: Number, direction: Direction) -> Number
@@ -181,10 +182,8 @@ impl Number {
         }
         let turned = self.x < other.x;
         sum(
-            either(turned, other.m, self.m),
-            either(turned, other.x, self.x),
-            either(turned, self.m, other.m),
-            either(turned, self.x, other.x),
+            either_number(turned, other, self),
+            either_number(turned, self, other),
             direction,
         )
     }
@@ -231,16 +230,10 @@ impl Number {
         if other.m == 0 {
             return false;
         }
-        if self.m == 0 {
+        if self.m == 0 || self.x < other.x {
             return true;
         }
-        if self.x < other.x {
-            return true;
-        }
-        if other.x < self.x {
-            return false;
-        }
-        self.m < other.m
+        self.x == other.x && self.m < other.m
     }
 
     // This number less one that is not larger. A difference of equals is zero.
@@ -251,11 +244,9 @@ impl Number {
         if other.m == 0 {
             return self;
         }
-        if self.x == other.x {
-            if self.m == other.m {
-                return Number { m: 0, x: BIAS };
-            }
+        if self == other {
+            return Number::zero();
         }
-        difference(self.m, self.x, other.m, other.x)
+        difference(self, other)
     }
 }

@@ -64,7 +64,7 @@ pub fn round_integer(n: u64, x: u64) -> Number
     requires { (0 < n) × (32 ≤ x) × (x < 2 ^ 61) }
     ensures { result ≡ round n 1 x }
 {
-    let z = u64::leading_zeros(n) as u64;
+    let z = u64::from(n.leading_zeros());
     if z < 32 {
         return round_long(n, 32 - z, x);
     }

@@ -21,9 +21,9 @@ use Rattle.table.proofs.RowByRow.{row-by-row-same}
 use Rattle.table.proofs.Table.{table_same}
 use Rattle.rowset.proofs.Masks.{of_mask-length}
 use Rattle.rowset.proofs.Counts.{mask-count}
-use Rattle.verdict.specs.declared.Verdict.{Verdict}
-use Rattle.verdict.specs.declared.Verdict.TheVariants.{Accepted, Refused}
-use Rattle.verdict.specs.Verdict.{first_of, after, when, or_else}
+use Rattle.std.specs.Prelude.{Ok, Err}
+use Rattle.verdict.specs.declared.Reason.TheVariants.{ExponentOutOfRange, Singular}
+use Rattle.verdict.specs.Verdict.{Verdict, first_of, after, when, or_else}
 use Rattle.verdict.specs.Report.{report_of}
 use Rattle.verdict.proofs.Verdicts.{first-last}
 use Rattle.places.specs.declared.Shelf.{Shelf}
@@ -41,30 +41,32 @@ use Rattle.operations.proofs.Results.{chosen-fit}
 module _ (s : Shelf) (t n : ℕ) (o : Operation Number) where
   -- what it leaves and returns behind a verdict, by its factors row by row and in a table
   left : Verdict → (rows table : List Number) → Outcome
-  left v rows table = let w = or_else v (when (outside rows) 14) in outcome (after w s (with_table s t (size n o) table)) (report_of w (pos (bound n o) ∷ []))
+  left v rows table =
+      let w = or_else v (when (outside rows) ExponentOutOfRange) in
+      outcome (after w s (with_table s t (size n o) table)) (report_of w (pos (bound n o) ∷ []))
 
   -- where the verdict accepts, the factors are as before; else they are not looked at
-  by-verdict : (v : Verdict) → (v ≡ Accepted → AsBefore n o)
+  by-verdict : (v : Verdict) → (v ≡ Ok tt → AsBefore n o)
       → left v (row_by_row (size n o) (result rounded n o)) (table_of (size n o) (result rounded n o))
       ≡ left v (row_by_row (size n o) (old_factors n o)) (table_of (size n o) (old_factors n o))
   unfolding left
-  by-verdict Accepted h =
+  by-verdict (Ok tt) h =
       let same = (h refl).as-rounded in
-      ap₂ (left Accepted) (row-by-row-same zero_number (size n o) _ _ same) (table_same (size n o) _ _ same)
-  by-verdict (Refused w) h = refl
+      ap₂ (left (Ok tt)) (row-by-row-same zero_number (size n o) _ _ same) (table_same (size n o) _ _ same)
+  by-verdict (Err w) h = refl
 
   -- a report behind a verdict, with its bound alone
   bound-alone : (b e : ℕ) (v : Verdict) → bound_alone (report_of v (done b e)) ≡ report_of v (pos b ∷ [])
-  bound-alone b e Accepted = refl
-  bound-alone b e (Refused w) = refl
+  bound-alone b e (Ok tt) = refl
+  bound-alone b e (Err w) = refl
 
-  call-before : (L M : List Verdict) → first_of L ≡ first_of M → (first_of M ≡ Accepted → AsBefore n o)
+  call-before : (L M : List Verdict) → first_of L ≡ first_of M → (first_of M ≡ Ok tt → AsBefore n o)
       → without_steps (operation_call s L t n o) ≡ old_call s M t n o
   unfolding operation_call left
   call-before L M same h =
       ap (outcome (after (operation_verdict L n o) s (holding s t (size n o) (result rounded n o)))) (bound-alone (bound n o) _ (operation_verdict L n o))
       ∙ ap (λ (v : Verdict). resulting s t v (size n o) (pos (bound n o) ∷ []) (result rounded n o))
-      (first-last L _ ∙ ap (λ (v : Verdict). or_else v (when (outside (row_by_row (size n o) (result rounded n o))) 14)) same)
+      (first-last L _ ∙ ap (λ (v : Verdict). or_else v (when (outside (row_by_row (size n o) (result rounded n o))) ExponentOutOfRange)) same)
       ∙ by-verdict (first_of M) h
       ∙ sym (ap (λ (v : Verdict). resulting s t v (size n o) (pos (bound n o) ∷ []) (old_factors n o)) (first-last M _))
 
@@ -74,21 +76,21 @@ module _ (s : Shelf) (good : Good s) where
       → AsBefore (rows_at s p) o
   source-before p o six a proper = as_before (rows_at s p) o proper a.some (good.held p a.small).few six
 
-  product-same : (l r t : ℕ) → WithoutZeros s l → WithoutZeros s r → first_of (two_sources s l r t) ≡ Accepted → AsBefore (rows_at s l) (product_at s l r)
+  product-same : (l r t : ℕ) → WithoutZeros s l → WithoutZeros s r → first_of (two_sources s l r t) ≡ Ok tt → AsBefore (rows_at s l) (product_at s l r)
   product-same l r t left right e =
       let a = (to-accepted (rows_at s) (l ∷ r ∷ []) t (omega arith) e).0 in
       let both : Each Stored (rows_at s l) (factors_at s r) = subst (λ (n : ℕ). Each Stored n (factors_at s r)) a.1.2.1 right in
       source-before l (product_at s l r) (omega arith) (record { small = a.1.0; some = a.0 }) (record { sources = (left, (both, tt)); fit = omega arith })
 
   module _ (p t : ℕ) (stored : WithoutZeros s p) where
-    taken-same : (w : Way) → first_of (one_source s p t) ≡ Accepted → AsBefore (rows_at s p) (joined (step w (factors_at s p) ∷ []))
+    taken-same : (w : Way) → first_of (one_source s p t) ≡ Ok tt → AsBefore (rows_at s p) (joined (step w (factors_at s p) ∷ []))
     taken-same w e = source-before p _ (omega arith) (one-accepted s p t e).0 (record { sources = (stored, tt); fit = omega arith })
 
     module _ (I J : ℕ) where
       abbrev n : ℕ
       n = rows_at s p
 
-      chosen-same : first_of (chosen_tests s p I J t) ≡ Accepted → AsBefore (rows_at s p) (submatrix_at s p I J)
+      chosen-same : first_of (chosen_tests s p I J t) ≡ Ok tt → AsBefore (rows_at s p) (submatrix_at s p I J)
       chosen-same e =
           let a = chosen-fit s p I J t e in
           let few = (good.held p a.0.small).few in
@@ -110,9 +112,9 @@ module _ (s : Shelf) (good : Good s) where
       chosen-before : first_of (submatrix_tests s p I J t) ≡ first_of (chosen_tests s p I J t)
       chosen-before = first-last (chosen_tests s p I J t) _ ∙ by (first_of (chosen_tests s p I J t)) refl
         where
-          by : (v : Verdict) → first_of (chosen_tests s p I J t) ≡ v → or_else v (when (singular (rows_at s p) (submatrix_at s p I J)) 17) ≡ v
-          by Accepted e = ap (λ (b : Bool). when b 17) (regular-same (chosen-same e))
-          by (Refused w) e = refl
+          by : (v : Verdict) → first_of (chosen_tests s p I J t) ≡ v → or_else v (when (singular (rows_at s p) (submatrix_at s p I J)) Singular) ≡ v
+          by (Ok tt) e = ap (λ (b : Bool). when b Singular) (regular-same (chosen-same e))
+          by (Err w) e = refl
 
   -- THE OLD RESULT OF EVERY OPERATION
   pub calls-before : CallsBefore s

@@ -17,9 +17,10 @@ use Rattle.words.specs.Effort.{steps_made, steps_foretold, whole_steps}
 use Rattle.words.proofs.Totals.{whole-total}
 use Rattle.table.specs.Table.{outside}
 use Rattle.verdict.specs.declared.Refusal.{Refusal}
-use Rattle.verdict.specs.declared.Verdict.{Verdict}
-use Rattle.verdict.specs.declared.Verdict.TheVariants.{Accepted, Refused}
-use Rattle.verdict.specs.Verdict.{first_behind, first_of, or_else, when}
+use Rattle.std.specs.Prelude.{Ok, Err}
+use Rattle.verdict.specs.declared.Reason.{Reason}
+use Rattle.verdict.specs.declared.Reason.TheVariants.{ExponentOutOfRange, Singular, WrongStepCount}
+use Rattle.verdict.specs.Verdict.{Verdict, number_of, first_behind, first_of, or_else, when}
 use Rattle.verdict.specs.Report.{Report, accepted, refused, report_of}
 use Rattle.verdict.proofs.Verdicts.{or-else-accepted, or-else-both, first-behind, first-last, first-passed, when-accepted, when-refused, when-left}
 use Rattle.conditions.specs.Conditions.{miscounted, misclamped, sources_alone, sources_to, recipe_alone}
@@ -35,7 +36,6 @@ use Rattle.places.specs.Tests.{unfit, source_tests, both_sources, one_source, tw
 use Rattle.places.proofs.Verdicts.{one-accepted}
 use Rattle.operations.specs.declared.Task.{Task}
 use Rattle.operations.specs.declared.Task.TheVariants.{Product, Inverse, Converse, Transpose, Submatrix, Schur}
-use Rattle.operations.specs.declared.Foretold.TheVariants as foretold
 use Rattle.operations.specs.Operations.{done, factor_test, operation_verdict, operation_call, transpose_call, product_at, inverse_at, converse_at, submatrix_at}
 use Rattle.operations.specs.Operations.{step_with, joined_rows, joined_at, recipe_tests, recipe_call}
 use Rattle.operations.specs.Operations.{schur_at, singular, chosen_tests, submatrix_tests, set_tests, clamped_tests}
@@ -46,43 +46,43 @@ use Rattle.operations.proofs.Results.{Ready, ready-foretold, submatrix-ready, sc
 use Rattle.operations.proofs.Recipes.{product-ready, whole_ready, recipe-ready, rows-others}
 
 module _ (L : List Verdict) where
-  pub told-refused : (w : Refusal) (n : ℕ) → first_of L ≡ Refused w → foretold_report (foretold.Refused w) ≡ foretelling L n
+  pub told-refused : (w : Refusal) (n : ℕ) → first_of L ≡ Err w → foretold_report (Err w) ≡ foretelling L n
   told-refused w n e = ap (λ (v : Verdict). report_of v (pos n ∷ [])) (sym e)
 
-  pub told-steps : (k n : ℕ) → first_of L ≡ Accepted → k ≡ n → foretold_report (foretold.Steps k) ≡ foretelling L n
+  pub told-steps : (k n : ℕ) → first_of L ≡ Ok tt → k ≡ n → foretold_report (Ok k) ≡ foretelling L n
   told-steps k n e f = ap (λ (x : ℕ). accepted (pos x ∷ [])) f ∙ ap (λ (v : Verdict). report_of v (pos n ∷ [])) (sym e)
 
   -- behind a test that passed
-  pub told-behind : {c : Bool} (k n : ℕ) → c ≡ false → foretelling L n ≡ foretelling (when c k ∷ L) n
+  pub told-behind : {c : Bool} (k : Reason) (n : ℕ) → c ≡ false → foretelling L n ≡ foretelling (when c k ∷ L) n
   told-behind k n e = ap (λ (v : Verdict). report_of v (pos n ∷ [])) (sym (when-left k L e))
 
 -- behind the verdict v of a forecast, 17 where c holds and then 14 where b does
 told-by : (F : ℕ → Type 0) (v : Verdict) (c b : Bool) (k made steps : ℕ) → (c ≡ true → F 17) → (b ≡ true → F 14)
-    → (or_else (or_else v (when c 17)) (when b 14) ≡ Accepted → made ≡ steps)
-    → Foretells F (report_of v (pos steps ∷ [])) (report_of (or_else (or_else v (when c 17)) (when b 14)) (done k made))
-told-by F (Refused w) c b k made steps p q h = forecast.turned_down w.number w.offset refl refl
-told-by F Accepted true b k made steps p q h = forecast.found-out steps 17 refl refl (p refl)
-told-by F Accepted false true k made steps p q h = forecast.found-out steps 14 refl refl (q refl)
-told-by F Accepted false false k made steps p q h = forecast.done-in k steps refl (ap (λ (e : ℕ). accepted (done k e)) (h refl))
+    → (or_else (or_else v (when c Singular)) (when b ExponentOutOfRange) ≡ Ok tt → made ≡ steps)
+    → Foretells F (report_of v (pos steps ∷ [])) (report_of (or_else (or_else v (when c Singular)) (when b ExponentOutOfRange)) (done k made))
+told-by F (Err w) c b k made steps p q h = forecast.turned_down (number_of w.reason) w.offset refl refl
+told-by F (Ok tt) true b k made steps p q h = forecast.found-out steps 17 refl refl (p refl)
+told-by F (Ok tt) false true k made steps p q h = forecast.found-out steps 14 refl refl (q refl)
+told-by F (Ok tt) false false k made steps p q h = forecast.done-in k steps refl (ap (λ (e : ℕ). accepted (done k e)) (h refl))
 
 -- the operation x behind the tests L, where the forecast's are T
 operation-tells : (s : Shelf) (F : ℕ → Type 0) (L T : List Verdict) (c : Bool) (t n : ℕ) (x : Operation Number) → (c ≡ true → F 17) → F 14
-    → first_of L ≡ or_else (first_of T) (when c 17) → (first_of L ≡ Accepted → Ready t n x)
+    → first_of L ≡ or_else (first_of T) (when c Singular) → (first_of L ≡ Ok tt → Ready t n x)
     → Foretells F (foretelling T (steps_foretold n x)) (operation_call s L t n x).report
 unfolding operation_call
 operation-tells s F L T c t n x p r e ready =
-    let q : operation_verdict L n x ≡ or_else (or_else (first_of T) (when c 17)) (factor_test n x)
+    let q : operation_verdict L n x ≡ or_else (or_else (first_of T) (when c Singular)) (factor_test n x)
     = first-last L (factor_test n x) ∙ ap (λ (v : Verdict). or_else v (factor_test n x)) e in
     subst (λ (v : Verdict). Foretells F (foretelling T (steps_foretold n x)) (report_of v (done (bound n x) (steps_made rounded n x)))) (sym q)
     (told-by F (first_of T) c (outside (row_by_row (size n x) (result rounded n x))) (bound n x) _ _ p (λ b. r)
-    (λ h. ready-foretold (ready (e ∙ (or-else-both (or_else (first_of T) (when c 17)) (factor_test n x) h).0))))
+    (λ h. ready-foretold (ready (e ∙ (or-else-both (or_else (first_of T) (when c Singular)) (factor_test n x) h).0))))
 
 -- 17 is not tested
 not_tested : {A : Type 0} → false ≡ true → A
 not_tested e = absurd (false≢true e)
 
 -- steps joined, where 17 is not tested
-joined-tells : (s : Shelf) (L T : List Verdict) (t n : ℕ) (x : Operation Number) → first_of L ≡ first_of T → (first_of L ≡ Accepted → Ready t n x)
+joined-tells : (s : Shelf) (L T : List Verdict) (t n : ℕ) (x : Operation Number) → first_of L ≡ first_of T → (first_of L ≡ Ok tt → Ready t n x)
     → Foretells (λ k. k ≡ 14) (foretelling T (steps_foretold n x)) (operation_call s L t n x).report
 joined-tells s L T t n x e ready = operation-tells s (λ k. k ≡ 14) L T false t n x not_tested refl (e ∙ sym (or-else-accepted (first_of T))) ready
 
@@ -97,12 +97,12 @@ to-empty s g (Converse p) t small none =
     joined-tells s (one_source s p t) (source_tests s p) t (rows_at s p) (converse_at s p) (apart (rows_at s) (p ∷ []) t small none) (whole_ready s g Conversed p t)
 to-empty s g (Transpose p) t small none =
     let v = first_of (source_tests s p) in
-    let q : first_of (one_source s p t) ≡ or_else (or_else v Accepted) Accepted
-    = apart (rows_at s) (p ∷ []) t small none ∙ sym (or-else-accepted v) ∙ sym (or-else-accepted (or_else v Accepted)) in
+    let q : first_of (one_source s p t) ≡ or_else (or_else v (Ok tt)) (Ok tt)
+    = apart (rows_at s) (p ∷ []) t small none ∙ sym (or-else-accepted v) ∙ sym (or-else-accepted (or_else v (Ok tt))) in
     subst (λ (u : Verdict). Foretells (Found (Transpose p)) (foretelling (source_tests s p) 0) (report_of u (done 0 0))) (sym q)
     (told-by (Found (Transpose p)) v false false 0 0 0 not_tested not_tested (λ h. refl))
 to-empty s g (Submatrix p I J) t small none =
-    let w = when (singular (rows_at s p) (submatrix_at s p I J)) 17 in
+    let w = when (singular (rows_at s p) (submatrix_at s p I J)) Singular in
     operation-tells s (Found (Submatrix p I J)) (submatrix_tests s p I J t) (set_tests s p I J) (singular (rows_at s p) (submatrix_at s p I J)) t (rows_at s p)
     (submatrix_at s p I J) (λ e. inr refl) (inl refl)
     (first-last (chosen_tests s p I J t) w ∙ ap (λ (v : Verdict). or_else v w) (choice-apart (rows_at s) p (unfit (rows_at s p) I J) t small none))
@@ -120,9 +120,9 @@ abbrev second : Report → ℕ
 second (accepted values) = nat_abs (get_or values 1 (pos 0))
 second (refused k o) = 0
 
-passed : (v : Verdict) (k e : ℕ) (r : Report) → report_of v (done k e) ≡ r → is_accepted r ≡ true → v ≡ Accepted
-passed Accepted k e r h a = refl
-passed (Refused w) k e r h a = absurd (false≢true (ap is_accepted h ∙ a))
+passed : (v : Verdict) (k e : ℕ) (r : Report) → report_of v (done k e) ≡ r → is_accepted r ≡ true → v ≡ Ok tt
+passed (Ok tt) k e r h a = refl
+passed (Err w) k e r h a = absurd (false≢true (ap is_accepted h ∙ a))
 
 task-target : (s : Shelf) (o : Task) (t : ℕ) (r : Report) → (task_call s o t).report ≡ r → is_accepted r ≡ true → Target (rows_at s) t
 unfolding transpose_call operation_call
@@ -159,7 +159,7 @@ module _ (s : Shelf) (g : Good s) (r : Recipe) (long : length r.steps ≡ 6) whe
   recipe-apart : (t : ℕ) → t < 8 → rows_at s t ≡ 0 → first_of (recipe_tests s r t) ≡ first_of tests
   unfolding first_behind
   recipe-apart t small none =
-      let w = when (miscounted r.count) 18 in
+      let w = when (miscounted r.count) WrongStepCount in
       first-behind w (sources_to (rows_at s) (places_in r) t) ∙ ap (or_else w) (apart (rows_at s) (places_in r) t small none)
       ∙ sym (first-behind w (sources_alone (rows_at s) (places_in r)))
 
@@ -172,7 +172,7 @@ module _ (s : Shelf) (g : Good s) (r : Recipe) (long : length r.steps ≡ 6) whe
   unfolding operation_call
   recipe-target t x h a =
       to-target (rows_at s) (places_in r) t
-      (when-accepted (miscounted r.count) 18 (sources_to (rows_at s) (places_in r) t) (first-passed (recipe_tests s r t) _ (passed _ _ _ x h a)).0).1
+      (when-accepted (miscounted r.count) WrongStepCount (sources_to (rows_at s) (places_in r) t) (first-passed (recipe_tests s r t) _ (passed _ _ _ x h a)).0).1
 
   pub recipe-made : (t b e : ℕ) → (recipe_call s r t).report ≡ accepted (done b e) → recipe_forecast s r ≡ accepted (pos e ∷ [])
   recipe-made t b e h = let a = recipe-target t _ h refl in made_by (recipe-to-empty t a.small a.none) b e h
@@ -183,7 +183,7 @@ module _ (s : Shelf) (g : Good s) (r : Recipe) (long : length r.steps ≡ 6) whe
 -- where the count is wrong, nothing else has a part
 miscounted-told : (s : Shelf) (r : Recipe) (n : ℕ) → miscounted r.count ≡ true
     → foretelling (recipe_alone (rows_at s) r.count (places_in r)) n ≡ refused 18 0
-miscounted-told s r n e = ap (λ (v : Verdict). report_of v (pos n ∷ [])) (when-refused 18 (sources_alone (rows_at s) (places_in r)) e)
+miscounted-told s r n e = ap (λ (v : Verdict). report_of v (pos n ∷ [])) (when-refused WrongStepCount (sources_alone (rows_at s) (places_in r)) e)
 
 -- what stands behind the count changes nothing here either
 pub forecast-others : (s : Shelf) (r q : Recipe) → r.count ≡ q.count → steps_in r ≡ steps_in q → recipe_forecast s r ≡ recipe_forecast s q

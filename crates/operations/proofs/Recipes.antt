@@ -1,4 +1,4 @@
--- STEPS JOINED. The steps of a recipe as they are put one after the other (`steps-none`, `steps_next`, `steps-put`). Where the tests of one to six sources
+-- STEPS JOINED. The steps of a recipe as they are put one after the other (`steps-none`, `steps_next`). Where the tests of one to six sources
 -- passed, each is a place (`joined_small`), and the rule can be run (`joined-ready`, and so `product-ready`, `whole_ready`, `recipe-ready`); how many rows they
 -- have without a target (`alone-rows`). What stands behind the count changes nothing (`recipe-others`), and two plain steps are the product call
 -- (`recipe-product`).
@@ -16,9 +16,9 @@ use Rattle.words.specs.Effort.{steps_made}
 use Rattle.words.specs.Sources.{BandedNumbers, Sources}
 use Rattle.factors.specs.Demand.{Proper}
 use Rattle.verdict.specs.declared.Refusal.{Refusal}
-use Rattle.verdict.specs.declared.Verdict.{Verdict}
-use Rattle.verdict.specs.declared.Verdict.TheVariants.{Accepted, Refused}
-use Rattle.verdict.specs.Verdict.{first_behind, first_of, or_else}
+use Rattle.std.specs.Prelude.{Ok, Err}
+use Rattle.verdict.specs.declared.Reason.TheVariants.{WrongStepCount}
+use Rattle.verdict.specs.Verdict.{Verdict, number_of, first_behind, first_of, or_else}
 use Rattle.verdict.specs.Report.{refused}
 use Rattle.verdict.proofs.Verdicts.{first-last, when-accepted, when-refused}
 use Rattle.conditions.specs.Conditions.{miscounted, sources_alone, sources_to, recipe_to}
@@ -59,9 +59,6 @@ module _ (s : Shelf) (n : ℕ) (L : List RecipeStep) where
       (sym (map_next (step_with s) L c (taken Plain 0) h) ∙ ap (λ (m : ℕ). map (step_with s) (take m L)) z)
       (made-next (step_with s (get_or L c (taken Plain 0))) p g)
 
-  pub steps-put : {c m : ℕ} {w : Joined} {l b : List ℕ} → Put c w l b → c ≤ m → m ≤ c → Put m w l b
-  steps-put {c} {m} {w} {l} {b} p h g = let z : c ≡ m = omega arith in subst (λ (k : ℕ). Put k w l b) z p
-
 -- WHERE THE TESTS OF THE SOURCES PASSED
 held_small : (rows : ℕ → ℕ) (n : ℕ) (L : List ℕ) → Held rows n L → (c : ℕ) → c < length L → get_or L c 0 < 8
 held_small rows n [] h c l = absurd (not-suc-le-zero l)
@@ -79,12 +76,12 @@ module _ (s : Shelf) (r : Recipe) (long : length r.steps ≡ 6) (low : 1 ≤ r.c
   small n h c l = subst (λ (p : ℕ). p < 8) (place_at r c l) (held_small (rows_at s) n (places_in r) h c (omega (arith, many place_of, l)))
 
   -- without a target
-  pub alone-rows : Good s → first_of (sources_alone (rows_at s) (places_in r)) ≡ Accepted → (1 ≤ joined_rows s r) × (joined_rows s r ≤ 8)
+  pub alone-rows : Good s → first_of (sources_alone (rows_at s) (places_in r)) ≡ Ok tt → (1 ≤ joined_rows s r) × (joined_rows s r ≤ 8)
   alone-rows good e =
       let h = alone-accepted (rows_at s) (places_in r) (places-some s r long low high) e in
       (subst (λ (n : ℕ). 1 ≤ n) first_rows h.0, (good.held (place_of (slot_at r 0)) (small _ h.1 0 low)).few)
 
-  module _ (t : ℕ) (e : first_of (sources_to (rows_at s) (places_in r) t) ≡ Accepted) where
+  module _ (t : ℕ) (e : first_of (sources_to (rows_at s) (places_in r) t) ≡ Ok tt) where
     shown : ((0 < rows_at s (get_or (places_in r) 0 0)) × Held (rows_at s) (rows_at s (get_or (places_in r) 0 0)) (places_in r)) × Target (rows_at s) t
     shown = to-accepted (rows_at s) (places_in r) t (places-some s r long low high) e
 
@@ -118,22 +115,22 @@ module _ (s : Shelf) (r : Recipe) (long : length r.steps ≡ 6) (low : 1 ≤ r.c
 
 -- ONE STEP AND TWO
 module _ (s : Shelf) (good : Good s) where
-  pub product-ready : (l r t : ℕ) → first_of (two_sources s l r t) ≡ Accepted → Ready t (rows_at s l) (product_at s l r)
+  pub product-ready : (l r t : ℕ) → first_of (two_sources s l r t) ≡ Ok tt → Ready t (rows_at s l) (product_at s l r)
   product-ready l r t e = joined-ready s (two_steps l r) refl (omega arith) (omega arith) t e good
 
-  pub whole_ready : (w : Way) (p t : ℕ) → first_of (one_source s p t) ≡ Accepted → Ready t (rows_at s p) (joined_at s (one_step w p))
+  pub whole_ready : (w : Way) (p t : ℕ) → first_of (one_source s p t) ≡ Ok tt → Ready t (rows_at s p) (joined_at s (one_step w p))
   whole_ready w p t e = joined-ready s (one_step w p) refl (omega arith) (omega arith) t e good
 
   -- a recipe that was accepted has two to six
-  pub recipe-ready : (r : Recipe) (t : ℕ) → length r.steps ≡ 6 → first_of (recipe_tests s r t) ≡ Accepted → Ready t (joined_rows s r) (joined_at s r)
+  pub recipe-ready : (r : Recipe) (t : ℕ) → length r.steps ≡ 6 → first_of (recipe_tests s r t) ≡ Ok tt → Ready t (joined_rows s r) (joined_at s r)
   recipe-ready r t long e =
-      let a = when-accepted (miscounted r.count) 18 (sources_to (rows_at s) (places_in r) t) e in
+      let a = when-accepted (miscounted r.count) WrongStepCount (sources_to (rows_at s) (places_in r) t) e in
       let c = counted r.count a.0 in
       joined-ready s r long (omega (arith, c.0)) c.1 t a.1 good
 
 -- WHAT STANDS BEHIND THE COUNT changes nothing: recipes of the same steps are the same call
-turned : (s : Shelf) (L : List Verdict) (t n : ℕ) (o : Operation Number) (w : Refusal) → first_of L ≡ Refused w
-    → operation_call s L t n o ≡ outcome s (refused w.number w.offset)
+turned : (s : Shelf) (L : List Verdict) (t n : ℕ) (o : Operation Number) (w : Refusal) → first_of L ≡ Err w
+    → operation_call s L t n o ≡ outcome s (refused (number_of w.reason) w.offset)
 unfolding operation_call
 turned s L t n o w e =
     ap (λ (v : Verdict). resulting s t v (size n o) (done (bound n o) (steps_made rounded n o)) (result rounded n o))
@@ -148,8 +145,9 @@ recipe-others s r q t many same = by (miscounted r.count) refl
   where
     by : (b : Bool) → miscounted r.count ≡ b → recipe_call s r t ≡ recipe_call s q t
     by true e =
-        turned s (recipe_tests s r t) t _ _ (record { number = 18; offset = 0 }) (when-refused 18 _ e)
-        ∙ sym (turned s (recipe_tests s q t) t _ _ (record { number = 18; offset = 0 }) (when-refused 18 _ (sym (ap miscounted many) ∙ e)))
+        turned s (recipe_tests s r t) t _ _ (record { reason = WrongStepCount; offset = 0 }) (when-refused WrongStepCount _ e)
+        ∙ sym (turned s (recipe_tests s q t) t _ _ (record { reason = WrongStepCount; offset = 0 })
+        (when-refused WrongStepCount _ (sym (ap miscounted many) ∙ e)))
     by false e =
         ap₂ (λ (m : ℕ) (L : List RecipeStep). operation_call s (recipe_to (rows_at s) m (map place_of L) t) t (joined_rows s r) (joined (map (step_with s) L)))
         many same

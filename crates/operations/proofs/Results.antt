@@ -1,12 +1,12 @@
 -- The rule's operations on places. Where the tests of the places passed, the rule can be run (`Ready`, `submatrix-ready`, `schur-ready`; of steps joined,
 -- Recipes) and demand 3 holds (`ready-demand`, in plain words `ready-close`), and the steps made are those foretold (`ready-foretold`); what is accepted can be
 -- kept, the shelf stays good, and what was promised holds (`operation-fits`, `operation-good`, `operation-met`). The result by what was found:
--- `operation-turned`, `operation-ranged`. A submatrix is singular where its rounded minor is zero (`singular-tested`), which is how its tests are worked
+-- `proposed-turned`, `operation-ranged`. A submatrix is singular where its rounded minor is zero (`singular-tested`), which is how its tests are worked
 -- (`chosen-tested`).
 use Prim.Native.Nat.{ℕ, ◌<◌, ◌≤◌}
 use native.Mathlib.Omega.{arith}
 use mathlib.Core.Path.{◌≡◌, refl, sym, ap, ap₂, ◌∙◌}
-use mathlib.Core.Bool.{Bool, true, false, cond}
+use mathlib.Core.Bool.{Bool, true, false}
 use mathlib.Core.List.{List, [], ◌∷◌, ◌++◌}
 use lib.Dec.{eqb}
 use lib.ListN.{length}
@@ -33,24 +33,23 @@ use Rattle.table.specs.Table.{table_of, outside}
 use Rattle.rule.specs.declared.Refactored.{Refactored}
 use Rattle.places.specs.declared.Shelf.{Shelf}
 use Rattle.verdict.specs.declared.Refusal.{Refusal}
-use Rattle.verdict.specs.declared.Verdict.{Verdict}
-use Rattle.verdict.specs.declared.Verdict.TheVariants.{Accepted, Refused}
+use Rattle.std.specs.Prelude.{Ok, Err}
 use Rattle.places.specs.Shelf.{rows_at, factors_at, holding, Fits, Good}
-use Rattle.verdict.specs.Verdict.{first_of, or_else, when}
+use Rattle.verdict.specs.declared.Reason.{Reason}
+use Rattle.verdict.specs.declared.Reason.TheVariants.{WrongChoice, ExponentOutOfRange, Singular}
+use Rattle.verdict.specs.Verdict.{Verdict, first_behind, first_of, or_else, when}
 use Rattle.places.specs.Tests.{unfit, one_source}
 use Rattle.table.proofs.Ranges.{rows-ranged, outside-table}
 use Rattle.places.proofs.Holding.{fits-table}
-use Rattle.verdict.proofs.Verdicts.{first-last, first-passed, when-passed, when-left}
+use Rattle.verdict.proofs.Verdicts.{first-behind, first-last, first-passed, when-passed, when-left}
 use Rattle.conditions.specs.Conditions.{misclamped}
 use Rattle.conditions.proofs.Passed.{Source, clamped, choice-passed}
 use Rattle.places.proofs.Verdicts.{Fit, one-accepted, sets-accepted}
-use Rattle.operations.specs.declared.Proposed.{Proposed}
 use Rattle.operations.specs.declared.Operated.{Operated}
-use Rattle.operations.specs.declared.Performed.TheVariants as answer
 use Rattle.operations.specs.Operations.{done, factor_test, operation_verdict, operation_call, submatrix_at, schur_at, minor_at}
 use Rattle.operations.specs.Operations.{singular, chosen_tests, submatrix_tests, clamped_tests}
 use Rattle.operations.specs.Reports.{operated_outcome}
-use Rattle.operations.specs.Proposed.{turned_down, proposal, proposed, kept, ranged_of, Keepable}
+use Rattle.operations.specs.Proposed.{Proposal, behind, proposal, proposed, kept, ranged_of, Keepable}
 use Rattle.operations.specs.Promise.{CloseFactors, Met, Promised}
 use Rattle.operations.proofs.Proposals.{result-answered, result-good, result-held, result-done}
 
@@ -90,7 +89,7 @@ whole n L h = joined-regular n (each_steps value L) (proper-value n (joined L) h
 
 -- READY: each operation on the places that its tests accepted
 module _ (s : Shelf) (good : Good s) where
-  module _ (p t : ℕ) (e : first_of (one_source s p t) ≡ Accepted) where
+  module _ (p t : ℕ) (e : first_of (one_source s p t) ≡ Ok tt) where
     source : (o : Operation Number) → length (steps o) ≤ 6 → Proper (BandedNumbers (rows_at s p)) (rows_at s p) o → Regular (rows_at s p) (exactly o)
         → size (rows_at s p) o ≤ rows_at s p → Ready t (rows_at s p) o
     source o six h g l =
@@ -136,19 +135,19 @@ module _ (s : Shelf) (good : Good s) where
         source (submatrix_at s p I J) (omega arith) (fit-proper I J f) (above_zero (determinant_of (rows_at s p) (exactly (submatrix_at s p I J))) g)
         (omega (arith, count-to (rows_at s p) I, count_to-le (rows_at s p) I))
 
-  pub submatrix-ready : (p I J t : ℕ) → first_of (submatrix_tests s p I J t) ≡ Accepted → Ready t (rows_at s p) (submatrix_at s p I J)
+  pub submatrix-ready : (p I J t : ℕ) → first_of (submatrix_tests s p I J t) ≡ Ok tt → Ready t (rows_at s p) (submatrix_at s p I J)
   submatrix-ready p I J t e =
-      let b = first-passed (chosen_tests s p I J t) (when (singular (rows_at s p) (submatrix_at s p I J)) 17) e in
-      let a = first-passed (one_source s p t) (when (unfit (rows_at s p) I J) 8) b.0 in
-      fit-ready p t a.0 I J (sets-accepted (rows_at s p) I J a.1) (when-passed _ 17 b.1)
+      let b = first-passed (chosen_tests s p I J t) (when (singular (rows_at s p) (submatrix_at s p I J)) Singular) e in
+      let a = first-passed (one_source s p t) (when (unfit (rows_at s p) I J) WrongChoice) b.0 in
+      fit-ready p t a.0 I J (sets-accepted (rows_at s p) I J a.1) (when-passed _ Singular b.1)
 
   -- rows that are clamped: one or more, and not all
-  pub schur-clamped : (p k t : ℕ) → first_of (clamped_tests s p k t) ≡ Accepted → (first_of (one_source s p t) ≡ Accepted) × ((1 ≤ k) × (k < rows_at s p))
+  pub schur-clamped : (p k t : ℕ) → first_of (clamped_tests s p k t) ≡ Ok tt → (first_of (one_source s p t) ≡ Ok tt) × ((1 ≤ k) × (k < rows_at s p))
   schur-clamped p k t e =
       let a = choice-passed (one_source s p t) (misclamped (rows_at s p) k) e in
       (a.0, clamped (rows_at s p) k a.1)
 
-  pub schur-ready : (p k t : ℕ) → first_of (clamped_tests s p k t) ≡ Accepted → Ready t (rows_at s p) (schur_at s p k)
+  pub schur-ready : (p k t : ℕ) → first_of (clamped_tests s p k t) ≡ Ok tt → Ready t (rows_at s p) (schur_at s p k)
   schur-ready p k t e =
       let a = schur-clamped p k t e in
       let h : Proper (BandedNumbers (rows_at s p)) (rows_at s p) (schur_at s p k) = record { sources = (source-banded p t a.0, tt); fit = a.1 } in
@@ -162,23 +161,35 @@ run-stored k b h g r =
     banded-like (λ a. 0 < a.m) (λ a. a ≡ zero_number) Stored (λ a. a ≡ zero_number) k b b
     (λ i j x y. record { positive = λ p. in-range-stored (g i j x y) p (r i j x y); zero = λ z. z; back = λ z. z }) h
 
+-- a list whose first test turns the call down
+pub first-refused : (v : Verdict) (L : List Verdict) {w : Refusal} → v ≡ Err w → first_of (v ∷ L) ≡ Err w
+unfolding first_behind
+first-refused v L e = first-behind v L ∙ ap (λ (u : Verdict). or_else u (first_of L)) e
+
+-- where the tests turn the call down, that is what is proposed
+pub proposed-turned : (L : List Verdict) (n : ℕ) (o : Operation Number) (w : Refusal) → first_of L ≡ Err w → Err w ≡ proposed L n o
+unfolding proposed
+proposed-turned L n o w e =
+    let v : operation_verdict L n o ≡ Err w = first-last L (factor_test n o) ∙ ap (λ (u : Verdict). or_else u (factor_test n o)) e in
+    ap (λ (u : Verdict). proposal u (size n o) (bound n o) (steps_made rounded n o) (result rounded n o)) (sym v)
+
 -- behind a test that passed
-pub proposed-behind : {c : Bool} (k : ℕ) (L : List Verdict) (n : ℕ) (o : Operation Number) → c ≡ false → proposed L n o ≡ proposed (when c k ∷ L) n o
+pub proposed-behind : {c : Bool} (k : Reason) (L : List Verdict) (n : ℕ) (o : Operation Number) → c ≡ false → proposed L n o ≡ proposed (when c k ∷ L) n o
 unfolding proposed
 proposed-behind k L n o e =
     ap (λ (v : Verdict). proposal v (size n o) (bound n o) (steps_made rounded n o) (result rounded n o)) (sym (when-left k (L ++ (factor_test n o ∷ [])) e))
 
 -- WHAT WAS ACCEPTED can be kept, and meets demand 3
-module _ (L : List Verdict) (t n : ℕ) (o : Operation Number) (ready : first_of L ≡ Accepted → Ready t n o) where
-  verdict : operation_verdict L n o ≡ Accepted → (first_of L ≡ Accepted) × (outside (row_by_row (size n o) (result rounded n o)) ≡ false)
+module _ (L : List Verdict) (t n : ℕ) (o : Operation Number) (ready : first_of L ≡ Ok tt → Ready t n o) where
+  verdict : operation_verdict L n o ≡ Ok tt → (first_of L ≡ Ok tt) × (outside (row_by_row (size n o) (result rounded n o)) ≡ false)
   verdict e =
       let a = first-passed L (factor_test n o) e in
-      (a.0, when-passed _ 14 a.1)
+      (a.0, when-passed _ ExponentOutOfRange a.1)
 
-  operation-demand : first_of L ≡ Accepted → Demand n o
+  operation-demand : first_of L ≡ Ok tt → Demand n o
   operation-demand e = ready-demand (ready e)
 
-  operation-fits : operation_verdict L n o ≡ Accepted → (t < 8) × Fits (size n o) (table_of (size n o) (result rounded n o))
+  operation-fits : operation_verdict L n o ≡ Ok tt → (t < 8) × Fits (size n o) (table_of (size n o) (result rounded n o))
   operation-fits e =
       let v = verdict e in
       let w = ready v.0 in
@@ -188,38 +199,21 @@ module _ (L : List Verdict) (t n : ℕ) (o : Operation Number) (ready : first_of
             (run-stored (size n o) (result rounded n o) d.banded d.ranged (rows-ranged (size n o) (result rounded n o) w.fits v.1)),
       )
 
-  pub operation-turned : (w : Refusal) → first_of L ≡ Refused w → turned_down w ≡ proposed L n o
+  pub operation-ranged : first_of L ≡ Ok tt → (x : Refactored) → x ≡ result_of n o → ranged_of x ≡ proposed L n o
   unfolding proposed
-  operation-turned w e =
-      let v : operation_verdict L n o ≡ Refused w = first-last L (factor_test n o) ∙ ap (λ (u : Verdict). or_else u (factor_test n o)) e in
-      ap (λ (u : Verdict). proposal u (size n o) (bound n o) (steps_made rounded n o) (result rounded n o)) (sym v)
-
-  by-range : (t : Bool)
-      → cond t (turned_down (record { number = 14; offset = 0 }))
-      (record { answer = answer.Done (bound n o) (steps_made rounded n o); rows = size n o; factors = table_of (size n o) (result rounded n o) })
-      ≡ proposal (when t 14) (size n o) (bound n o) (steps_made rounded n o) (result rounded n o)
-  by-range true = refl
-  by-range false = refl
-
-  pub operation-ranged : first_of L ≡ Accepted → (x : Refactored) → x ≡ result_of n o → ranged_of x ≡ proposed L n o
-  unfolding proposed ranged_of
   operation-ranged e x f =
       let b = result rounded n o in
       let v : operation_verdict L n o ≡ factor_test n o = first-last L (factor_test n o) ∙ ap (λ (u : Verdict). or_else u (factor_test n o)) e in
       ap ranged_of f
-      ∙ by-range (outside (table_of (size n o) b))
-      ∙ ap (λ (t : Bool). proposal (when t 14) (size n o) (bound n o) (steps_made rounded n o) b) (outside-table (size n o) b (ready e).fits)
-      ∙ ap (λ (u : Verdict). proposal u (size n o) (bound n o) (steps_made rounded n o) b) (sym v)
+      ∙ ap (λ (t : Bool). behind (when t ExponentOutOfRange) (result_of n o)) (outside-table (size n o) b (ready e).fits)
+      ∙ ap (λ (u : Verdict). behind u (result_of n o)) (sym v)
 
-  answered : (y : Proposed) → y ≡ proposed L n o → (y ≡ proposed L n o) × Keepable t y
+  answered : (y : Proposal) → y ≡ proposed L n o → (y ≡ proposed L n o) × Keepable t y
   unfolding proposed
   answered = result-answered t (size n o) (bound n o) (steps_made rounded n o) (result rounded n o) (operation_verdict L n o) operation-fits
 
-  -- the two ways in which a result is answered
-  pub answered-turned : (w : Refusal) (y : Proposed) → first_of L ≡ Refused w → y ≡ turned_down w → (y ≡ proposed L n o) × Keepable t y
-  answered-turned w y e f = answered y (f ∙ operation-turned w e)
-
-  pub answered-ranged : (x : Refactored) (y : Proposed) → first_of L ≡ Accepted → x ≡ result_of n o → y ≡ ranged_of x → (y ≡ proposed L n o) × Keepable t y
+  -- what the rule handed back is an answer
+  pub answered-ranged : (x : Refactored) (y : Proposal) → first_of L ≡ Ok tt → x ≡ result_of n o → y ≡ ranged_of x → (y ≡ proposed L n o) × Keepable t y
   answered-ranged x y e f g = answered y (g ∙ operation-ranged e x f)
 
   module _ (s : Shelf) (good : Good s) where
@@ -228,7 +222,7 @@ module _ (L : List Verdict) (t n : ℕ) (o : Operation Number) (ready : first_of
     operation-good =
         result-good t (size n o) (result rounded n o) (operation_verdict L n o) operation-fits s good (done (bound n o) (steps_made rounded n o))
 
-    pub operation-met : operation_verdict L n o ≡ Accepted → Met (holding s t (size n o) (result rounded n o)) t n o (bound n o) (steps_made rounded n o)
+    pub operation-met : operation_verdict L n o ≡ Ok tt → Met (holding s t (size n o) (result rounded n o)) t n o (bound n o) (steps_made rounded n o)
     operation-met e = record {
       bound-is = refl;
       steps-are = refl;
@@ -238,7 +232,7 @@ module _ (L : List Verdict) (t n : ℕ) (o : Operation Number) (ready : first_of
       close = ready-close (ready (verdict e).0);
     }
 
-    pub operation-done : (x : Proposed) (y : Operated) → x ≡ proposed L n o → (y ≡ kept s t x) × Good y.shelf
+    pub operation-done : (x : Proposal) (y : Operated) → x ≡ proposed L n o → (y ≡ kept s t x) × Good y.shelf
         → (operated_outcome y ≡ operation_call s L t n o) × (Good y.shelf × Promised y.shelf t n o y.answer)
     unfolding operation_call proposed
     operation-done =
@@ -247,27 +241,27 @@ module _ (L : List Verdict) (t n : ℕ) (o : Operation Number) (ready : first_of
 -- THE TESTS OF A SUBMATRIX: those of its places and sets (`chosen-fit`), and then that it is not singular (`chosen-turned`, `chosen-tested`)
 module _ (s : Shelf) (p I J t : ℕ) where
   abbrev fit : Verdict
-  fit = when (unfit (rows_at s p) I J) 8
+  fit = when (unfit (rows_at s p) I J) WrongChoice
 
-  pub chosen-fit : first_of (chosen_tests s p I J t) ≡ Accepted → Source (rows_at s) p × Fit (rows_at s p) I J
+  pub chosen-fit : first_of (chosen_tests s p I J t) ≡ Ok tt → Source (rows_at s) p × Fit (rows_at s p) I J
   chosen-fit e =
       let a = first-passed (one_source s p t) fit e in
       ((one-accepted s p t a.0).0, sets-accepted (rows_at s p) I J a.1)
 
-  pub submatrix-fit : first_of (submatrix_tests s p I J t) ≡ Accepted → Source (rows_at s) p × Fit (rows_at s p) I J
+  pub submatrix-fit : first_of (submatrix_tests s p I J t) ≡ Ok tt → Source (rows_at s) p × Fit (rows_at s p) I J
   submatrix-fit e = chosen-fit (first-passed (chosen_tests s p I J t) _ e).0
 
   by-chosen : (v : Verdict) → first_of (chosen_tests s p I J t) ≡ v
-      → or_else v (when (singular (rows_at s p) (submatrix_at s p I J)) 17) ≡ first_of (submatrix_tests s p I J t)
+      → or_else v (when (singular (rows_at s p) (submatrix_at s p I J)) Singular) ≡ first_of (submatrix_tests s p I J t)
   by-chosen v e =
-      let z = when (singular (rows_at s p) (submatrix_at s p I J)) 17 in
+      let z = when (singular (rows_at s p) (submatrix_at s p I J)) Singular in
       sym (first-last (chosen_tests s p I J t) z ∙ ap (λ (w : Verdict). or_else w z) e)
 
-  pub chosen-turned : (w : Refusal) → first_of (chosen_tests s p I J t) ≡ Refused w → Refused w ≡ first_of (submatrix_tests s p I J t)
-  chosen-turned w e = by-chosen (Refused w) e
+  pub chosen-turned : (w : Refusal) → first_of (chosen_tests s p I J t) ≡ Err w → Err w ≡ first_of (submatrix_tests s p I J t)
+  chosen-turned w e = by-chosen (Err w) e
 
-  pub chosen-tested : Good s → first_of (chosen_tests s p I J t) ≡ Accepted → (z : Bool) → z ≡ eqb (minor_at s p I J).m 0
-      → when z 17 ≡ first_of (submatrix_tests s p I J t)
+  pub chosen-tested : Good s → first_of (chosen_tests s p I J t) ≡ Ok tt → (z : Bool) → z ≡ eqb (minor_at s p I J).m 0
+      → when z Singular ≡ first_of (submatrix_tests s p I J t)
   chosen-tested good e z f =
       let a = first-passed (one_source s p t) fit e in
-      ap (λ (x : Bool). when x 17) (f ∙ singular-tested s good p t a.0 I J (chosen-fit e).1) ∙ by-chosen Accepted e
+      ap (λ (x : Bool). when x Singular) (f ∙ singular-tested s good p t a.0 I J (chosen-fit e).1) ∙ by-chosen (Ok tt) e

@@ -9,8 +9,8 @@ use Rattle.words.specs.Formula.{old_factor}
 use Rattle.words.specs.Operation.{Operation, size, bound, row_by_row, asked_minor}
 use Rattle.words.specs.Sources.{Each}
 use Rattle.table.specs.Table.{outside}
-use Rattle.verdict.specs.declared.Verdict.{Verdict}
-use Rattle.verdict.specs.Verdict.{first_of, when}
+use Rattle.verdict.specs.declared.Reason.TheVariants.{ExponentOutOfRange}
+use Rattle.verdict.specs.Verdict.{Verdict, first_of, when}
 use Rattle.verdict.specs.Report.{Report, accepted, refused}
 use Rattle.places.specs.declared.Shelf.{Shelf}
 use Rattle.places.specs.Shelf.{rows_at, factors_at}
@@ -31,7 +31,8 @@ old_factors n o = old_factor rounded (size n o) (asked_minor rounded n o)
 -- document 01's call, behind the tests L: 14 where such a factor has an exponent outside -1000 to 1000, else the factors to place t, and their bound
 abbrev pub old_call : Shelf → List Verdict → ℕ → ℕ → Operation Number → Outcome
 old_call s L t n o =
-    resulting s t (first_of (L ++ (when (outside (row_by_row (size n o) (old_factors n o))) 14 ∷ []))) (size n o) (pos (bound n o) ∷ []) (old_factors n o)
+    resulting s t (first_of (L ++ (when (outside (row_by_row (size n o) (old_factors n o))) ExponentOutOfRange ∷ []))) (size n o) (pos (bound n o) ∷ [])
+    (old_factors n o)
 
 -- DOCUMENT 01'S OPERATIONS: product with the tests 1, 11, 12, 13; re-signed inverse and converse with 1, 11, 12; submatrix with 1, 11, 12, 8; then 14
 abbrev pub old_product : Shelf → ℕ → ℕ → ℕ → Outcome

@@ -1,10 +1,10 @@
 -- FORECASTS (document 02, (k)): the steps of an operation on places, told without working it (`forecast_call`), and of a recipe (`recipe_forecast`). A forecast
 -- names no target and tests as the call does, without 12, 14 and 17: what it tells of the call itself (`Foretelling`).
-use Rattle.std.specs.Prelude.{ℕ, ◌<◌, ◌≡◌, ◌⊎◌, List, [], ◌∷◌, pos}
+use Rattle.std.specs.Prelude.{ℕ, ◌<◌, ◌≡◌, ◌⊎◌, List, [], ◌∷◌, pos, Result}
 use Rattle.words.specs.Effort.{steps_foretold}
-use Rattle.verdict.specs.declared.Verdict.{Verdict}
-use Rattle.verdict.specs.Verdict.{first_of}
-use Rattle.verdict.specs.Report.{Report, accepted, refused, report_of}
+use Rattle.verdict.specs.Verdict.{Verdict, first_of}
+use Rattle.verdict.specs.declared.Refusal.{Refusal}
+use Rattle.verdict.specs.Report.{Report, accepted, refused, answer_report, report_of}
 use Rattle.places.specs.declared.Shelf.{Shelf}
 use Rattle.places.specs.Shelf.{rows_at}
 use Rattle.places.specs.Outcome.{Outcome}
@@ -16,8 +16,6 @@ use Rattle.operations.specs.Operations.{done, product_at, inverse_at, converse_a
 use Rattle.operations.specs.Operations.{joined_rows, joined_at, product_call, inverse_call, converse_call, transpose_call, submatrix_call, schur_call}
 use Rattle.operations.specs.declared.Task.{Task}
 use Rattle.operations.specs.declared.Task.TheVariants.{Product, Inverse, Converse, Transpose, Submatrix, Schur}
-use Rattle.operations.specs.declared.Foretold.{Foretold}
-use Rattle.operations.specs.declared.Foretold.TheVariants as foretold
 
 -- the steps, behind the tests L
 abbrev pub foretelling : List Verdict → ℕ → Report
@@ -75,6 +73,5 @@ pub record Foretelling (s : Shelf) (F : ℕ → Type 0) (call : ℕ → Outcome)
   pub made : (t b e : ℕ) → (call t).report ≡ accepted (done b e) → f ≡ accepted (pos e ∷ [])
 
 -- what a forecast's answer reports
-abbrev pub foretold_report : Foretold → Report
-foretold_report (foretold.Steps n) = accepted (pos n ∷ [])
-foretold_report (foretold.Refused w) = refused w.number w.offset
+abbrev pub foretold_report : Result ℕ Refusal → Report
+foretold_report = answer_report (λ n. pos n ∷ [])

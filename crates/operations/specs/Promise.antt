@@ -1,7 +1,7 @@
 -- What an accepted product, re-signed inverse, converse, recipe, submatrix or Schur complement promises (`Promised`): demand 3 of the operation on the sources
 -- as the call found them, with the bound that is returned and the factors that are stored, the same in plain words, and that the steps returned are those made
 -- and those foretold. What an accepted build promises of its stamps (`BuildPromised`).
-use Rattle.std.specs.Prelude.{◌≡◌, List, ℕ, ◌*◌, length}
+use Rattle.std.specs.Prelude.{◌≡◌, List, ℕ, ◌*◌, length, Result, Ok, Err}
 use Rattle.number.specs.declared.Number.{Number}
 use Rattle.number.specs.Number.{rounded, value}
 use Rattle.fraction.specs.Fraction.{exact}
@@ -14,10 +14,8 @@ use Rattle.factors.specs.Demand.{exactly, Demand}
 use Rattle.stamps.specs.Stamps.{built_factors, stamp_bound, Stamped}
 use Rattle.places.specs.declared.Shelf.{Shelf}
 use Rattle.places.specs.Shelf.{rows_at, factors_at}
-use Rattle.operations.specs.declared.Bounded.{Bounded}
-use Rattle.operations.specs.declared.Bounded.TheVariants as answer
+use Rattle.verdict.specs.declared.Refusal.{Refusal}
 use Rattle.operations.specs.declared.Performed.{Performed}
-use Rattle.operations.specs.declared.Performed.TheVariants as performed
 
 -- place t of the shelf holds n rows with the factors b
 pub record Holds (s : Shelf) (t n : ℕ) (b : Factors Number) : Type 0 where
@@ -40,11 +38,11 @@ pub record Met (s : Shelf) (t n : ℕ) (o : Operation Number) (k e : ℕ) : Type
   pub close : CloseFactors n o
 
 -- what an answer promises: of a bound and steps, P of the shelf and of them; of a refusal nothing
-abbrev pub PromisedBy : (Shelf → ℕ → ℕ → Type 0) → Shelf → Performed → Type 0
-PromisedBy P s (performed.Done k e) = P s k e
-PromisedBy P s (performed.Refused w) = Unit {0}
+abbrev pub PromisedBy : (Shelf → ℕ → ℕ → Type 0) → Shelf → Result Performed Refusal → Type 0
+PromisedBy P s (Ok x) = P s x.bound x.steps
+PromisedBy P s (Err w) = Unit {0}
 
-abbrev pub Promised : Shelf → ℕ → ℕ → Operation Number → Performed → Type 0
+abbrev pub Promised : Shelf → ℕ → ℕ → Operation Number → Result Performed Refusal → Type 0
 Promised s t n o = PromisedBy (λ s k e. Met s t n o k e) s
 
 -- place t of the shelf holds the factors of the stamps, as many rows as there are stamps, and k is the bound
@@ -53,6 +51,6 @@ pub record Built (s : Shelf) (t : ℕ) (stamps : List ℕ) (k : ℕ) : Type 0 wh
   pub held : Holds s t (length stamps) (built_factors stamps)
   pub stamped : Stamped stamps
 
-abbrev pub BuildPromised : Shelf → ℕ → List ℕ → Bounded → Type 0
-BuildPromised s t stamps (answer.Bound k) = Built s t stamps k
-BuildPromised s t stamps (answer.Refused w) = Unit {0}
+abbrev pub BuildPromised : Shelf → ℕ → List ℕ → Result ℕ Refusal → Type 0
+BuildPromised s t stamps (Ok k) = Built s t stamps k
+BuildPromised s t stamps (Err w) = Unit {0}

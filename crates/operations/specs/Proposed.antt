@@ -1,8 +1,8 @@
--- The code's own steps: a joined word made for the rule (`Made`), and, between working a result and keeping it, k rows with factors, a bound and steps, or a
--- refusal and no rows (`Proposed`). Nothing that a caller sees.
-use Rattle.std.specs.Prelude.{ℕ, ◌<◌, ◌≡◌, cond, List, length, replicate}
+-- The code's own steps: a joined word made for the rule (`Made`), and, between working a result and keeping it, the result or why there is none (`Proposal`).
+-- Nothing that a caller sees.
+use Rattle.std.specs.Prelude.{ℕ, ◌<◌, ◌≡◌, List, length, Result, Ok, Err}
 use Rattle.number.specs.declared.Number.{Number}
-use Rattle.number.specs.Number.{zero_number, rounded}
+use Rattle.number.specs.Number.{rounded}
 use Rattle.words.specs.Word.{Factors, exchanged}
 use Rattle.words.specs.Operation.{Step, Operation, size, bound, result}
 use Rattle.words.specs.Effort.{steps_made}
@@ -11,66 +11,62 @@ use Rattle.walk.specs.Lent.{steps_of, Prepared}
 use Rattle.rule.specs.declared.Refactored.{Refactored}
 use Rattle.table.specs.Table.{table_of}
 use Rattle.verdict.specs.declared.Refusal.{Refusal}
-use Rattle.verdict.specs.declared.Verdict.{Verdict}
-use Rattle.verdict.specs.declared.Verdict.TheVariants.{Accepted, Refused}
-use Rattle.verdict.specs.Verdict.{first_of}
+use Rattle.verdict.specs.declared.Reason.TheVariants.{ExponentOutOfRange}
+use Rattle.verdict.specs.Verdict.{Verdict, first_of, when}
 use Rattle.places.specs.declared.Shelf.{Shelf}
 use Rattle.table.specs.Table.{outside}
 use Rattle.places.specs.Shelf.{rows_at, factors_at, with_table, Fits}
 use Rattle.places.specs.Tests.{one_source}
 use Rattle.stamps.specs.Stamps.{built_factors, stamp_bound}
 use Rattle.operations.specs.Operations.{build_tests, operation_verdict}
-use Rattle.operations.specs.declared.Bounded.TheVariants as bounded
 use Rattle.operations.specs.declared.Performed.{Performed}
-use Rattle.operations.specs.declared.Performed.TheVariants as answer
 use Rattle.operations.specs.declared.Filled.{Filled}
-use Rattle.operations.specs.declared.Proposed.{Proposed}
 use Rattle.operations.specs.declared.Operated.{Operated}
 
-abbrev pub turned_down : Refusal → Proposed
-turned_down w = record { answer = answer.Refused w; rows = 0; factors = replicate 64 zero_number }
+abbrev pub Proposal : Type 0
+Proposal = Result Refactored Refusal
 
--- k rows with factors b, the bound e and x steps, by a verdict
-abbrev pub proposal : Verdict → ℕ → ℕ → ℕ → Factors Number → Proposed
-proposal Accepted k e x b = record { answer = answer.Done e x; rows = k; factors = table_of k b }
-proposal (Refused w) k e x b = turned_down w
+-- a result behind a verdict
+abbrev pub behind : Verdict → Refactored → Proposal
+behind (Ok u) x = Ok x
+behind (Err w) x = Err w
+
+-- k rows with factors b, the bound e and x steps
+abbrev pub proposal : Verdict → ℕ → ℕ → ℕ → Factors Number → Proposal
+proposal v k e x b = behind v (record { factors = table_of k b; rows = k; bound = e; steps = x })
 
 -- the transpose of place p, and the matrix of powers of time stamps, to place t
-abbrev pub transpose_proposal : Shelf → ℕ → ℕ → Proposed
+abbrev pub transpose_proposal : Shelf → ℕ → ℕ → Proposal
 transpose_proposal s p t = proposal (first_of (one_source s p t)) (rows_at s p) 0 0 (exchanged (factors_at s p))
 
-abbrev pub build_proposal : Shelf → ℕ → List ℕ → Proposed
+abbrev pub build_proposal : Shelf → ℕ → List ℕ → Proposal
 build_proposal s t stamps = proposal (first_of (build_tests s t stamps)) (length stamps) stamp_bound 0 (built_factors stamps)
 
 -- a result of the rule
-unfoldable pub proposed : List Verdict → ℕ → Operation Number → Proposed
+unfoldable pub proposed : List Verdict → ℕ → Operation Number → Proposal
 proposed L n o = proposal (operation_verdict L n o) (size n o) (bound n o) (steps_made rounded n o) (result rounded n o)
 
 -- what the rule's code handed back, put to the test of its exponents
-unfoldable pub ranged_of : Refactored → Proposed
-ranged_of x =
-    cond (outside x.factors) (turned_down (record { number = 14; offset = 0 }))
-    (record { answer = answer.Done x.bound x.steps; rows = x.rows; factors = x.factors })
+abbrev pub ranged_of : Refactored → Proposal
+ranged_of x = behind (when (outside x.factors) ExponentOutOfRange) x
 
 -- a result kept at place t
-abbrev pub kept_by : Shelf → ℕ → Proposed → Performed → Operated
-kept_by s t x (answer.Done e d) = record { shelf = with_table s t x.rows x.factors; answer = answer.Done e d }
-kept_by s t x (answer.Refused w) = record { shelf = s; answer = answer.Refused w }
-
-unfoldable pub kept : Shelf → ℕ → Proposed → Operated
-kept s t x = kept_by s t x x.answer
+abbrev pub kept : Shelf → ℕ → Proposal → Operated
+kept s t (Ok x) = record { shelf = with_table s t x.rows x.factors; answer = Ok (record { bound = x.bound; steps = x.steps }) }
+kept s t (Err w) = record { shelf = s; answer = Err w }
 
 -- a build's answer, which has no steps
-abbrev pub filled_answer : Shelf → Performed → Filled
-filled_answer s (answer.Done e d) = record { shelf = s; answer = bounded.Bound e }
-filled_answer s (answer.Refused w) = record { shelf = s; answer = bounded.Refused w }
+abbrev pub bound_of : Result Performed Refusal → Result ℕ Refusal
+bound_of (Ok p) = Ok p.bound
+bound_of (Err w) = Err w
 
-unfoldable pub filled_by : Operated → Filled
-filled_by x = filled_answer x.shelf x.answer
+abbrev pub filled_by : Operated → Filled
+filled_by x = record { shelf = x.shelf; answer = bound_of x.answer }
 
--- what can be kept: where it was not turned down, it fits a place of the shelf
-abbrev pub Keepable : ℕ → Proposed → Type 0
-Keepable t x = (e d : ℕ) → x.answer ≡ answer.Done e d → (t < 8) × Fits x.rows x.factors
+-- what can be kept: a result fits a place of the shelf
+abbrev pub Keepable : ℕ → Proposal → Type 0
+Keepable t (Ok x) = (t < 8) × Fits x.rows x.factors
+Keepable t (Err w) = Unit {0}
 
 -- the word w, with the letters l and the factors b, has the steps L of n rows
 pub record Made (n : ℕ) (L : List (Step Number)) (w : Joined) (l b : List ℕ) : Type 0 where

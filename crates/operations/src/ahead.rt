@@ -8,64 +8,50 @@ ghost use Rattle.words.specs.Effort.{steps_foretold};
 ghost use Rattle.operations.specs.Operations.{submatrix_at, schur_at, joined_rows, joined_at, set_tests};
 ghost use Rattle.operations.specs.Forecast.{foretelling, clamped_alone, foretold_report};
 
-use crate::{Foretold, effort};
+use crate::{effort, tests};
 use places::{Shelf, judge};
 use recipes::Recipe;
-use verdict::{Verdict, test};
+use verdict::Refusal;
 
 // The words of one to six steps, joined.
-pub fn joined(shelf: Shelf, recipe: Recipe) -> Foretold
+pub fn joined(shelf: Shelf, recipe: Recipe) -> Result<usize, Refusal>
     requires { Good shelf × (1 ≤ recipe.count) × (recipe.count ≤ 6) }
     ensures { foretold_report result
         ≡ foretelling (sources_alone (rows_at shelf) (places_in recipe)) (steps_foretold (joined_rows shelf recipe) (joined_at shelf recipe)) }
 {
-    let first = judge::sources_alone(shelf, recipe);
-    if let Verdict::Refused(why) = first {
-        return Foretold::Refused(why);
-    }
-    let steps = recipe.steps;
-    let n = places::rows_at(shelf, steps[0].place);
-    Foretold::Steps(effort::of_sizes(recipe.count, n, 0, n))
+    judge::sources_alone(shelf, recipe)?;
+    let n = places::rows_at(shelf, recipe.steps[0].place);
+    Ok(effort::of_sizes(recipe.count, n, 0, n))
 }
 
 // A transpose has no word.
-pub fn transpose(shelf: Shelf, source: usize) -> Foretold
+pub fn transpose(shelf: Shelf, source: usize) -> Result<usize, Refusal>
     requires { Good shelf }
     ensures { foretold_report result ≡ foretelling (source_tests shelf source) 0 }
 {
-    let first = judge::source(shelf, source);
-    if let Verdict::Refused(why) = first {
-        return Foretold::Refused(why);
-    }
-    Foretold::Steps(0)
+    judge::source(shelf, source)?;
+    Ok(0)
 }
 
 // The row and column sets are masks. Whether the submatrix is singular is not asked.
-pub fn submatrix(shelf: Shelf, source: usize, rows: usize, columns: usize) -> Foretold
-    requires { Good shelf × (rows < 256) × (columns < 256) }
+pub fn submatrix(shelf: Shelf, source: usize, rows: u8, columns: u8) -> Result<usize, Refusal>
+    requires { Good shelf }
     ensures { foretold_report result
         ≡ foretelling (set_tests shelf source rows columns) (steps_foretold (rows_at shelf source) (submatrix_at shelf source rows columns)) }
 {
+    tests::sets(shelf, source, rows, columns)?;
     let n = places::rows_at(shelf, source);
-    let mut v = judge::source(shelf, source);
-    v = test(v, judge::unfit(n, rows, columns), 8);
-    if let Verdict::Refused(why) = v {
-        return Foretold::Refused(why);
-    }
-    Foretold::Steps(effort::of_sizes(1, n, 0, rowset::count(rows)))
+    let k = rowset::count(usize::from(rows));
+    Ok(effort::of_sizes(1, n, 0, k))
 }
 
 // What remains after the first k rows and columns.
-pub fn schur(shelf: Shelf, source: usize, k: usize) -> Foretold
+pub fn schur(shelf: Shelf, source: usize, k: usize) -> Result<usize, Refusal>
     requires { Good shelf }
     ensures { foretold_report result ≡ foretelling (clamped_alone shelf source k) (steps_foretold (rows_at shelf source) (schur_at shelf source k)) }
 {
+    tests::clamped(shelf, source, k)?;
     let n = places::rows_at(shelf, source);
-    let mut v = judge::source(shelf, source);
-    v = test(v, judge::misclamped(n, k), 8);
-    if let Verdict::Refused(why) = v {
-        return Foretold::Refused(why);
-    }
     let rest = n - k;
-    Foretold::Steps(effort::of_sizes(1, n, k, rest))
+    Ok(effort::of_sizes(1, n, k, rest))
 }

@@ -11,36 +11,28 @@ ghost use Rattle.operations.specs.Reports.{filled_outcome, operated_outcome, val
 ghost use Rattle.operations.specs.Forecast.{forecast_call, recipe_forecast, task_call, foretold_report, Found, RecipeFound, Foretelling};
 ghost use Rattle.operations.specs.Promise.{Promised, BuildPromised};
 
-use number::Number;
 use places::{Shelf, judge};
 use recipes::{Recipe, Way};
-use verdict::{Refusal, Verdict, test};
+use verdict::{Reason, Refusal, refuse_if};
 
 mod ahead; // ahead.rt: forecasts
 mod effort; // effort.rt: steps by sizes
-mod value; // value.rt: a minor
+mod tests; // tests.rt: the tests of chosen rows
+mod word; // word.rt: the words that are walked, and minors of one
 mod work; // work.rt: results, and how they are kept
 
+// What an operation answers: the result's factors are within so many unit roundings, and took so many steps.
 #[derive(Clone, Copy)]
-pub enum Bounded {
-    // The factors are within so many unit roundings.
-    Bound(u32),
-    Refused(Refusal),
+pub struct Performed {
+    pub bound: u32,
+    pub steps: usize,
 }
 
+// A mantissa times 2 to the power of an exponent.
 #[derive(Clone, Copy)]
-pub enum Performed {
-    // The result's factors are within so many unit roundings, and took so many steps.
-    Done { bound: u32, steps: usize },
-    Refused(Refusal),
-}
-
-// The result of an operation before it is kept.
-#[derive(Clone, Copy)]
-pub struct Proposed {
-    answer: Performed,
-    rows: usize,
-    factors: [Number; 64],
+pub struct Value {
+    pub mantissa: u64,
+    pub exponent: i64,
 }
 
 // An operation on places, without its target.
@@ -64,32 +56,18 @@ pub enum Task {
     },
 }
 
-#[derive(Clone, Copy)]
-pub enum Foretold {
-    // The operation will make so many steps.
-    Steps(usize),
-    Refused(Refusal),
-}
-
-#[derive(Clone, Copy)]
-pub enum Valued {
-    // A mantissa times 2 to the power of an exponent.
-    Value { mantissa: u64, exponent: i64 },
-    Refused(Refusal),
-}
-
 // The shelf after an operation.
 #[derive(Clone, Copy)]
 pub struct Operated {
     pub shelf: Shelf,
-    pub answer: Performed,
+    pub answer: Result<Performed, Refusal>,
 }
 
-// The shelf after a place was filled from time stamps.
+// The shelf after a place was filled from time stamps, and the bound of its factors in unit roundings.
 #[derive(Clone, Copy)]
 pub struct Filled {
     pub shelf: Shelf,
-    pub answer: Bounded,
+    pub answer: Result<u32, Refusal>,
 }
 
 // The transpose of a place, to an empty place.
@@ -111,6 +89,7 @@ pub fn build(shelf: Shelf, target: usize, stamps: &[u64]) -> Filled
     work::filled(work::keep(shelf, target, work::built(shelf, target, stamps)))
 }
 
+// Product, inverse and converse differ in their recipe alone, but each promises its own operation: one function for the three is no plainer.
 // The product of two places, left times right, to an empty place.
 pub fn product(shelf: Shelf, left: usize, right: usize, target: usize) -> Operated
     requires { Good shelf }
@@ -151,12 +130,10 @@ pub fn submatrix(shelf: Shelf, source: usize, rows: u8, columns: u8, target: usi
     ensures good { Good result.shelf }
     ensures promised { Promised result.shelf target (rows_at shelf source) (submatrix_at shelf source rows columns) result.answer }
 {
-    let row_set = rowset::wide(rows);
-    let column_set = rowset::wide(columns);
     work::keep(
         shelf,
         target,
-        work::submatrix(shelf, source, row_set, column_set, target),
+        work::submatrix(shelf, source, rows, columns, target),
     )
 }
 
@@ -191,7 +168,7 @@ pub fn perform(shelf: Shelf, task: Task, target: usize) -> Operated
 }
 
 // The steps that an operation will make, without working it.
-pub fn forecast(shelf: Shelf, task: Task) -> Foretold
+pub fn forecast(shelf: Shelf, task: Task) -> Result<usize, Refusal>
     requires { Good shelf }
     ensures result_value { foretold_report result ≡ forecast_call shelf task }
     ensures foretelling { Foretelling shelf (Found task) (task_call shelf task) (foretold_report result) }
@@ -205,7 +182,7 @@ pub fn forecast(shelf: Shelf, task: Task) -> Foretold
             source,
             rows,
             columns,
-        } => ahead::submatrix(shelf, source, rowset::wide(rows), rowset::wide(columns)),
+        } => ahead::submatrix(shelf, source, rows, columns),
         Task::Schur { source, k } => ahead::schur(shelf, source, k),
     }
 }
@@ -218,54 +195,32 @@ pub fn perform_recipe(shelf: Shelf, recipe: Recipe, target: usize) -> Operated
     ensures good { Good result.shelf }
     ensures promised { Promised result.shelf target (joined_rows shelf recipe) (joined_at shelf recipe) result.answer }
 {
-    if judge::miscounted(recipe.count) {
-        let answer = Performed::Refused(Refusal {
-            number: 18,
-            offset: 0,
-        });
-        return Operated { shelf, answer };
-    }
-    work::keep(shelf, target, work::joined(shelf, recipe, target))
+    work::keep(shelf, target, work::counted(shelf, recipe, target))
 }
 
 // The steps that a recipe will make, without working it.
-pub fn forecast_recipe(shelf: Shelf, recipe: Recipe) -> Foretold
+pub fn forecast_recipe(shelf: Shelf, recipe: Recipe) -> Result<usize, Refusal>
     requires { Good shelf }
     ensures result_value { foretold_report result ≡ recipe_forecast shelf recipe }
     ensures foretelling { Foretelling shelf RecipeFound (recipe_call shelf recipe) (foretold_report result) }
 {
-    if judge::miscounted(recipe.count) {
-        return Foretold::Refused(Refusal {
-            number: 18,
-            offset: 0,
-        });
-    }
+    let miscounted = judge::miscounted(recipe.count);
+    refuse_if(miscounted, Reason::WrongStepCount)?;
     ahead::joined(shelf, recipe)
 }
 
 // Any minor of a place, its row and column sets given as masks.
-pub fn minor(shelf: Shelf, place: usize, rows: u8, columns: u8) -> Valued
+pub fn minor(shelf: Shelf, place: usize, rows: u8, columns: u8) -> Result<Value, Refusal>
     requires { Good shelf }
     ensures { valued_report result ≡ minor_call shelf place rows columns }
 {
+    tests::sets(shelf, place, rows, columns)?;
     let n = places::rows_at(shelf, place);
-    let i = rowset::wide(rows);
-    let j = rowset::wide(columns);
-    let mut v = judge::source(shelf, place);
-    v = test(v, judge::unfit(n, i, j), 8);
-    if let Verdict::Refused(why) = v {
-        return Valued::Refused(why);
-    }
-    let a = value::minor(places::table_at(shelf, place), n, i, j);
+    let a = word::minor(places::table_at(shelf, place), n, rows, columns);
     let beyond = !a.in_range();
-    if beyond {
-        return Valued::Refused(Refusal {
-            number: 14,
-            offset: 0,
-        });
-    }
-    Valued::Value {
+    refuse_if(beyond, Reason::ExponentOutOfRange)?;
+    Ok(Value {
         mantissa: a.m,
         exponent: a.exponent(),
-    }
+    })
 }

@@ -13,19 +13,19 @@ use Rattle.number.proofs.Tests.{neither}
 use Rattle.rowset.specs.Mask.{mask_count, mask_beyond}
 use Rattle.rowset.proofs.Masks.{mask-within}
 use Rattle.places.specs.declared.Shelf.{Shelf}
-use Rattle.verdict.specs.declared.Verdict.{Verdict}
-use Rattle.verdict.specs.declared.Verdict.TheVariants.{Accepted, Refused}
-use Rattle.verdict.specs.Verdict.{first_of, after, when}
+use Rattle.std.specs.Prelude.{Ok, Err}
+use Rattle.verdict.specs.declared.Reason.TheVariants.{WrongChoice}
+use Rattle.verdict.specs.Verdict.{Verdict, first_of, after, when}
 use Rattle.verdict.proofs.Verdicts.{when-passed}
 use Rattle.conditions.proofs.Passed.{Source, Target, alone-accepted, to-accepted}
 use Rattle.places.specs.Shelf.{rows_at, Good}
 use Rattle.places.specs.Tests.{unfit, source_tests, one_source}
 
 module _ (s : Shelf) where
-  pub source-accepted : (p : ℕ) → first_of (source_tests s p) ≡ Accepted → Source (rows_at s) p
+  pub source-accepted : (p : ℕ) → first_of (source_tests s p) ≡ Ok tt → Source (rows_at s) p
   source-accepted p e = let a = alone-accepted (rows_at s) (p ∷ []) (omega arith) e in record { small = a.1.0; some = a.0 }
 
-  pub one-accepted : (p t : ℕ) → first_of (one_source s p t) ≡ Accepted → Source (rows_at s) p × Target (rows_at s) t
+  pub one-accepted : (p t : ℕ) → first_of (one_source s p t) ≡ Ok tt → Source (rows_at s) p × Target (rows_at s) t
   one-accepted p t e = let a = to-accepted (rows_at s) (p ∷ []) t (omega arith) e in (record { small = a.0.1.0; some = a.0.0 }, a.1)
 
 -- every place of a good shelf has at most eight rows, and one above 7 has none
@@ -37,9 +37,9 @@ rows_few s g p = elim (dec_lt p 8) [ yes h ↦ (g.held p h).few | no h ↦ past 
     past h = rw (get_or-eq_default s.sizes 0 {n = p} (omega (arith, g.places, h))) (omega arith)
 
 -- a shelf that is changed only where the call was accepted stays good
-pub after-good : (old new : Shelf) → Good old → (v : Verdict) → (v ≡ Accepted → Good new) → Good (after v old new)
-after-good old new g Accepted h = h refl
-after-good old new g (Refused w) h = g
+pub after-good : (old new : Shelf) → Good old → (v : Verdict) → (v ≡ Ok tt → Good new) → Good (after v old new)
+after-good old new g (Ok tt) h = h refl
+after-good old new g (Err w) h = g
 
 -- SETS that were accepted: equally many rows and columns of n, at least one
 pub record Fit (n I J : ℕ) : Type 0 where
@@ -48,9 +48,9 @@ pub record Fit (n I J : ℕ) : Type 0 where
   pub rows : I < 2 ^ n
   pub columns : J < 2 ^ n
 
-pub sets-accepted : (n I J : ℕ) → when (unfit n I J) 8 ≡ Accepted → Fit n I J
+pub sets-accepted : (n I J : ℕ) → when (unfit n I J) WrongChoice ≡ Ok tt → Fit n I J
 sets-accepted n I J e =
-    let a = neither (not (eqb (mask_count I) (mask_count J))) _ (when-passed (unfit n I J) 8 e) in
+    let a = neither (not (eqb (mask_count I) (mask_count J))) _ (when-passed (unfit n I J) WrongChoice e) in
     let b = neither (eqb I 0 || eqb J 0) _ a.1 in
     let c = neither (eqb I 0) (eqb J 0) b.0 in
     let d = neither (mask_beyond n I) (mask_beyond n J) b.1 in

@@ -1,5 +1,4 @@
 pub mod Shelf
 pub mod Tests
-pub mod Faults
 pub mod Check
 pub mod Outcome

@@ -2,7 +2,7 @@
 -- rows that each holds, and on row and column sets.
 use Rattle.std.specs.Prelude.{ℕ, Bool, not, ◌||◌, List, [], ◌∷◌, eqb}
 use Rattle.rowset.specs.Mask.{mask_count, mask_beyond}
-use Rattle.verdict.specs.declared.Verdict.{Verdict}
+use Rattle.verdict.specs.Verdict.{Verdict}
 use Rattle.conditions.specs.Conditions.{target_alone, sources_alone, sources_to}
 use Rattle.places.specs.declared.Shelf.{Shelf}
 use Rattle.places.specs.Shelf.{rows_at}

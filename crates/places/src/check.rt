@@ -10,13 +10,7 @@ use number::{BIAS, Number};
 fn stored(a: Number) -> bool
     ensures { result ≡ is_stored a }
 {
-    if a.m < 0x8000_0000 {
-        return false;
-    }
-    if 0x1_0000_0000 <= a.m {
-        return false;
-    }
-    a.in_range()
+    (0x8000_0000..0x1_0000_0000).contains(&a.m) && a.in_range()
 }
 
 // 0 where a number is zero, which has mantissa 0 at exponent 0.
@@ -47,32 +41,27 @@ fn back(k: usize) -> usize
 }
 
 // What may stand behind a number in a line: zero, and a stored number where that is not zero.
+#[tactic(auto, unfolding(crate::specs::Check::continues))]
 fn continues(before: Number, a: Number) -> bool
     ensures { result ≡ continues before a }
 {
-    if zero(a) {
-        return true;
-    }
-    if zero(before) {
-        return false;
-    }
-    stored(a)
+    zero(a) || (!zero(before) && stored(a))
 }
 
 // What may stand at k in the table of a matrix of n rows, behind a number in its line.
+#[tactic(auto, unfolding(crate::specs::Check::sound))]
 fn sound(n: usize, k: usize, before: Number, a: Number) -> bool
     ensures { result ≡ sound n k before a }
 {
-    if n <= k / 8 {
-        return zero(a);
+    let row = k / 8;
+    let column = k % 8;
+    if n <= row || n <= column {
+        zero(a)
+    } else if row == column {
+        stored(a)
+    } else {
+        continues(before, a)
     }
-    if n <= k % 8 {
-        return zero(a);
-    }
-    if k / 8 == k % 8 {
-        return stored(a);
-    }
-    continues(before, a)
 }
 
 // A good shelf: at most eight rows at each place, accepted factors in them, and zeros elsewhere. The numbers behind the rows are tested at once.

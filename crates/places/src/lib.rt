@@ -22,9 +22,8 @@ pub fn new() -> Shelf
     ensures value { result ≡ empty_shelf }
     ensures good { Good result }
 {
-    let zero = Number::zero();
     Shelf {
-        numbers: [zero; 512],
+        numbers: [Number::zero(); 512],
         sizes: [0u8; 8],
     }
 }
@@ -45,12 +44,8 @@ pub fn table_at(shelf: Shelf, place: usize) -> [Number; 64]
     requires { place < 8 }
     ensures { result ≡ table_at shelf place }
 {
-    let zero = Number::zero();
-    let mut t = [zero; 64];
-    for k in 0..64usize {
-        let at = place * 64 + k;
-        t[k] = shelf.numbers[at];
-    }
+    let mut t = [Number::zero(); 64];
+    t.copy_from_slice(&shelf.numbers[place * 64..place * 64 + 64]);
     t
 }
 
@@ -61,11 +56,7 @@ pub fn with_table(shelf: Shelf, place: usize, n: usize, t: [Number; 64]) -> Shel
     ensures good { Good result }
 {
     let mut left = shelf;
-    for k in 0..64usize {
-        let at = place * 64 + k;
-        let x = t[k];
-        left.numbers[at] = x;
-    }
+    left.numbers[place * 64..place * 64 + 64].copy_from_slice(&t);
     left.sizes[place] = n as u8;
     left
 }

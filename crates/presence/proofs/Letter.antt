@@ -1,26 +1,21 @@
 -- A letter on 256 Bools, mask after mask (Gone): the masks below s have their new Bool, the others their old one. None are gone through at first (gone-none),
--- each in turn (gone-skip, gone-set), and all in the end (gone-all).
-use mathlib.Core.Path.{◌≡◌, refl, sym, ap, ◌∙◌}
+-- each in turn (gone-skip, gone-move), and all in the end (gone-all).
+use mathlib.Core.Path.{◌≡◌, refl, sym, ap, ap₂, ◌∙◌}
 use mathlib.Core.Bool.{Bool, true, false, not, ◌&&◌, ◌||◌, false≢true}
 use mathlib.Core.List.{List}
 use Prim.Native.Nat.{ℕ, ◌+◌, ◌^◌, ◌≤◌, ◌<◌}
-use native.Mathlib.Decide.{ℕ_discrete}
+use native.Mathlib.Decide.{ℕ_discrete, dec_le}
 use native.Mathlib.Omega.{arith}
 use lib.ListN.{length, set, length-set}
-use lib.Pow.{pow_pos}
 use lib.Seq.{get_or-set_same, get_or-set_other}
-use Rattle.rowset.specs.Mask.{mask_of, mask_run, mask_moves, mask_replaced}
+use Rattle.rowset.specs.Mask.{mask_of, mask_moves, mask_replaced}
+use Rattle.rowset.proofs.Moved.{replaced-stays}
 use Rattle.rowset.proofs.Masks.{mask-back, mask-moves, mask-replaced, replaced-below}
 use Rattle.walk.proofs.Held.{mask_lt, mask-set}
 use Rattle.words.specs.RowSet.{RowSet, has, replaced, of_mask}
 use Rattle.words.specs.Walk.{moved, moved_if}
 use Rattle.presence.specs.Presence.{presence}
 use Rattle.presence.specs.Held.{held_at, state_of, Agree}
-
--- the masks of n rows end at 2 ^ n
-pub all-masks : (n : ℕ) → n ≤ 8 → mask_run 1 n + 1 ≡ 2 ^ n
-unfolding mask_run
-all-masks n l = omega (arith, pow_pos n)
 
 abbrev pub new_if : Bool → List Bool → ℕ → ℕ → ℕ → Bool
 new_if true v a o s = held_at v s || held_at v (mask_replaced a o s)
@@ -39,17 +34,24 @@ module _ {v : List Bool} {a o : ℕ} where
   gone-none e = record { size = e; done = λ x l. absurd (omega arith); rest = λ x l. refl }
 
   module _ {u : List Bool} {s : ℕ} (g : Gone v a o u s) where
-    pub gone-skip : held_at v s ≡ new_at v a o s → Gone v a o u (s + 1)
-    gone-skip e = record {
+    -- a mask that the letter does not change has its old Bool, gone through or not
+    unchanged : (x : ℕ) → mask_moves a o x ≡ false → held_at u x ≡ held_at v x
+    unchanged x m = elim (dec_le s x) [
+      | yes l ↦ g.rest x l
+      | no f ↦ g.done x (omega arith) ∙ ap (λ (b : Bool). new_if b v a o x) m
+    ]
+
+    pub gone-skip : mask_moves a o s ≡ false → Gone v a o u (s + 1)
+    gone-skip m = record {
       size = g.size;
       done = λ x l. elim (ℕ_discrete x s) [
-        | yes f ↦ ap (held_at u) f ∙ g.rest s (omega arith) ∙ e ∙ ap (new_at v a o) (sym f)
+        | yes f ↦ ap (held_at u) f ∙ g.rest s (omega arith) ∙ sym (ap (λ (b : Bool). new_if b v a o s) m) ∙ ap (new_at v a o) (sym f)
         | no f ↦ g.done x (omega arith)
       ];
       rest = λ x l. g.rest x (omega arith);
     }
 
-    pub gone-set : s < 256 → (y : Bool) → y ≡ new_at v a o s → Gone v a o (set u s y) (s + 1)
+    gone-set : s < 256 → (y : Bool) → y ≡ new_at v a o s → Gone v a o (set u s y) (s + 1)
     unfolding held_at
     gone-set l y e = record {
       size = length-set u s y ∙ g.size;
@@ -59,6 +61,13 @@ module _ {v : List Bool} {a o : ℕ} where
       ];
       rest = λ x k. get_or-set_other u s x y false (λ f. omega arith) ∙ g.rest x (omega arith);
     }
+
+    -- the mask that is read is none that the letter changes
+    pub gone-move : s < 256 → a ≤ 8 → o ≤ 8 → mask_moves a o s ≡ true → (t : ℕ) → t ≡ mask_replaced a o s → (y : Bool) → y ≡ held_at u s || held_at u t
+        → Gone v a o (set u s y) (s + 1)
+    gone-move l la lo m t e y f =
+        gone-set l y (f ∙ ap₂ ◌||◌ (g.rest s (omega arith)) (ap (held_at u) e ∙ unchanged (mask_replaced a o s) (replaced-stays s a o l la lo m))
+        ∙ sym (ap (λ (b : Bool). new_if b v a o s) m))
 
   pub gone-all : {u : List Bool} (n : ℕ) → n ≤ 8 → 1 ≤ a → a ≤ n → 1 ≤ o → o ≤ n → {s : ℕ} → 2 ^ n ≤ s → Gone v a o u s
       → Agree n (state_of u) (moved presence a o true (state_of v))

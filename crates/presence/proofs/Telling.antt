@@ -1,6 +1,6 @@
--- WHAT IS TOLD AT THE END of a walk in Bools (tells, tells-turned). It starts from a set of each count; letters keep the count of a set (walk_at), so at the
--- sets of one count the walk is that of the minor with the leading set of as many rows (start-one). Where no factor is zero all sets are held (tells_all,
--- tells-all-turned).
+-- WHAT IS TOLD AT THE END of a walk in Bools (tells-if). It starts from a set of each count; letters keep the count of a set (walk_at), so at the
+-- sets of one count the walk is that of the minor with the leading set of as many rows (start-one). Where no factor is zero all sets are held
+-- (tells-all-if).
 use mathlib.Core.Path.{◌≡◌, refl, sym, ap, ap₂, ◌∙◌}
 use mathlib.Core.Bool.{Bool, true, false, not, cond, ◌&&◌, ◌||◌}
 use mathlib.Core.List.{List, [], ◌∷◌}
@@ -30,7 +30,7 @@ use Rattle.words.proofs.Steps.{joined-rows}
 use Rattle.words.proofs.Related.{Matched, Letters}
 use Rattle.words.proofs.Alike.{letters-joined}
 use Rattle.walk.proofs.Held.{mask_lt, mask-set, mask-rows}
-use Rattle.presence.specs.Presence.{presence, nonzero}
+use Rattle.presence.specs.Presence.{presence, nonzero, word_if, exchanged_if}
 use Rattle.presence.specs.Held.{held_at, state_of, Agree, Starts, leading, Tells}
 use Rattle.presence.specs.Full.{Full}
 use Rattle.presence.proofs.Nonzero.{nonzero-yes, WeightTold, EntryTold, told-steps, minor-presence}
@@ -140,7 +140,7 @@ module _ (n p : ℕ) (ln : n ≤ 8) (lp : p < 2 ^ n) (v : List Bool) (st : Start
           ∙ minor-presence n L walkable S (leading P (count S)) e;
     }
 
-    pub tells-turned : Agree n (state_of u) (walk presence (transposed_word (present_steps n L)) (state_of v))
+    tells-turned : Agree n (state_of u) (walk presence (transposed_word (present_steps n L)) (state_of v))
         → Tells n (λ I J. minor rounded (joined_word n L) J I) (of_mask n p) u
     unfolding minor P
     tells-turned h = record {
@@ -156,6 +156,11 @@ module _ (n p : ℕ) (ln : n ≤ 8) (lp : p < 2 ^ n) (v : List Bool) (st : Start
           J S j e
           ∙ minor-presence n L walkable J S j;
     }
+
+    pub tells-if : (b : Bool) → Agree n (state_of u) (walk presence (word_if b (present_steps n L)) (state_of v))
+        → Tells n (exchanged_if b (minor rounded (joined_word n L))) (of_mask n p) u
+    tells-if true = tells-turned
+    tells-if false = tells
 
 -- the leading ones of the chosen rows, as many as there are in S
 leading_length : (n p c : ℕ) → length (leading (of_mask n p) c) ≡ n
@@ -184,7 +189,7 @@ tells_all n p L ln lp walkable full = record {
       ∙ minor-presence n L walkable S J e;
 }
 
-pub tells-all-turned : (n p : ℕ) (L : List (words.Step Number)) → n ≤ 8 → p < 2 ^ n → Sources (Walkable n) L → Full n L
+tells-all-turned : (n p : ℕ) (L : List (words.Step Number)) → n ≤ 8 → p < 2 ^ n → Sources (Walkable n) L → Full n L
     → Tells n (λ I J. minor rounded (joined_word n L) J I) (of_mask n p) (replicate 256 true)
 tells-all-turned n p L ln lp walkable full = record {
   told = λ S e l.
@@ -192,3 +197,8 @@ tells-all-turned n p L ln lp walkable full = record {
       all_held n S e ln ∙ sym (full-present n L full J S (leading_length n p (count S)) e (leading-rows n p (count S) l))
       ∙ minor-presence n L walkable J S (leading_length n p (count S));
 }
+
+pub tells-all-if : (b : Bool) (n p : ℕ) (L : List (words.Step Number)) → n ≤ 8 → p < 2 ^ n → Sources (Walkable n) L → Full n L
+    → Tells n (exchanged_if b (minor rounded (joined_word n L))) (of_mask n p) (replicate 256 true)
+tells-all-if true = tells-all-turned
+tells-all-if false = tells_all

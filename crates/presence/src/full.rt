@@ -11,15 +11,7 @@ fn no_zero(factors: &[u64; 768], n: usize, c: usize) -> bool
     requires { (n ≤ 8) × (c < 6) }
     ensures { (result ≡ true) ↔ NoZero n (factors_of (table_in factors.now c)) }
 {
-    for t in 0..n * 8 {
-        if t % 8 < n {
-            let vanishes = factors[2 * (c * 64 + t)] == 0;
-            if vanishes {
-                return false;
-            }
-        }
-    }
-    true
+    (0..n * 8).all(|t| n <= t % 8 || factors[2 * (c * 64 + t)] != 0)
 }
 
 // The word has a step, and no factor of its steps is zero.
@@ -27,12 +19,5 @@ pub fn full(word: Joined, factors: &[u64; 768]) -> bool
     requires { (word.n ≤ 8) × (word.count ≤ 6) }
     ensures { (result ≡ true) ↔ Full word.n (steps_of word factors.now) }
 {
-    let n = word.n;
-    let count = word.count;
-    for c in 0..count {
-        if !no_zero(factors, n, c) {
-            return false;
-        }
-    }
-    0 < count
+    0 < word.count && (0..word.count).all(|c| no_zero(factors, word.n, c))
 }

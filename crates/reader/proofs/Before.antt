@@ -3,7 +3,6 @@
 -- Up to the first code of zero both readings take the same factors, none of them zero, so that no code is behind a zero in its line (`same-judged`). That code
 -- is 6 in document 01, and still so on the diagonal (`diagonal-judged`).
 use Prim.Native.Nat.{ℕ, zero, suc, ◌+◌, ◌-◌, ◌*◌, ◌/◌, ◌%◌, ◌<◌, ◌≤◌}
-use native.Mathlib.Nat.{suc-ne-zero}
 use native.Mathlib.Decide.{ℕ_discrete, dec_lt}
 use native.Mathlib.Omega.{arith}
 use mathlib.Core.Path.{◌≡◌, refl, sym, ap, ◌∙◌}
@@ -16,14 +15,10 @@ use Rattle.number.specs.declared.Number.{Number}
 use Rattle.number.specs.Number.{zero_number, Stored}
 use Rattle.table.specs.Table.{square_of}
 use Rattle.table.proofs.RowByRow.{square-below}
-use Rattle.reader.specs.declared.ByteItem.{ByteItem}
-use Rattle.reader.specs.declared.ByteItem.TheVariants as item
-use Rattle.reader.specs.declared.CodeVerdict.{CodeVerdict}
-use Rattle.reader.specs.declared.CodeVerdict.TheVariants.{Accepted, Refused}
-use Rattle.reader.specs.declared.ByteFactor.{ByteFactor}
-use Rattle.reader.specs.declared.ByteFactor.TheVariants as factor
-use Rattle.reader.specs.Matrix.{item_at, before_in_line, judged_code, mantissa_at, judged_by, factor_by_item, factor_at}
-use Rattle.reader.specs.Matrix.{Reading, matrix, fault, on_factor, factors_from, matrix_by, matrix_of}
+use Rattle.std.specs.Prelude.{Ok, Err}
+use Rattle.verdict.specs.declared.Reason.TheVariants as reason
+use Rattle.reader.specs.Matrix.{Item, item, item_at, before_in_line, CodeVerdict, judged_code, Factor, factor, mantissa_at, judged_by}
+use Rattle.reader.specs.Matrix.{factor_by_item, factor_at, Reading, matrix, fault, wrong_size, on_factor, factors_from, matrix_by, matrix_of}
 use Rattle.reader.specs.Faults.{next_row, next_column, FactorsTo, none, more}
 use Rattle.reader.specs.Before.{old_judged, old_factor_by, old_factors_from, old_reading_by, old_reading, ReadAsBefore, same, was-six, OldRead}
 use Rattle.reader.proofs.OneFactor.{mantissa-taken}
@@ -47,7 +42,7 @@ abbrev Nonzero : List Number → Type 0
 Nonzero = Every NotZero
 
 -- a factor whose code is not 0 is not zero
-factor-nonzero : (s : List ℕ) (p code : ℕ) → (code ≡ 0 → ⊥) → (a : Number) (q : ℕ) → mantissa_at s p code ≡ factor.At a q → a.m ≡ 0 → ⊥
+factor-nonzero : (s : List ℕ) (p code : ℕ) → (code ≡ 0 → ⊥) → (a : Number) (q : ℕ) → mantissa_at s p code ≡ factor a q → a.m ≡ 0 → ⊥
 factor-nonzero s p code h a q e z =
     let m = mantissa-taken s p code a q h e in
     omega (arith, ap (λ (x : Number). x.m) m.made)
@@ -74,32 +69,32 @@ module _ (n : ℕ) (some : 0 < n) (front : List Number) where
         | no e ↦ simp (ne_eqb code 0 g, ne_eqb (next_row n front) (next_column n front) e, ne_eqb _ 0 (before-nonzero h e))
       ]
 
-  diagonal-judged : next_row n front ≡ next_column n front → judged_code n front 0 ≡ Refused 6
+  diagonal-judged : next_row n front ≡ next_column n front → judged_code n front 0 ≡ Err reason.FactorZero
   unfolding judged_code
   diagonal-judged e = simp (eq-eqb (next_row n front) (next_column n front) e)
 
 -- BOTH READINGS, from the factors in front on
 module _ (s : List ℕ) where
-  module _ (n begin : ℕ) (rows : item_at s 0 ≡ item.Value n begin) (some : 0 < n) (few : n ≤ 8) where
+  module _ (n begin : ℕ) (rows : item_at s 0 ≡ item n begin) (some : 0 < n) (few : n ≤ 8) where
     module _ (c : ℕ) (front : List Number) (p : ℕ) (taken : FactorsTo s n begin front p) (whole : Nonzero front) (left : length front + suc c ≡ n * n)
         (behind : (a : Number) (q : ℕ) → FactorsTo s n begin (front ++ (a ∷ [])) q → (a.m ≡ 0 → ⊥)
         → ReadAsBefore s (factors_from s n (front ++ (a ∷ [])) c q) (old_factors_from s n (front ++ (a ∷ [])) c q)) where
-      abbrev new : ByteFactor → Reading
+      abbrev new : Factor → Reading
       new = on_factor (λ a q. factors_from s n (front ++ (a ∷ [])) c q)
 
-      abbrev old : ByteFactor → Reading
+      abbrev old : Factor → Reading
       old = on_factor (λ a q. old_factors_from s n (front ++ (a ∷ [])) c q)
 
-      by-factor : (w : ByteFactor) → factor_at s n front p ≡ w → ((a : Number) (q : ℕ) → w ≡ factor.At a q → a.m ≡ 0 → ⊥) → ReadAsBefore s (new w) (old w)
-      by-factor (factor.At a q) e h = behind a q (more a q taken e) (h a q refl)
-      by-factor (factor.Fault k o) e h = same refl
+      by-factor : (w : Factor) → factor_at s n front p ≡ w → ((a : Number) (q : ℕ) → w ≡ factor a q → a.m ≡ 0 → ⊥) → ReadAsBefore s (new w) (old w)
+      by-factor (Ok r) e h = behind r.value r.next (more r.value r.next taken e) (h r.value r.next refl)
+      by-factor (Err v) e h = same refl
 
       by_code : (code q : ℕ) → (code ≡ 0 → ⊥) → (v : CodeVerdict) → factor_at s n front p ≡ judged_by p (mantissa_at s q code) v
           → ReadAsBefore s (new (judged_by p (mantissa_at s q code) v)) (old (judged_by p (mantissa_at s q code) v))
-      by_code code q h Accepted f = by-factor (mantissa_at s q code) f (λ a r. factor-nonzero s q code h a r)
-      by_code code q h (Refused k) f = same refl
+      by_code code q h (Ok tt) f = by-factor (mantissa_at s q code) f (λ a r. factor-nonzero s q code h a r)
+      by_code code q h (Err k) f = same refl
 
-      by_zero : (q : ℕ) → item_at s p ≡ item.Value 0 q → ReadAsBefore s (new (judged_by p (mantissa_at s q 0) (judged_code n front 0))) (fault 6 p)
+      by_zero : (q : ℕ) → item_at s p ≡ item 0 q → ReadAsBefore s (new (judged_by p (mantissa_at s q 0) (judged_code n front 0))) (fault reason.FactorZero p)
       by_zero q e =
           elim (ℕ_discrete (next_row n front) (next_column n front)) [
             | yes d ↦ same (ap (λ (v : CodeVerdict). new (judged_by p (mantissa_at s q 0) v)) (diagonal-judged n some front d))
@@ -113,15 +108,19 @@ module _ (s : List ℕ) where
                 })
           ]
 
-      by-item : (w : ByteItem) → item_at s p ≡ w → ReadAsBefore s (new (factor_by_item s n front p w)) (old (old_factor_by s p w))
+      by-value : (code q : ℕ) → item_at s p ≡ item code q
+          → ReadAsBefore s (new (judged_by p (mantissa_at s q code) (judged_code n front code))) (old (judged_by p (mantissa_at s q code) (old_judged code)))
       unfolding factor_at
-      by-item (item.Value zero q) e = by_zero q e
-      by-item (item.Value (suc k) q) e =
+      by-value zero q e = by_zero q e
+      by-value (suc k) q e =
           let code : ℕ = suc k in
           let h : code ≡ 0 → ⊥ = λ z. omega arith in
           let d = same-judged n some front whole code h in
           rw d (by_code code q h (old_judged code) (rw e (ap (judged_by p (mantissa_at s q code)) d)))
-      by-item (item.Fault k o) e = same refl
+
+      by-item : (w : Item) → item_at s p ≡ w → ReadAsBefore s (new (factor_by_item s n front p w)) (old (old_factor_by s p w))
+      by-item (Ok i) e = by-value i.value i.next e
+      by-item (Err w) e = same refl
 
     from_front : (c : ℕ) (front : List Number) (p : ℕ) → FactorsTo s n begin front p → Nonzero front → length front + c ≡ n * n
         → ReadAsBefore s (factors_from s n front c p) (old_factors_from s n front c p)
@@ -131,17 +130,17 @@ module _ (s : List ℕ) where
         by-item c front p t h l
         (λ a q u g. from_front c (front ++ (a ∷ [])) q u (every_more NotZero front a h g) (omega (arith, length-append front (a ∷ [])))) (item_at s p) refl
 
-  by_rows : (n begin : ℕ) → item_at s 0 ≡ item.Value n begin → (t u : Bool) → ltb n 1 ≡ t → ltb 8 n ≡ u
-      → ReadAsBefore s (cond t (fault 4 0) (cond u (fault 4 0) (factors_from s n [] (n * n) begin)))
-      (cond t (fault 4 0) (cond u (fault 4 0) (old_factors_from s n [] (n * n) begin)))
+  by_rows : (n begin : ℕ) → item_at s 0 ≡ item n begin → (t u : Bool) → ltb n 1 ≡ t → ltb 8 n ≡ u
+      → ReadAsBefore s (cond t wrong_size (cond u wrong_size (factors_from s n [] (n * n) begin)))
+      (cond t wrong_size (cond u wrong_size (old_factors_from s n [] (n * n) begin)))
   by_rows n begin e true u a b = same refl
   by_rows n begin e false true a b = same refl
   by_rows n begin e false false a b =
       from_front n begin e (ltb-false n 1 a) (ltb-false 8 n b) (n * n) [] begin none (λ k l. absurd (omega arith)) (omega arith)
 
-  from_start : (w : ByteItem) → item_at s 0 ≡ w → ReadAsBefore s (matrix_by s w) (old_reading_by s w)
-  from_start (item.Value n q) e = by_rows n q e (ltb n 1) (ltb 8 n) refl refl
-  from_start (item.Fault k o) e = same refl
+  from_start : (w : Item) → item_at s 0 ≡ w → ReadAsBefore s (matrix_by s w) (old_reading_by s w)
+  from_start (Ok i) e = by_rows i.value i.next e (ltb i.value 1) (ltb 8 i.value) refl refl
+  from_start (Err w) e = same refl
 
   -- EVERY READING STAYS, but that of a zero off the diagonal
   pub read-before : ReadAsBefore s (matrix_of s) (old_reading s)
@@ -153,25 +152,25 @@ module _ (s : List ℕ) where
     where
       by : ReadAsBefore s (matrix_of s) (old_reading s) → matrix_of s ≡ matrix n L q
       by (same f) = f ∙ e
-      by (was-six o f z) = absurd (suc-ne-zero 0 (cc))
+      by (was-six o f z) = absurd (cc)
 
 -- WHAT DOCUMENT 01 TOOK: stored numbers alone
 module _ (s : List ℕ) where
-  mantissa-stored : (code p q : ℕ) (a : Number) → (code ≡ 0 → ⊥) → code ≤ 2001 → mantissa_at s p code ≡ factor.At a q → Stored a
+  mantissa-stored : (code p q : ℕ) (a : Number) → (code ≡ 0 → ⊥) → code ≤ 2001 → mantissa_at s p code ≡ factor a q → Stored a
   mantissa-stored code p q a some few f =
       let m = mantissa-taken s p code a q some f in
       rw (← m.made) (record { low = omega arith; high = omega (arith, m.small); start = omega arith; stop = omega arith })
 
   module _ (p q : ℕ) (a : Number) where
     by-verdict : (code r : ℕ) (t u : Bool) → ltb 2001 code ≡ t → eqb code 0 ≡ u
-        → judged_by p (mantissa_at s r code) (cond t (Refused 5) (cond u (Refused 6) Accepted)) ≡ factor.At a q → Stored a
-    by-verdict code r true u e d f = absurd (suc-ne-zero 0 (cc))
-    by-verdict code r false true e d f = absurd (suc-ne-zero 0 (cc))
+        → judged_by p (mantissa_at s r code) (cond t (Err reason.FactorOutOfRange) (cond u (Err reason.FactorZero) (Ok tt))) ≡ factor a q → Stored a
+    by-verdict code r true u e d f = absurd (cc)
+    by-verdict code r false true e d f = absurd (cc)
     by-verdict code r false false e d f = mantissa-stored code r q a (eqb-false code 0 d) (ltb-false 2001 code e) f
 
-    factor-stored : (w : ByteItem) → old_factor_by s p w ≡ factor.At a q → Stored a
-    factor-stored (item.Value code r) f = by-verdict code r (ltb 2001 code) (eqb code 0) refl refl f
-    factor-stored (item.Fault k o) f = absurd (suc-ne-zero 0 (cc))
+    factor-stored : (w : Item) → old_factor_by s p w ≡ factor a q → Stored a
+    factor-stored (Ok i) f = by-verdict i.value i.next (ltb 2001 i.value) (eqb i.value 0) refl refl f
+    factor-stored (Err w) f = absurd (cc)
 
   -- factors that were read, behind others, to a count: stored ones, of as many rows as were said
   record OldRows (n count : ℕ) (L : List Number) (m : ℕ) : Type 0 where
@@ -182,10 +181,10 @@ module _ (s : List ℕ) where
   module _ (n m : ℕ) (L : List Number) (q : ℕ) where
     stored-first : (c : ℕ) (front : List Number) (p : ℕ)
         → ((a : Number) (r : ℕ) → Stored a → old_factors_from s n (front ++ (a ∷ [])) c r ≡ matrix m L q → OldRows n (length front + suc c) L m)
-        → (w : ByteFactor) → old_factor_by s p (item_at s p) ≡ w → on_factor (λ a r. old_factors_from s n (front ++ (a ∷ [])) c r) w ≡ matrix m L q
+        → (w : Factor) → old_factor_by s p (item_at s p) ≡ w → on_factor (λ a r. old_factors_from s n (front ++ (a ∷ [])) c r) w ≡ matrix m L q
         → OldRows n (length front + suc c) L m
-    stored-first c front p behind (factor.At a r) e f = behind a r (factor-stored p r a (item_at s p) e) f
-    stored-first c front p behind (factor.Fault k o) e f = absurd (suc-ne-zero 0 (cc))
+    stored-first c front p behind (Ok r) e f = behind r.value r.next (factor-stored p r.next r.value (item_at s p) e) f
+    stored-first c front p behind (Err w) e f = absurd (cc)
 
     stored-from : (c : ℕ) (front : List Number) (p : ℕ) → Every Stored front → old_factors_from s n front c p ≡ matrix m L q → OldRows n (length front + c) L m
     unfolding old_factors_from
@@ -202,10 +201,10 @@ module _ (s : List ℕ) where
 
   module _ (n : ℕ) (L : List Number) (q : ℕ) where
     stored-rows : (v r : ℕ) (t u : Bool) → ltb 8 v ≡ u
-        → cond t (fault 4 0) (cond u (fault 4 0) (old_factors_from s v [] (v * v) r)) ≡ matrix n L q → OldRead n L
+        → cond t wrong_size (cond u wrong_size (old_factors_from s v [] (v * v) r)) ≡ matrix n L q → OldRead n L
     unfolding square_of
-    stored-rows v r true u e f = absurd (suc-ne-zero 0 (cc))
-    stored-rows v r false true e f = absurd (suc-ne-zero 0 (cc))
+    stored-rows v r true u e f = absurd (cc)
+    stored-rows v r false true e f = absurd (cc)
     stored-rows v r false false e f =
         let g = stored-from v n L q (v * v) [] r (λ k l. absurd (omega arith)) f in
         rw g.rows
@@ -214,9 +213,9 @@ module _ (s : List ℕ) where
           stored = λ i j x y. g.stored ((i - 1) * v + (j - 1)) (omega (arith, g.square, square-below v (i - 1) (j - 1) (omega arith) (omega arith)));
         })
 
-    stored-item : (w : ByteItem) → old_reading_by s w ≡ matrix n L q → OldRead n L
-    stored-item (item.Value v r) f = stored-rows v r (ltb v 1) (ltb 8 v) refl f
-    stored-item (item.Fault k o) f = absurd (suc-ne-zero 0 (cc))
+    stored-item : (w : Item) → old_reading_by s w ≡ matrix n L q → OldRead n L
+    stored-item (Ok i) f = stored-rows i.value i.next (ltb i.value 1) (ltb 8 i.value) refl f
+    stored-item (Err w) f = absurd (cc)
 
     pub old-stored : old_reading s ≡ matrix n L q → OldRead n L
     unfolding old_reading

@@ -18,7 +18,7 @@ use Rattle.table.specs.Table.{square_of}
 use Rattle.table.proofs.RowByRow.{row_below, square-below}
 use Rattle.table.proofs.Square.{square-number}
 use Rattle.writer.specs.Encoding.{Storable}
-use Rattle.reader.specs.declared.CodeVerdict.TheVariants.{Accepted}
+use Rattle.std.specs.Prelude.{Ok}
 use Rattle.reader.specs.Matrix.{before_in_line, judged_code}
 use Rattle.reader.proofs.Pattern.{just-above, just-left, Follows, banded-follows, follows-banded, Taken, judged-taken, judged-only, follows_same}
 
@@ -66,11 +66,11 @@ module _ (n : ℕ) where
   abbrev pub NextCode : List Number → ℕ → Type 0
   NextCode before code = Taken (square_of n before) (suc (length before / n)) (suc (length before % n)) code
 
-  pub code-taken : (before : List Number) (code : ℕ) → NextCode before code → judged_code n before code ≡ Accepted
+  pub code-taken : (before : List Number) (code : ℕ) → NextCode before code → judged_code n before code ≡ Ok tt
   unfolding judged_code
   code-taken before code t = judged-taken _ _ _ code t
 
-  pub code-only : (before : List Number) (code : ℕ) → judged_code n before code ≡ Accepted → NextCode before code
+  pub code-only : (before : List Number) (code : ℕ) → judged_code n before code ≡ Ok tt → NextCode before code
   unfolding judged_code
   code-only before code f = judged-only _ _ _ code f
 

@@ -4,6 +4,7 @@ use Prim.Native.Nat.{ℕ, zero, suc}
 use mathlib.Core.Path.{◌≡◌, refl}
 use mathlib.Core.List.{List, [], ◌∷◌}
 use Rattle.group.specs.Group.{group_in, bytes_in}
+use Rattle.verdict.specs.declared.Reason.TheVariants as reason
 use Rattle.number.specs.declared.Number.{Number}
 use Rattle.number.specs.Number.{zero_number, one_number}
 use Rattle.table.specs.Table.{square_of}
@@ -47,29 +48,29 @@ taken =
 faults : List Row
 faults =
     -- 2: the end, in the first item, in a later one, and before a fifth byte
-    reads [] (fault 2 0)
-    ∷ reads (2 ∷ 0xCA ∷ 7 ∷ 0 ∷ 0xCA ∷ []) (fault 2 5)
-    ∷ reads (0x80 ∷ 0x80 ∷ 0x80 ∷ 0x80 ∷ []) (fault 2 4)
+    reads [] (fault reason.BytesEndEarly 0)
+    ∷ reads (2 ∷ 0xCA ∷ 7 ∷ 0 ∷ 0xCA ∷ []) (fault reason.BytesEndEarly 5)
+    ∷ reads (0x80 ∷ 0x80 ∷ 0x80 ∷ 0x80 ∷ []) (fault reason.BytesEndEarly 4)
     -- 3: not shortest, a fifth byte with its top bit set, 2 ^ 32
-    ∷ reads (0x80 ∷ 0 ∷ []) (fault 3 0)
-    ∷ reads (0x80 ∷ 0x80 ∷ 0x80 ∷ 0x80 ∷ 0x80 ∷ []) (fault 3 0)
-    ∷ reads (1 ∷ 0xCA ∷ 7 ∷ 0x80 ∷ 0x80 ∷ 0x80 ∷ 0x80 ∷ 0x10 ∷ []) (fault 3 3)
+    ∷ reads (0x80 ∷ 0 ∷ []) (fault reason.MalformedGroup 0)
+    ∷ reads (0x80 ∷ 0x80 ∷ 0x80 ∷ 0x80 ∷ 0x80 ∷ []) (fault reason.MalformedGroup 0)
+    ∷ reads (1 ∷ 0xCA ∷ 7 ∷ 0x80 ∷ 0x80 ∷ 0x80 ∷ 0x80 ∷ 0x10 ∷ []) (fault reason.MalformedGroup 3)
     -- 4: n is 0, 9, 300
-    ∷ reads (0 ∷ []) (fault 4 0)
-    ∷ reads (9 ∷ []) (fault 4 0)
-    ∷ reads (0xAC ∷ 2 ∷ []) (fault 4 0)
+    ∷ reads (0 ∷ []) (fault reason.SizeOutOfRange 0)
+    ∷ reads (9 ∷ []) (fault reason.SizeOutOfRange 0)
+    ∷ reads (0xAC ∷ 2 ∷ []) (fault reason.SizeOutOfRange 0)
     -- 5: exponent code 2002, whatever is behind it; the rest of a mantissa is 2 ^ 31
-    ∷ reads (1 ∷ 0xD2 ∷ 0xF ∷ []) (fault 5 1)
-    ∷ reads (1 ∷ 0xCA ∷ 7 ∷ 0x80 ∷ 0x80 ∷ 0x80 ∷ 0x80 ∷ 8 ∷ []) (fault 5 3)
+    ∷ reads (1 ∷ 0xD2 ∷ 0xF ∷ []) (fault reason.FactorOutOfRange 1)
+    ∷ reads (1 ∷ 0xCA ∷ 7 ∷ 0x80 ∷ 0x80 ∷ 0x80 ∷ 0x80 ∷ 8 ∷ []) (fault reason.FactorOutOfRange 3)
     -- 6: a zero on the diagonal, the first factor and the last
-    ∷ reads (2 ∷ 0 ∷ []) (fault 6 1)
-    ∷ reads (2 ∷ ones 3 (0 ∷ [])) (fault 6 10)
+    ∷ reads (2 ∷ 0 ∷ []) (fault reason.FactorZero 1)
+    ∷ reads (2 ∷ ones 3 (0 ∷ [])) (fault reason.FactorZero 10)
     -- 16: behind a zero in a row above the diagonal, and in a column below it where the input ends behind the code; such a bundle is handed back whole
-    ∷ reads (3 ∷ ones 1 (0 ∷ ones 7 [])) (fault 16 5)
-    ∷ reads (3 ∷ ones 3 (0 ∷ ones 2 (0xCA ∷ 7 ∷ []))) (fault 16 17)
+    ∷ reads (3 ∷ ones 1 (0 ∷ ones 7 [])) (fault reason.PatternBroken 5)
+    ∷ reads (3 ∷ ones 3 (0 ∷ ones 2 (0xCA ∷ 7 ∷ []))) (fault reason.PatternBroken 17)
     ∷ leaves (3 ∷ ones 1 (0 ∷ ones 7 [])) (3 ∷ ones 1 (0 ∷ ones 7 []))
     -- 5 before 16
-    ∷ reads (3 ∷ ones 1 (0 ∷ 0xD2 ∷ 0xF ∷ [])) (fault 5 5)
+    ∷ reads (3 ∷ ones 1 (0 ∷ 0xD2 ∷ 0xF ∷ [])) (fault reason.FactorOutOfRange 5)
     ∷ []
 
 old : List Row
@@ -77,12 +78,12 @@ old =
     -- ones, as they are read now
     was (2 ∷ ones 4 []) (matrix 2 (one_number ∷ one_number ∷ one_number ∷ one_number ∷ []) 13)
     -- a zero off the diagonal was 6, and is read now; on it it is 6 still
-    ∷ was (2 ∷ ones 1 (0 ∷ ones 2 [])) (fault 6 4)
+    ∷ was (2 ∷ ones 1 (0 ∷ ones 2 [])) (fault reason.FactorZero 4)
     ∷ reads (2 ∷ ones 1 (0 ∷ ones 2 [])) (matrix 2 (one_number ∷ zero_number ∷ one_number ∷ one_number ∷ []) 11)
-    ∷ was (2 ∷ 0 ∷ []) (fault 6 1)
+    ∷ was (2 ∷ 0 ∷ []) (fault reason.FactorZero 1)
     -- such a zero comes before the code that is 16 now; a code that is 5 comes before such a zero
-    ∷ was (3 ∷ ones 1 (0 ∷ ones 7 [])) (fault 6 4)
-    ∷ was (2 ∷ 0xD2 ∷ 0xF ∷ 0 ∷ []) (fault 5 1)
+    ∷ was (3 ∷ ones 1 (0 ∷ ones 7 [])) (fault reason.FactorZero 4)
+    ∷ was (2 ∷ 0xD2 ∷ 0xF ∷ 0 ∷ []) (fault reason.FactorOutOfRange 1)
     ∷ []
 
 All : List Row → Type 0

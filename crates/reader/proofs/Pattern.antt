@@ -2,7 +2,6 @@
 -- (`banded-follows`, `follows-banded`). Which exponent codes are taken there (`Taken`): those that are judged so (`judged-taken`, `judged-only`), and those of
 -- the numbers that may stand there (`stored-taken`, `zero-taken`, `taken-stored`, `taken-zero`).
 use Prim.Native.Nat.{ℕ, suc, ◌-◌, ◌<◌, ◌≤◌}
-use native.Mathlib.Nat.{suc-ne-zero}
 use native.Mathlib.Decide.{ℕ_discrete, dec_lt}
 use native.Mathlib.Omega.{arith}
 use mathlib.Core.Path.{◌≡◌, refl, ap, subst, ◌∙◌}
@@ -16,8 +15,9 @@ use Rattle.words.specs.RowSet.{In}
 use Rattle.words.specs.Sources.{BandedNumbers}
 use Rattle.words.proofs.Banded.{StoredOrZero, stored, zero, stored-nonzero, banded-next, banded-decided, below-zero, above_zero}
 use Rattle.writer.specs.Encoding.{exponent_code}
-use Rattle.reader.specs.declared.CodeVerdict.TheVariants.{Accepted, Refused}
-use Rattle.reader.specs.Matrix.{before_in_line, judged_at}
+use Rattle.std.specs.Prelude.{Ok, Err}
+use Rattle.verdict.specs.declared.Reason.TheVariants as reason
+use Rattle.reader.specs.Matrix.{CodeVerdict, before_in_line, judged_at}
 
 -- a number that is stored or zero, by its mantissa
 by-mantissa : {a : Number} → StoredOrZero a → a.m ≡ 0 → a ≡ zero_number
@@ -27,6 +27,12 @@ by-mantissa (zero e) z = e
 unless-zero : {a : Number} → StoredOrZero a → (a ≡ zero_number → ⊥) → Stored a
 unless-zero (stored s) h = s
 unless-zero (zero e) h = absurd (h e)
+
+-- the verdict on a code, by its tests: above 2001, on the diagonal, that of zero, and behind a zero in its line
+abbrev pub tested : (large on blank behind : Bool) → CodeVerdict
+tested large on blank behind =
+    cond large (Err reason.FactorOutOfRange)
+    (cond on (cond blank (Err reason.FactorZero) (Ok tt)) (cond (not blank && behind) (Err reason.PatternBroken) (Ok tt)))
 
 module _ (b : Factors Number) where
   pub just-above : (i j : ℕ) → j < i → before_in_line b i j ≡ b (i - 1) j
@@ -78,7 +84,7 @@ module _ (b : Factors Number) where
       pub on : i ≡ j → code ≡ 0 → ⊥
       pub off : (i ≡ j → ⊥) → (before_in_line b i j).m ≡ 0 → code ≡ 0
 
-    pub judged-taken : (code : ℕ) → Taken code → judged_at b i j code ≡ Accepted
+    pub judged-taken : (code : ℕ) → Taken code → judged_at b i j code ≡ Ok tt
     judged-taken code t =
         elim (ℕ_discrete i j) [
           | yes e ↦ simp (le-ltb 2001 code t.few, eq-eqb i j e, ne_eqb code 0 (t.on e))
@@ -90,18 +96,18 @@ module _ (b : Factors Number) where
         ]
 
     judged-by : (code : ℕ) (t u v w : Bool) → ltb 2001 code ≡ t → eqb i j ≡ u → eqb code 0 ≡ v → eqb (before_in_line b i j).m 0 ≡ w
-        → cond t (Refused 5) (cond u (cond v (Refused 6) Accepted) (cond (not v && w) (Refused 16) Accepted)) ≡ Accepted → Taken code
-    judged-by code true u v w p q r s f = absurd (suc-ne-zero 0 (cc))
-    judged-by code false true true w p q r s f = absurd (suc-ne-zero 0 (cc))
+        → tested t u v w ≡ Ok tt → Taken code
+    judged-by code true u v w p q r s f = absurd (cc)
+    judged-by code false true true w p q r s f = absurd (cc)
     judged-by code false true false w p q r s f =
         record { few = ltb-false 2001 code p; on = λ e. eqb-false code 0 r; off = λ h. absurd (h (eqb-true i j q)) }
     judged-by code false false true w p q r s f =
         record { few = ltb-false 2001 code p; on = λ e. absurd (eqb-false i j q e); off = λ h z. eqb-true code 0 r }
-    judged-by code false false false true p q r s f = absurd (suc-ne-zero 0 (cc))
+    judged-by code false false false true p q r s f = absurd (cc)
     judged-by code false false false false p q r s f =
         record { few = ltb-false 2001 code p; on = λ e. absurd (eqb-false i j q e); off = λ h z. absurd (eqb-false _ 0 s z) }
 
-    pub judged-only : (code : ℕ) → judged_at b i j code ≡ Accepted → Taken code
+    pub judged-only : (code : ℕ) → judged_at b i j code ≡ Ok tt → Taken code
     judged-only code f = judged-by code (ltb 2001 code) (eqb i j) (eqb code 0) (eqb (before_in_line b i j).m 0) refl refl refl refl f
 
     -- of the numbers that may stand there

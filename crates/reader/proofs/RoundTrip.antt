@@ -2,7 +2,7 @@
 -- it is what is written (`matrix-read`). `accepted`: the same of what `read_matrix` answers; `factors-held`: the factors of a matrix stand where `write_matrix`
 -- finds them.
 use Prim.Native.Nat.{ℕ, zero, suc, ◌+◌, ◌*◌, ◌≤◌}
-use native.Mathlib.Nat.{suc-ne-zero, add_assoc, add-zero, zero-add}
+use native.Mathlib.Nat.{add_assoc, add-zero, zero-add}
 use native.Mathlib.Omega.{arith}
 use mathlib.Core.Path.{◌≡◌, refl, sym, ap, ◌∙◌}
 use mathlib.Core.Bool.{Bool, true, false, cond}
@@ -13,15 +13,12 @@ use lib.Dec.{ltb}
 use borrow.Author.Tests.{ltb-false, le-ltb}
 use Rattle.group.specs.Group.{bytes_of, Bytes}
 use Rattle.number.specs.declared.Number.{Number}
-use Rattle.reader.specs.declared.ByteItem.{ByteItem}
-use Rattle.reader.specs.declared.ByteItem.TheVariants as item
-use Rattle.reader.specs.declared.ByteFactor.{ByteFactor}
-use Rattle.reader.specs.declared.ByteFactor.TheVariants as factor
-use Rattle.reader.specs.declared.ReadOutcome.TheVariants as outcome
+use Rattle.std.specs.Prelude.{Ok, Err}
 use Rattle.reader.specs.declared.Parsed.{Parsed}
 use Rattle.writer.specs.Encoding.{factor_bytes, factors_bytes, encoding, square_factors, Storable}
 use Rattle.writer.proofs.Writing.{square-small}
-use Rattle.reader.specs.Matrix.{item_at, factor_at, Reading, matrix, fault, on_factor, factors_from, matrix_by, matrix_of, zero_table, parsed, behind_of}
+use Rattle.reader.specs.Matrix.{Item, item, item_at, Factor, factor_at, Reading, matrix, fault, wrong_size, on_factor, factors_from, matrix_by, matrix_of}
+use Rattle.reader.specs.Matrix.{zero_table, parsed, behind_of}
 use Rattle.reader.proofs.Reading.{factors-none, factors-more}
 use Rattle.reader.proofs.Continued.{Continued, storable-continued, continued-banded}
 use Rattle.reader.proofs.OneFactor.{item-written, factor-written, Stands, stands-none, stands-append, item-read, factor-read}
@@ -69,10 +66,12 @@ module _ (s : List ℕ) (bs : Bytes s) where
   module _ (n : ℕ) where
     factors-first : (before : List Number) (c p m : ℕ) (L : List Number) (q : ℕ) →
         ((a : Number) (r : ℕ) → factors_from s n (before ++ (a ∷ [])) c r ≡ matrix m L q → (m ≡ n) × FactorsRead n (before ++ (a ∷ [])) c r L q) →
-        (w : ByteFactor) → factor_at s n before p ≡ w → on_factor (λ a r. factors_from s n (before ++ (a ∷ [])) c r) w ≡ matrix m L q
+        (w : Factor) → factor_at s n before p ≡ w → on_factor (λ a r. factors_from s n (before ++ (a ∷ [])) c r) w ≡ matrix m L q
         → (m ≡ n) × FactorsRead n before (suc c) p L q
     unfolding factors_bytes
-    factors-first before c p m L q behind (factor.At a r) e f =
+    factors-first before c p m L q behind (Ok w) e f =
+        let a = w.value in
+        let r = w.next in
         let g = behind a r f in
         let o = factor-read s bs n before p a r e in (
           g.0,
@@ -84,7 +83,7 @@ module _ (s : List ℕ) (bs : Bytes s) where
             stands = stands-append s p r q (factor_bytes a) (factors_bytes g.1.list) o.stands g.1.stands;
           },
         )
-    factors-first before c p m L q behind (factor.Fault k o) e f = absurd (suc-ne-zero 0 (cc))
+    factors-first before c p m L q behind (Err w) e f = absurd (cc)
 
     factors-read : (c : ℕ) (before : List Number) (p m : ℕ) (L : List Number) (q : ℕ) → factors_from s n before c p ≡ matrix m L q
         → (m ≡ n) × FactorsRead n before c p L q
@@ -96,11 +95,11 @@ module _ (s : List ℕ) (bs : Bytes s) where
         (em, rw (el, eq) (record { list = []; joined = sym (append-nil before); count = refl; continued = tt; stands = stands-none s p }))
     factors-read (suc c) before p m L q f = factors-first before c p m L q (λ a r. factors-read c (before ++ (a ∷ [])) r m L q) (factor_at s n before p) refl f
 
-  rows-judged : (r v n : ℕ) (L : List Number) (q : ℕ) → item_at s 0 ≡ item.Value v r → (t u : Bool) → ltb v 1 ≡ t → ltb 8 v ≡ u →
-      cond t (fault 4 0) (cond u (fault 4 0) (factors_from s v [] (v * v) r)) ≡ matrix n L q → MatrixRead s n L q
+  rows-judged : (r v n : ℕ) (L : List Number) (q : ℕ) → item_at s 0 ≡ item v r → (t u : Bool) → ltb v 1 ≡ t → ltb 8 v ≡ u →
+      cond t wrong_size (cond u wrong_size (factors_from s v [] (v * v) r)) ≡ matrix n L q → MatrixRead s n L q
   unfolding encoding
-  rows-judged r v n L q e true u b d f = absurd (suc-ne-zero 0 (cc))
-  rows-judged r v n L q e false true b d f = absurd (suc-ne-zero 0 (cc))
+  rows-judged r v n L q e true u b d f = absurd (cc)
+  rows-judged r v n L q e false true b d f = absurd (cc)
   rows-judged r v n L q e false false b d f =
       let g = factors-read v (v * v) [] r n L q f in
       let i = item-read s bs 0 v r e in
@@ -117,9 +116,9 @@ module _ (s : List ℕ) (bs : Bytes s) where
         taken = w.taken;
       })
 
-  matrix-item : (n : ℕ) (L : List Number) (q : ℕ) (w : ByteItem) → item_at s 0 ≡ w → matrix_by s w ≡ matrix n L q → MatrixRead s n L q
-  matrix-item n L q (item.Value v r) e f = rows-judged r v n L q e (ltb v 1) (ltb 8 v) refl refl f
-  matrix-item n L q (item.Fault k o) e f = absurd (suc-ne-zero 0 (cc))
+  matrix-item : (n : ℕ) (L : List Number) (q : ℕ) (w : Item) → item_at s 0 ≡ w → matrix_by s w ≡ matrix n L q → MatrixRead s n L q
+  matrix-item n L q (Ok i) e f = rows-judged i.next i.value n L q e (ltb i.value 1) (ltb 8 i.value) refl refl f
+  matrix-item n L q (Err w) e f = absurd (cc)
 
   -- what is read is what is written
   pub matrix-read : (n : ℕ) (L : List Number) (q : ℕ) → matrix_of s ≡ matrix n L q → MatrixRead s n L q
@@ -133,25 +132,24 @@ factors-held n L w =
     rw (sets-eq L zero_table 0 (omega arith)) (take_at L _ (n * n) w.square)
 
 -- what an answer of the reader holds
-record Held (w : Reading) (n q : ℕ) (numbers : List Number) : Type 0 where
+record Held (w : Reading) (r : Parsed) : Type 0 where
   list : List Number
-  found : w ≡ matrix n list q
-  placed : numbers ≡ sets zero_table 0 list
+  found : w ≡ matrix r.rows list r.next
+  placed : r.numbers ≡ sets zero_table 0 list
 
-held : (w : Reading) (n q : ℕ) (r : Parsed) → r ≡ parsed w → r.outcome ≡ outcome.Matrix n q → Held w n q r.numbers
-held (matrix m L p) n q r e f =
-    let o : outcome.Matrix m p ≡ outcome.Matrix n q = sym (ap (λ (x : Parsed). x.outcome) e) ∙ f in
-    let em : m ≡ n = cc in
-    let eq : p ≡ q = cc in
-    record { list = L; found = rw (em, eq); placed = ap (λ (x : Parsed). x.numbers) e }
-held (fault k o) n q r e f =
-    let o : outcome.Fault k o ≡ outcome.Matrix n q = sym (ap (λ (x : Parsed). x.outcome) e) ∙ f in
-    absurd (suc-ne-zero 0 (cc))
+held : (w : Reading) (r : Parsed) → Ok r ≡ parsed w → Held w r
+held (matrix m L p) r e =
+    let f : ◌≡◌ {A = Parsed} r (record { rows = m; next = p; numbers = sets zero_table 0 L }) = cc in
+    record {
+      list = L;
+      found = rw (ap (λ (x : Parsed). x.rows) f, ap (λ (x : Parsed). x.next) f);
+      placed = ap (λ (x : Parsed). x.numbers) f;
+    }
+held (fault k o) r e = absurd (cc)
 
 -- an accepted matrix is held where a writer finds it, and the writer makes the bytes that were read
-pub accepted : (s : List ℕ) → Bytes s → (n q : ℕ) (r : Parsed) → r ≡ parsed (matrix_of s) → r.outcome ≡ outcome.Matrix n q
-    → MatrixRead s n (square_factors n r.numbers) q
-accepted s bs n q r e f =
-    let h = held (matrix_of s) n q r e f in
-    let m = matrix-read s bs n h.list q h.found in
-    rw (h.placed, factors-held n h.list m.storable) m
+pub accepted : (s : List ℕ) → Bytes s → (r : Parsed) → Ok r ≡ parsed (matrix_of s) → MatrixRead s r.rows (square_factors r.rows r.numbers) r.next
+accepted s bs r e =
+    let h = held (matrix_of s) r e in
+    let m = matrix-read s bs r.rows h.list r.next h.found in
+    rw (h.placed, factors-held r.rows h.list m.storable) m

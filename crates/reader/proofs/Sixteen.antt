@@ -2,12 +2,12 @@
 -- before has only zeros behind an off-diagonal zero, so that is the same as whether such a zero stands before it in its line at all (`behind-just`,
 -- `just_behind`).
 use Prim.Native.Nat.{ℕ, zero, suc, ◌+◌, ◌-◌, ◌*◌, ◌/◌, ◌%◌, ◌<◌, ◌≤◌}
-use native.Mathlib.Nat.{suc-ne-zero, div-add-mod', mod-lt, mul-le-mul_right}
+use native.Mathlib.Nat.{div-add-mod', mod-lt, mul-le-mul_right}
 use native.Mathlib.Decide.{ℕ_discrete, dec_lt}
 use native.Mathlib.Omega.{arith}
 use mathlib.Core.Path.{◌≡◌, refl, sym, ap, ◌∙◌, subst}
 use mathlib.Core.Logic.{◌↔◌}
-use mathlib.Core.Bool.{Bool, true, false, not, cond, ◌&&◌}
+use mathlib.Core.Bool.{Bool, true, false}
 use mathlib.Core.List.{List, []}
 use lib.ListN.{length}
 use lib.Dec.{ltb, eqb}
@@ -17,36 +17,33 @@ use Rattle.number.specs.declared.Number.{Number}
 use Rattle.words.specs.Word.{Factors}
 use Rattle.words.specs.RowSet.{In}
 use Rattle.table.specs.Table.{square_of}
-use Rattle.reader.specs.declared.CodeVerdict.{CodeVerdict}
-use Rattle.reader.specs.declared.CodeVerdict.TheVariants.{Accepted, Refused}
+use Rattle.std.specs.Prelude.{Err}
+use Rattle.verdict.specs.declared.Reason.TheVariants as reason
 use Rattle.reader.specs.Matrix.{before_in_line, judged_at, judged_code, fault, matrix_of}
 use Rattle.reader.specs.Faults.{next_row, next_column, CodeAt, BehindZero, column, row, ZeroOnDiagonal, BreaksPattern}
-use Rattle.reader.proofs.Pattern.{just-above, just-left, Follows}
+use Rattle.reader.proofs.Pattern.{tested, just-above, just-left, Follows}
 use Rattle.reader.proofs.Continued.{Continued, continued-follows}
 use Rattle.reader.proofs.Faults.{taken-continued, code-fault, fault-code}
 
 -- THE VERDICT, by its tests
 module _ (b : Factors Number) (i j code : ℕ) where
-  abbrev verdict : (t u v w : Bool) → CodeVerdict
-  verdict t u v w = cond t (Refused 5) (cond u (cond v (Refused 6) Accepted) (cond (not v && w) (Refused 16) Accepted))
-
-  verdict-six : (t u v w : Bool) → verdict t u v w ≡ Refused 6 → (u ≡ true) × (v ≡ true)
-  verdict-six true u v w f = absurd (suc-ne-zero 0 (cc))
+  verdict-six : (t u v w : Bool) → tested t u v w ≡ Err reason.FactorZero → (u ≡ true) × (v ≡ true)
+  verdict-six true u v w f = absurd (cc)
   verdict-six false true true w f = (refl, refl)
-  verdict-six false true false w f = absurd (suc-ne-zero 0 (cc))
-  verdict-six false false true w f = absurd (suc-ne-zero 0 (cc))
-  verdict-six false false false true f = absurd (suc-ne-zero 0 (cc))
-  verdict-six false false false false f = absurd (suc-ne-zero 0 (cc))
+  verdict-six false true false w f = absurd (cc)
+  verdict-six false false true w f = absurd (cc)
+  verdict-six false false false true f = absurd (cc)
+  verdict-six false false false false f = absurd (cc)
 
-  verdict-sixteen : (t u v w : Bool) → verdict t u v w ≡ Refused 16 → (t ≡ false) × (u ≡ false) × (v ≡ false) × (w ≡ true)
-  verdict-sixteen true u v w f = absurd (suc-ne-zero 0 (cc))
-  verdict-sixteen false true true w f = absurd (suc-ne-zero 0 (cc))
-  verdict-sixteen false true false w f = absurd (suc-ne-zero 0 (cc))
-  verdict-sixteen false false true w f = absurd (suc-ne-zero 0 (cc))
-  verdict-sixteen false false false false f = absurd (suc-ne-zero 0 (cc))
+  verdict-sixteen : (t u v w : Bool) → tested t u v w ≡ Err reason.PatternBroken → (t ≡ false) × (u ≡ false) × (v ≡ false) × (w ≡ true)
+  verdict-sixteen true u v w f = absurd (cc)
+  verdict-sixteen false true true w f = absurd (cc)
+  verdict-sixteen false true false w f = absurd (cc)
+  verdict-sixteen false false true w f = absurd (cc)
+  verdict-sixteen false false false false f = absurd (cc)
   verdict-sixteen false false false true f = (refl, refl, refl, refl)
 
-  judged-six : (judged_at b i j code ≡ Refused 6) ↔ ((i ≡ j) × (code ≡ 0))
+  judged-six : (judged_at b i j code ≡ Err reason.FactorZero) ↔ ((i ≡ j) × (code ≡ 0))
   judged-six = (
     λ f.
         let h = verdict-six (ltb 2001 code) (eqb i j) (eqb code 0) (eqb (before_in_line b i j).m 0) f in
@@ -54,7 +51,7 @@ module _ (b : Factors Number) (i j code : ℕ) where
     λ h. let z : code ≤ 2001 = omega (arith, h.1) in simp (le-ltb 2001 code z, eq-eqb i j h.0, eq-eqb code 0 h.1),
   )
 
-  judged-sixteen : (judged_at b i j code ≡ Refused 16) ↔ ((code ≤ 2001) × (i ≡ j → ⊥) × (code ≡ 0 → ⊥) × ((before_in_line b i j).m ≡ 0))
+  judged-sixteen : (judged_at b i j code ≡ Err reason.PatternBroken) ↔ ((code ≤ 2001) × (i ≡ j → ⊥) × (code ≡ 0 → ⊥) × ((before_in_line b i j).m ≡ 0))
   judged-sixteen = (
     λ f.
         let h = verdict-sixteen (ltb 2001 code) (eqb i j) (eqb code 0) (eqb (before_in_line b i j).m 0) f in
@@ -128,7 +125,7 @@ column-before n k c h =
     let e : suc (k / n) - 1 ≡ k / n = omega arith in
     rw e (omega (arith, div-add-mod' k n))
 
-code-six : (n : ℕ) (front : List Number) (code : ℕ) → (judged_code n front code ≡ Refused 6) ↔ ((next_row n front ≡ next_column n front) × (code ≡ 0))
+code-six : (n : ℕ) (front : List Number) (code : ℕ) → (judged_code n front code ≡ Err reason.FactorZero) ↔ ((next_row n front ≡ next_column n front) × (code ≡ 0))
 unfolding judged_code
 code-six n front code = judged-six (square_of n front) (next_row n front) (next_column n front) code
 
@@ -153,7 +150,7 @@ module _ (n : ℕ) (front : List Number) (some : 0 < n) (taken : Continued n [] 
       continued-follows n some front taken (next_row n front) c (omega arith) (omega arith, omega (arith, mod-lt k some))
       (column-before n k (c - 1) (omega arith))
 
-  code-sixteen : (code : ℕ) → (judged_code n front code ≡ Refused 16)
+  code-sixteen : (code : ℕ) → (judged_code n front code ≡ Err reason.PatternBroken)
       ↔ ((code ≤ 2001) × (code ≡ 0 → ⊥) × BehindZero (square_of n front) (next_row n front) (next_column n front))
   unfolding judged_code
   code-sixteen code =
@@ -165,24 +162,24 @@ module _ (n : ℕ) (front : List Number) (some : 0 < n) (taken : Continued n [] 
       )
 
 -- 6 FOR THE DIAGONAL ONLY
-pub six : (s : List ℕ) (o : ℕ) → (matrix_of s ≡ fault 6 o) ↔ ZeroOnDiagonal s o
+pub six : (s : List ℕ) (o : ℕ) → (matrix_of s ≡ fault reason.FactorZero o) ↔ ZeroOnDiagonal s o
 six s o = (
   λ f.
-      let r = fault-code s 6 o (omega arith) f in
+      let r = fault-code s reason.FactorZero o (omega arith) f in
       let h = (code-six r.n r.front r.code).0 r.judged in
       record { n = r.n; front = r.front; at = subst (CodeAt s r.n r.front o) h.1 r.at; on = h.0 },
-  λ z. code-fault s 6 o (record { n = z.n; front = z.front; code = 0; at = z.at; judged = (code-six z.n z.front 0).1 (z.on, refl) }),
+  λ z. code-fault s reason.FactorZero o (record { n = z.n; front = z.front; code = 0; at = z.at; judged = (code-six z.n z.front 0).1 (z.on, refl) }),
 )
 
 -- 16 BEHIND AN OFF-DIAGONAL ZERO
-pub sixteen : (s : List ℕ) → Bytes s → (o : ℕ) → (matrix_of s ≡ fault 16 o) ↔ BreaksPattern s o
+pub sixteen : (s : List ℕ) → Bytes s → (o : ℕ) → (matrix_of s ≡ fault reason.PatternBroken o) ↔ BreaksPattern s o
 sixteen s bs o = (
   λ f.
-      let r = fault-code s 16 o (omega arith) f in
+      let r = fault-code s reason.PatternBroken o (omega arith) f in
       let h = (code-sixteen r.n r.front r.at.some (taken-continued s r.n r.at.begin bs r.at.taken) r.code).0 r.judged in
       record { n = r.n; front = r.front; code = r.code; at = r.at; in-range = h.0; nonzero = h.1; behind = h.2 },
   λ z.
-      code-fault s 16 o
+      code-fault s reason.PatternBroken o
       (record {
         n = z.n;
         front = z.front;

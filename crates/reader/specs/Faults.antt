@@ -5,9 +5,7 @@ use Rattle.std.specs.Prelude.{ℕ, suc, ◌*◌, ◌/◌, ◌%◌, ◌<◌, ◌�
 use Rattle.number.specs.declared.Number.{Number}
 use Rattle.words.specs.Word.{Factors}
 use Rattle.table.specs.Table.{square_of}
-use Rattle.reader.specs.declared.ByteItem.TheVariants as item
-use Rattle.reader.specs.declared.ByteFactor.TheVariants as factor
-use Rattle.reader.specs.Matrix.{item_at, factor_at}
+use Rattle.reader.specs.Matrix.{item, item_at, factor, factor_at}
 
 -- the row and the column of the factor that follows those in front of it, row by row, in a matrix of n rows
 abbrev pub next_row : ℕ → List Number → ℕ
@@ -19,19 +17,19 @@ next_column n front = suc (length front % n)
 -- of the factors of n rows that begin at an offset, those in front were read one behind the other, up to another offset
 pub data FactorsTo (s : List ℕ) (n begin : ℕ) : List Number → ℕ → Type 0 where
   none : FactorsTo s n begin [] begin
-  more : {front : List Number} {p : ℕ} (a : Number) (q : ℕ) → FactorsTo s n begin front p → factor_at s n front p ≡ factor.At a q
+  more : {front : List Number} {p : ℕ} (a : Number) (q : ℕ) → FactorsTo s n begin front p → factor_at s n front p ≡ factor a q
       → FactorsTo s n begin (front ++ (a ∷ [])) q
 
 -- an exponent code that the reading of s comes to, at offset o: n, from 1 to 8, and the factors in front were taken, and the next factor has this code
 pub record CodeAt (s : List ℕ) (n : ℕ) (front : List Number) (o code : ℕ) : Type 0 where
   pub begin : ℕ
   pub next : ℕ
-  pub rows : item_at s 0 ≡ item.Value n begin
+  pub rows : item_at s 0 ≡ item n begin
   pub some : 0 < n
   pub few : n ≤ 8
   pub taken : FactorsTo s n begin front o
   pub left : length front < n * n
-  pub stands : item_at s o ≡ item.Value code next
+  pub stands : item_at s o ≡ item code next
 
 -- an off-diagonal zero stands before row i and column j: in the column, below the diagonal, or in the row, above it
 pub data BehindZero (b : Factors Number) (i j : ℕ) : Type 0 where

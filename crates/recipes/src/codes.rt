@@ -17,68 +17,58 @@ fn way_code(way: Way) -> u64
 }
 
 // The number of a step. Every place above 7 is told by 8, so that no number is too large.
+#[tactic(auto, unfolding(crate::specs::Codes::step_code))]
 pub fn code(way: Way, place: usize) -> u64
     ensures { result ≡ step_code way place }
 {
-    if place < 8 {
-        return 4 * (place as u64 + 1) + way_code(way);
-    }
-    36 + way_code(way)
+    4 * (place.min(8) as u64 + 1) + way_code(way)
 }
 
 fn way(code: u64) -> Way
     ensures { result ≡ way_by (code % 4) }
 {
-    let k = code % 4;
-    if k == 0 {
-        return Way::Plain;
+    match code % 4 {
+        0 => Way::Plain,
+        1 => Way::Inverted,
+        2 => Way::Conversed,
+        _ => Way::Transposed,
     }
-    if k == 1 {
-        return Way::Inverted;
-    }
-    if k == 2 {
-        return Way::Conversed;
-    }
-    Way::Transposed
 }
 
 fn place(quarter: u64) -> usize
     ensures { result ≡ place_by quarter }
 {
-    if quarter == 0 {
-        return 8;
-    }
-    if 8 < quarter {
-        return 8;
-    }
-    (quarter - 1) as usize
-}
-
-fn step(code: u64) -> RecipeStep
-    ensures { result ≡ step_by code }
-{
-    RecipeStep {
-        place: place(code / 4),
-        way: way(code),
+    match quarter {
+        1..=8 => (quarter - 1) as usize,
+        _ => 8,
     }
 }
 
-// The step of slot c.
+// The step of a number, whatever it is.
+impl From<u64> for RecipeStep {
+    ghost from_gives = { λ code step. step ≡ step_by code };
+
+    #[tactic(auto, unfolding(crate::specs::Codes::step_by))]
+    fn from(code: u64) -> RecipeStep {
+        RecipeStep {
+            place: place(code / 4),
+            way: way(code),
+        }
+    }
+}
+
+// The step of slot c, that of 0 where no number is left.
 fn slot(codes: &[u64], c: usize) -> RecipeStep
     ensures { result ≡ step_by (get_or codes.now c 0) }
 {
-    if codes.len() <= c {
-        return step(0);
-    }
-    step(codes[c])
+    codes.get(c).copied().unwrap_or(0).into()
 }
 
 // A recipe of so many steps. Of more than six, which no recipe has, the first six have slots.
 pub fn recipe(codes: &[u64]) -> Recipe
     ensures { result ≡ recipe_by codes.now }
 {
-    let none = step(0);
-    let mut steps = [none; 6];
+    let mut steps = [RecipeStep::from(0); 6];
     for c in 0..6usize {
         steps[c] = slot(codes, c);
     }

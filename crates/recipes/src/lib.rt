@@ -16,7 +16,7 @@ pub struct RecipeStep {
     pub way: Way,
 }
 
-// The first `count` of six steps. The other slots are not looked at.
+// The first `count` of six steps. The other slots are not looked at. No call allocates memory, so a recipe has room for the longest.
 #[derive(Clone, Copy)]
 pub struct Recipe {
     pub steps: [RecipeStep; 6],

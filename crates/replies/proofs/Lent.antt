@@ -21,23 +21,17 @@ length-items (suc n) =
     let e = length-items n in
     omega arith
 
-take-items : (n m : ℕ) → n ≤ m → take (n * 3) (lent_items m) ≡ lent_items n
-unfolding lent_items
-take-items zero m h = refl
-take-items (suc n) zero h = absurd (omega arith)
-take-items (suc n) (suc m) h =
-    let e : suc n * 3 ≡ suc (suc (suc (n * 3))) = omega arith in
-    rw (e, take-items n m (omega arith))
-
 -- a whole list is set
 sets-whole : (l vs : List ℤ) → length vs ≡ length l → sets l 0 vs ≡ vs
 sets-whole l vs e =
     let none : drop (0 + length vs) l ≡ [] = drop_of_length-le l {i = 0 + length vs} (omega arith) in
     sets-eq vs l 0 (omega arith) ∙ rw none (append-nil vs)
 
--- what is lent of a list of 3 m numbers that was filled: n items
-pub items-lent : (l : List ℤ) (n m : ℕ) → length l ≡ m * 3 → n ≤ m → take (n * 3) (sets l 0 (lent_items m)) ≡ lent_items n
-items-lent l n m e h = rw (sets-whole l (lent_items m) (length-items m ∙ sym e)) (take-items n m h)
+-- a list of 3 n numbers that was filled: n items
+pub items-filled : (l : List ℤ) (n : ℕ) → length l ≡ n * 3 → sets l 0 (lent_items (length l / 3)) ≡ lent_items n
+items-filled l n e =
+    let q : length l / 3 ≡ n = omega arith in
+    rw q (sets-whole l (lent_items n) (length-items n ∙ sym e))
 
 -- the numbers before index k are set
 pub record Filled (l₀ l : List ℤ) (k : ℕ) : Type 0 where

@@ -7,6 +7,7 @@ use mathlib.Core.List.{List}
 use lib.IntN.{ℤ}
 use lib.ListN.{length, get_or, length-append, length-replicate}
 use borrow.Author.Tests.{ltb-false}
+use Rattle.std.specs.Prelude.{Option, Some, None, IfSome}
 use Rattle.lines.specs.Ascii.{ascii}
 use Rattle.lines.proofs.Text.{cond_cases, bytes-short}
 use Rattle.notices.specs.Sentence.{notice, refusal_text}
@@ -20,7 +21,7 @@ use Rattle.shelf.proofs.Returns.{report-few, write-length, sentence-length, carr
 use Rattle.answers.proofs.Lengths.{report-short, two-short, items-short, place_short}
 use Rattle.requests.specs.declared.commands.Command.{Command}
 use Rattle.requests.specs.declared.commands.Command.TheVariants.{Load, Write, Length, Drop, Operation, Recipe, Build, Minor, Carry, Reversals}
-use Rattle.requests.specs.declared.commands.Command.TheVariants.{Add, Multiply, Divide, Rest, Sentence, Show, Bad}
+use Rattle.requests.specs.declared.commands.Command.TheVariants.{Add, Multiply, Divide, Rest, Sentence, Show}
 use Rattle.requests.specs.declared.commands.Kind.{Kind}
 use Rattle.requests.specs.declared.commands.Mode.{Mode}
 use Rattle.requests.specs.declared.commands.Mode.TheVariants.{Direct, Foretold}
@@ -108,14 +109,16 @@ by-short s g Sentence v bytes items wholes h =
     told-bytes s _ (ascii "wrote") (omega arith)
     (omega (arith, sentence-length s (notice (get_or v 1 0) (get_or v 2 0) wholes) (lent_bytes (lent_count (get_or v 0 0))), lent-bytes (get_or v 0 0)))
 by-short s g Show v bytes items wholes h = omega (arith, show-short s g (get_or v 0 0))
-by-short s g Bad v bytes items wholes h = omega arith
+
+asked-short : (s : Shelf) → Good s → (o : Option Asked) → IfSome o (λ a. length a.bytes ≤ 2048) → Short (reply_to s o)
+unfolding Short reply_to
+asked-short s g (Some a) h = by-short s g a.command a.values a.bytes a.items a.wholes h
+asked-short s g None h = omega arith
 
 -- THE ANSWER TO A LINE, its end counted
 pub answer-short : (s : Shelf) → Good s → (long : Bool) (line : List ℕ) → length (reply_to_line s long line).text ≤ longest_answer
-unfolding Short answer_to reply_to
+unfolding Short answer_to
 answer-short s g long line =
-    let a : Asked = request_of line in
     let l : Short (answer_to s long line) =
-    cond_cases Short (overlong long line) (λ e. omega arith)
-    (λ e. by-short s g a.command a.values a.bytes a.items a.wholes (request-bytes line)) in
+    cond_cases Short (overlong long line) (λ e. omega arith) (λ e. asked-short s g (request_of line) (request-bytes line)) in
     simp length-append (omega arith)

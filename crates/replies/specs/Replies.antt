@@ -1,6 +1,6 @@
 -- What the console does with a line (`reply_to_line`), by what it asks (`reply_to`): the shelf after it, and the text of its answer. A word of the console is one
 -- row (`reply_by`): the call that it asks for, the word of the answer, and whether the bytes or items that the call left follow that.
-use Rattle.std.specs.Prelude.{ℕ, ◌≡◌, Bool, cond, ◌||◌, List, ◌++◌, ltb, ℤ, length, get_or}
+use Rattle.std.specs.Prelude.{ℕ, ◌≡◌, Bool, cond, ◌||◌, List, ◌++◌, ltb, ℤ, length, get_or, Option, Some, None}
 use Rattle.lines.specs.Ascii.{ascii}
 use Rattle.lines.specs.Text.{Puts}
 use Rattle.rests.specs.declared.Operator.TheVariants as Operator
@@ -15,7 +15,7 @@ use Rattle.answers.specs.Items.{with_items}
 use Rattle.replies.specs.declared.calls.Answered.{Answered}
 use Rattle.requests.specs.declared.commands.Command.{Command}
 use Rattle.requests.specs.declared.commands.Command.TheVariants.{Load, Write, Length, Drop, Operation, Recipe, Build, Minor, Carry, Reversals}
-use Rattle.requests.specs.declared.commands.Command.TheVariants.{Add, Multiply, Divide, Rest, Sentence, Show, Bad}
+use Rattle.requests.specs.declared.commands.Command.TheVariants.{Add, Multiply, Divide, Rest, Sentence, Show}
 use Rattle.requests.specs.declared.commands.Kind.{Kind}
 use Rattle.requests.specs.declared.commands.Mode.{Mode}
 use Rattle.requests.specs.declared.commands.Mode.TheVariants.{Direct, Foretold}
@@ -83,11 +83,11 @@ reply_by s Rest v bytes items wholes = told_bytes (ascii "rest") (run s (rest by
 reply_by s Sentence v bytes items wholes =
     told_bytes (ascii "wrote") (run s (sentence (notice (get_or v 1 0) (get_or v 2 0) wholes) (lent_bytes (lent_count (get_or v 0 0)))))
 reply_by s Show v bytes items wholes = reply s (show_text s (get_or v 0 0))
-reply_by s Bad v bytes items wholes = reply s bad_text
 
--- a request
-unfoldable pub reply_to : Shelf → Asked → Reply
-reply_to s a = reply_by s a.command a.values a.bytes a.items a.wholes
+-- a request, or a line that is none
+unfoldable pub reply_to : Shelf → Option Asked → Reply
+reply_to s (Some a) = reply_by s a.command a.values a.bytes a.items a.wholes
+reply_to s None = reply s bad_text
 
 -- a line is too long that has more than 4096 bytes, or whose start was thrown away
 abbrev pub overlong : (long : Bool) → List ℕ → Bool

@@ -1,8 +1,6 @@
 // The answer to a line: that of the call that it asks for, or that it is no request.
 ghost use Rattle.std.specs.Prelude.{◌≡◌, ◌*◌, take};
-ghost use Rattle.lines.specs.Text.{Puts};
 ghost use Rattle.places.specs.Shelf.{Good};
-ghost use Rattle.answers.specs.Answers.{bad_text};
 ghost use Rattle.requests.specs.Requests.{asked, request_of};
 ghost use Rattle.replies.specs.Replies.{Replied, reply_by, reply_to, overlong, answer_to, reply_to_line};
 
@@ -13,33 +11,16 @@ use shelf::{Operator, Shelf};
 
 pub const LONGEST: usize = 4096;
 
-pub fn bad(out: &mut [u8], at: usize) -> usize
-    ensures { Puts out.old at bad_text out.new result }
-{
-    answers::put_bad(out, at)
-}
-
-// The first items of a list, and its first whole numbers.
+// The first items of a list.
 fn some_items(list: &[i64], count: usize) -> &[i64]
     ensures { result.now ≡ take (count * 3) list.now }
 {
-    if list.len() / 3 < count {
-        return list;
-    }
-    &list[0..count * 3]
-}
-
-fn some_wholes(list: &[u64], count: usize) -> &[u64]
-    ensures { result.now ≡ take count list.now }
-{
-    if list.len() < count {
-        return list;
-    }
-    &list[0..count]
+    lines::first(list, count.saturating_mul(3))
 }
 
 // The answer to a call with its numbers, bytes, items and whole numbers. A number is a place, a length to lend, a mask of rows or columns, or
 // what a sentence tells.
+#[tactic(auto, unfolding(crate::specs::Replies::reply_by))]
 fn to_command(
     shelf: Shelf,
     command: Command,
@@ -55,9 +36,7 @@ fn to_command(
     ensures replied { Replied (reply_by shelf command v bytes.now list.now wholes.now)
         out.old at out.new result }
 {
-    let a = v[0];
-    let b = v[1];
-    let c = v[2];
+    let [a, b, c, _] = v;
     match command {
         Command::Load => calls::load(shelf, a, bytes, out, at),
         Command::Write => calls::write(shelf, a, b, out, at),
@@ -75,7 +54,6 @@ fn to_command(
         Command::Rest => calls::rest(shelf, bytes, out, at),
         Command::Sentence => calls::sentence(shelf, a, b, c, wholes, out, at),
         Command::Show => calls::show(shelf, a, out, at),
-        Command::Bad => calls::after(shelf, bad(out, at)),
     }
 }
 
@@ -91,21 +69,16 @@ fn to_request(
 ) -> Answered
     requires { Good shelf }
     ensures good { Good result.shelf }
-    ensures replied { Replied (reply_to shelf (asked request bytes.now list.now wholes.now))
+    ensures replied { Replied (reply_to shelf (asked (Some request) bytes.now list.now wholes.now))
         out.old at out.new result }
 {
-    let command = request.command;
-    let v = request.values;
-    let count = request.bytes;
-    let items = request.items;
-    let numbers = request.wholes;
     to_command(
         shelf,
-        command,
-        v,
-        lines::first(bytes, count),
-        some_items(list, items),
-        some_wholes(wholes, numbers),
+        request.command,
+        request.values,
+        lines::first(bytes, request.bytes),
+        some_items(list, request.items),
+        lines::first(wholes, request.wholes),
         out,
         at,
     )
@@ -120,15 +93,17 @@ fn to_short(shelf: Shelf, line: &[u8], out: &mut [u8], at: usize) -> Answered
     let mut bytes = [0u8; 2048];
     let mut list = [0i64; 48];
     let mut wholes = [0u64; 16];
-    let request = requests::of_line(line, &mut bytes, &mut list, &mut wholes);
-    to_request(shelf, request, &bytes, &list, &wholes, out, at)
+    match requests::of_line(line, &mut bytes, &mut list, &mut wholes) {
+        Some(request) => to_request(shelf, request, &bytes, &list, &wholes, out, at),
+        None => calls::after(shelf, answers::put_bad(out, at)),
+    }
 }
 
 // A line of more bytes is no request, nor is one whose start was thrown away.
 fn is_long(line: &[u8], long: bool) -> bool
     ensures { result ≡ overlong long line.now }
 {
-    long | (LONGEST < line.len())
+    long || LONGEST < line.len()
 }
 
 // The answer to a line, without its end.
@@ -138,7 +113,7 @@ fn answered(shelf: Shelf, line: &[u8], long: bool, out: &mut [u8], at: usize) ->
     ensures replied { Replied (answer_to shelf long line.now) out.old at out.new result }
 {
     if is_long(line, long) {
-        return calls::after(shelf, bad(out, at));
+        return calls::after(shelf, answers::put_bad(out, at));
     }
     to_short(shelf, line, out, at)
 }
@@ -150,6 +125,5 @@ pub fn to_line(shelf: Shelf, line: &[u8], long: bool, out: &mut [u8], at: usize)
     ensures replied { Replied (reply_to_line shelf long line.now) out.old at out.new result }
 {
     let done = answered(shelf, line, long, out, at);
-    let after = done.shelf;
-    calls::after(after, lines::put(out, done.at, b"\n"))
+    calls::after(done.shelf, lines::put(out, done.at, b"\n"))
 }

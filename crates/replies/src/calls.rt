@@ -13,7 +13,7 @@ ghost use Rattle.replies.specs.Calls.{lent_count, lent_bytes, lent_items, show_t
 ghost use Rattle.replies.specs.Replies.{Replied, told, told_worked, told_bytes, told_items, reply};
 
 use crate::filling;
-use shelf::{Changed, Filled, Operator, Refusal, Shelf, Written};
+use shelf::{Changed, Filled, Operator, Reason, Refusal, Shelf};
 
 // The shelf after a request, and the index of the output behind the answer.
 #[derive(Clone, Copy)]
@@ -35,9 +35,10 @@ fn changed(change: Changed, word: &[u8], out: &mut [u8], at: usize) -> Answered
     ensures good { Good result.shelf }
     ensures replied { Replied (told word.now (changed_outcome change)) out.old at out.new result }
 {
-    let shelf = change.shelf;
-    let verdict = change.verdict;
-    after(shelf, answers::put_verdict(out, at, verdict, word))
+    after(
+        change.shelf,
+        answers::put_verdict(out, at, change.verdict, word),
+    )
 }
 
 pub fn load(shelf: Shelf, place: usize, bytes: &[u8], out: &mut [u8], at: usize) -> Answered
@@ -62,23 +63,24 @@ pub fn filled(done: Filled, out: &mut [u8], at: usize) -> Answered
     ensures good { Good result.shelf }
     ensures replied { Replied (told (ascii "bound") (filled_outcome done)) out.old at out.new result }
 {
-    let shelf = done.shelf;
-    let answer = done.answer;
-    after(shelf, answers::put_bounded(out, at, answer))
+    after(done.shelf, answers::put_bounded(out, at, done.answer))
 }
 
 // How many bytes or items are lent where so many were asked for.
 fn lent(count: usize) -> usize
     ensures { result ≡ lent_count count }
 {
-    if 512 < count {
-        return 512;
-    }
-    count
+    count.min(512)
 }
 
 // `wrote N` or the refusal, and behind it all the lent bytes.
-fn wrote(shelf: Shelf, answer: Written, bytes: &[u8], out: &mut [u8], at: usize) -> Answered
+fn wrote(
+    shelf: Shelf,
+    answer: Result<usize, Refusal>,
+    bytes: &[u8],
+    out: &mut [u8],
+    at: usize,
+) -> Answered
     requires { Good shelf }
     ensures good { Good result.shelf }
     ensures replied { Replied (reply shelf (with_bytes (report_text (ascii "wrote") (written_report answer)) bytes.now))
@@ -89,26 +91,16 @@ fn wrote(shelf: Shelf, answer: Written, bytes: &[u8], out: &mut [u8], at: usize)
     after(shelf, lines::put_bytes(out, buffer, bytes))
 }
 
-// Writes a place to lent bytes, which the answer ends with.
-fn write_to(shelf: Shelf, place: usize, bytes: &mut [u8], out: &mut [u8], at: usize) -> Answered
-    requires { Good shelf }
-    ensures good { Good result.shelf }
-    ensures replied { Replied (told_bytes (ascii "wrote") (run shelf (write place bytes.old))) out.old at out.new result }
-{
-    let written = shelf::write(shelf, place, bytes);
-    wrote(shelf, written, bytes, out, at)
-}
-
-// Lends so many bytes, each a5.
+// Writes a place to so many lent bytes, each a5, which the answer ends with.
 pub fn write(shelf: Shelf, place: usize, count: usize, out: &mut [u8], at: usize) -> Answered
     requires { Good shelf }
     ensures good { Good result.shelf }
     ensures replied { Replied (told_bytes (ascii "wrote") (run shelf (write place (lent_bytes (lent_count count))))) out.old at out.new result }
 {
     let mut memory = [0xa5u8; 512];
-    let bytes: &mut [u8] = &mut memory;
-    let n = lent(count);
-    write_to(shelf, place, &mut bytes[0..n], out, at)
+    let bytes = &mut memory[..lent(count)];
+    let written = shelf::write(shelf, place, bytes);
+    wrote(shelf, written, bytes, out, at)
 }
 
 // How many bytes that takes.
@@ -121,26 +113,7 @@ pub fn length(shelf: Shelf, place: usize, out: &mut [u8], at: usize) -> Answered
     after(shelf, answers::put_written(out, at, b"length", answer))
 }
 
-// Writes the sentence of a refusal to lent bytes, which the answer ends with.
-fn sentence_to(
-    shelf: Shelf,
-    number: usize,
-    offset: usize,
-    places: &[u64],
-    bytes: &mut [u8],
-    out: &mut [u8],
-    at: usize,
-) -> Answered
-    requires { Good shelf }
-    ensures good { Good result.shelf }
-    ensures replied { Replied (told_bytes (ascii "wrote") (run shelf (sentence (notice number offset places.now) bytes.old)))
-        out.old at out.new result }
-{
-    let written = shelf::sentence(number as u64, offset as u64, places, bytes);
-    wrote(shelf, written, bytes, out, at)
-}
-
-// Lends so many bytes, each a5.
+// Writes the sentence of a refusal likewise. A closure that makes the call, to share the rest with `write`, would be no plainer.
 pub fn sentence(
     shelf: Shelf,
     count: usize,
@@ -156,32 +129,12 @@ pub fn sentence(
         out.old at out.new result }
 {
     let mut memory = [0xa5u8; 512];
-    let bytes: &mut [u8] = &mut memory;
-    let n = lent(count);
-    sentence_to(shelf, number, offset, places, &mut bytes[0..n], out, at)
+    let bytes = &mut memory[..lent(count)];
+    let written = shelf::sentence(number as u64, offset as u64, places, bytes);
+    wrote(shelf, written, bytes, out, at)
 }
 
-// Carries a list into lent items, which the answer ends with.
-fn carry_to(
-    shelf: Shelf,
-    place: usize,
-    list: &[i64],
-    items: &mut [i64],
-    out: &mut [u8],
-    at: usize,
-) -> Answered
-    requires { Good shelf }
-    ensures good { Good result.shelf }
-    ensures replied { Replied (told_items (ascii "carried") (run shelf (carry place list.now items.old)))
-        out.old at out.new result }
-{
-    let verdict = shelf::carry(shelf, place, list, items);
-    let space = answers::put_verdict(out, at, verdict, b"carried");
-    let buffer = lines::put(out, space, b" ");
-    after(shelf, answers::put_items(out, buffer, items))
-}
-
-// Lends so many items.
+// Carries a list into so many lent items, which the answer ends with.
 pub fn carry(
     shelf: Shelf,
     place: usize,
@@ -196,10 +149,12 @@ pub fn carry(
         out.old at out.new result }
 {
     let mut memory = [0i64; 1536];
-    let numbers: &mut [i64] = &mut memory;
-    filling::fill(numbers);
-    let n = lent(count);
-    carry_to(shelf, place, list, &mut numbers[0..n * 3], out, at)
+    let items = &mut memory[..lent(count) * 3];
+    filling::fill(items);
+    let verdict = shelf::carry(shelf, place, list, items);
+    let space = answers::put_verdict(out, at, verdict, b"carried");
+    let buffer = lines::put(out, space, b" ");
+    after(shelf, answers::put_items(out, buffer, items))
 }
 
 pub fn minor(
@@ -249,11 +204,7 @@ fn put_shown(shelf: Shelf, place: usize, out: &mut [u8], at: usize) -> usize
     ensures { Puts out.old at (show_text shelf place) out.new result }
 {
     if 7 < place {
-        let why = Refusal {
-            number: 1,
-            offset: 0,
-        };
-        return answers::put_refusal(out, at, why);
+        return answers::put_refusal(out, at, Reason::NoSuchPlace.into());
     }
     answers::put_place(out, at, shelf, place)
 }

@@ -12,7 +12,7 @@ use crate::calls;
 use crate::calls::Answered;
 use recipes::codes;
 use requests::{Kind, Mode};
-use shelf::{Foretold, Operated, Shelf, Task};
+use shelf::{Operated, Refusal, Shelf, Task};
 
 // Masks are read as numbers of at most 255.
 pub fn mask(n: usize) -> u8
@@ -45,13 +45,11 @@ fn performed(done: Operated, out: &mut [u8], at: usize) -> Answered
     ensures good { Good result.shelf }
     ensures replied { Replied (told_performed (operated_outcome done)) out.old at out.new result }
 {
-    let left = done.shelf;
-    let answer = done.answer;
-    calls::after(left, answers::put_performed(out, at, answer))
+    calls::after(done.shelf, answers::put_performed(out, at, done.answer))
 }
 
 // The steps that it will make, alone.
-fn foretold(shelf: Shelf, answer: Foretold, out: &mut [u8], at: usize) -> Answered
+fn foretold(shelf: Shelf, answer: Result<usize, Refusal>, out: &mut [u8], at: usize) -> Answered
     requires { Good shelf }
     ensures good { Good result.shelf }
     ensures replied { Replied (told (ascii "steps") (outcome shelf (foretold_report answer))) out.old at out.new result }
@@ -72,10 +70,7 @@ pub fn answer(
     ensures good { Good result.shelf }
     ensures replied { Replied (operation_reply shelf mode kind v) out.old at out.new result }
 {
-    let a = v[0];
-    let b = v[1];
-    let c = v[2];
-    let target = v[3];
+    let [a, b, c, target] = v;
     let task = task_of(kind, a, b, c);
     match mode {
         Mode::Direct => performed(shelf::perform(shelf, task, target), out, at),
@@ -96,7 +91,7 @@ pub fn recipe(
     ensures good { Good result.shelf }
     ensures replied { Replied (recipe_reply shelf mode v steps.now) out.old at out.new result }
 {
-    let target = v[3];
+    let [.., target] = v;
     let recipe = codes::recipe(steps);
     match mode {
         Mode::Direct => performed(shelf::perform_recipe(shelf, recipe, target), out, at),

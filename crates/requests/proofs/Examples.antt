@@ -2,6 +2,7 @@
 use mathlib.Core.Path.{◌≡◌, refl}
 use mathlib.Core.List.{[], ◌∷◌}
 use lib.IntN.{pos, negsuc}
+use Rattle.std.specs.Prelude.{Some}
 use Rattle.walk.specs.declared.Way.TheVariants.{Plain, Inverted, Conversed, Transposed}
 use Rattle.recipes.specs.Codes.{step_code}
 use Rattle.lines.specs.Ascii.{ascii}
@@ -17,12 +18,12 @@ use Rattle.requests.specs.Items.{spelled_item}
 use Rattle.requests.specs.Steps.{spelled_way, spelled_step}
 use Rattle.requests.specs.Requests.{asked_alone, asked_bytes, asked_items, asked_wholes, bad, letter_numbers, request_of}
 
-product : request_of (ascii "product 0 1 2") ≡ asked_alone (Operation Direct Product) (0 ∷ 1 ∷ 0 ∷ 2 ∷ [])
+product : request_of (ascii "product 0 1 2") ≡ Some (asked_alone (Operation Direct Product) (0 ∷ 1 ∷ 0 ∷ 2 ∷ []))
 unfolding request_of mode_of form_by entry_form same parted letter_numbers all_numerals value_from
 product = refl
 
 -- its forecast has no target
-product-foretold : request_of (ascii "forecast product 0 1") ≡ asked_alone (Operation Foretold Product) (0 ∷ 1 ∷ 0 ∷ 0 ∷ [])
+product-foretold : request_of (ascii "forecast product 0 1") ≡ Some (asked_alone (Operation Foretold Product) (0 ∷ 1 ∷ 0 ∷ 0 ∷ []))
 unfolding request_of mode_of form_by entry_form same parted letter_numbers all_numerals value_from
 product-foretold = refl
 
@@ -30,38 +31,38 @@ product-target : request_of (ascii "forecast product 0 1 2") ≡ bad
 unfolding request_of mode_of form_by entry_form same parted letter_numbers all_numerals value_from
 product-target = refl
 
-submatrix-foretold : request_of (ascii "forecast submatrix 0 3 5") ≡ asked_alone (Operation Foretold Submatrix) (0 ∷ 3 ∷ 5 ∷ 0 ∷ [])
+submatrix-foretold : request_of (ascii "forecast submatrix 0 3 5") ≡ Some (asked_alone (Operation Foretold Submatrix) (0 ∷ 3 ∷ 5 ∷ 0 ∷ []))
 unfolding request_of mode_of form_by entry_form same parted letter_numbers all_numerals value_from
 submatrix-foretold = refl
 
-schur : request_of (ascii "schur 3 1 4") ≡ asked_alone (Operation Direct Schur) (3 ∷ 1 ∷ 0 ∷ 4 ∷ [])
+schur : request_of (ascii "schur 3 1 4") ≡ Some (asked_alone (Operation Direct Schur) (3 ∷ 1 ∷ 0 ∷ 4 ∷ []))
 unfolding request_of mode_of form_by entry_form same parted letter_numbers all_numerals value_from
 schur = refl
 
-schur-foretold : request_of (ascii "forecast schur 3 4294967295") ≡ asked_alone (Operation Foretold Schur) (3 ∷ 4294967295 ∷ 0 ∷ 0 ∷ [])
+schur-foretold : request_of (ascii "forecast schur 3 4294967295") ≡ Some (asked_alone (Operation Foretold Schur) (3 ∷ 4294967295 ∷ 0 ∷ 0 ∷ []))
 unfolding request_of mode_of form_by entry_form same parted letter_numbers all_numerals value_from
 schur-foretold = refl
 
 -- a recipe: the codes of its steps, and its target behind three numbers that are not asked for
 recipe : request_of (ascii "recipe 7 0,plain 1,transpose 2,inverse 3,converse")
-    ≡ asked_wholes (Recipe Direct) (0 ∷ 0 ∷ 0 ∷ 7 ∷ []) (step_code Plain 0 ∷ step_code Transposed 1 ∷ step_code Inverted 2 ∷ step_code Conversed 3 ∷ [])
+    ≡ Some (asked_wholes (Recipe Direct) (0 ∷ 0 ∷ 0 ∷ 7 ∷ []) (step_code Plain 0 ∷ step_code Transposed 1 ∷ step_code Inverted 2 ∷ step_code Conversed 3 ∷ []))
 unfolding request_of mode_of form_by entry_form same parted letter_numbers all_numerals value_from spelled_list before spelled_way step_code spelled_step
 recipe = refl
 
 -- no step
-recipe-none : request_of (ascii "recipe 7") ≡ asked_wholes (Recipe Direct) (0 ∷ 0 ∷ 0 ∷ 7 ∷ []) []
+recipe-none : request_of (ascii "recipe 7") ≡ Some (asked_wholes (Recipe Direct) (0 ∷ 0 ∷ 0 ∷ 7 ∷ []) [])
 unfolding request_of mode_of form_by entry_form same parted letter_numbers all_numerals value_from spelled_list before spelled_way step_code spelled_step
 recipe-none = refl
 
 -- the largest place
 recipe-largest : request_of (ascii "recipe 4294967295 4294967295,transpose")
-    ≡ asked_wholes (Recipe Direct) (0 ∷ 0 ∷ 0 ∷ 4294967295 ∷ []) (step_code Transposed 4294967295 ∷ [])
+    ≡ Some (asked_wholes (Recipe Direct) (0 ∷ 0 ∷ 0 ∷ 4294967295 ∷ []) (step_code Transposed 4294967295 ∷ []))
 unfolding request_of mode_of form_by entry_form same parted letter_numbers all_numerals value_from spelled_list before spelled_way step_code spelled_step
 recipe-largest = refl
 
 -- its forecast has no target
 recipe-foretold : request_of (ascii "forecast recipe 0,plain 1,transpose 0,inverse")
-    ≡ asked_wholes (Recipe Foretold) (0 ∷ 0 ∷ 0 ∷ 0 ∷ []) (step_code Plain 0 ∷ step_code Transposed 1 ∷ step_code Inverted 0 ∷ [])
+    ≡ Some (asked_wholes (Recipe Foretold) (0 ∷ 0 ∷ 0 ∷ 0 ∷ []) (step_code Plain 0 ∷ step_code Transposed 1 ∷ step_code Inverted 0 ∷ []))
 unfolding request_of mode_of form_by entry_form same parted letter_numbers all_numerals value_from spelled_list before spelled_way step_code spelled_step
 recipe-foretold = refl
 
@@ -95,20 +96,20 @@ twice-foretold : request_of (ascii "forecast forecast product 0 1") ≡ bad
 unfolding request_of mode_of form_by entry_form same parted letter_numbers all_numerals value_from
 twice-foretold = refl
 
-length : request_of (ascii "length 3") ≡ asked_alone Length (3 ∷ 0 ∷ 0 ∷ 0 ∷ [])
+length : request_of (ascii "length 3") ≡ Some (asked_alone Length (3 ∷ 0 ∷ 0 ∷ 0 ∷ []))
 unfolding request_of mode_of form_by entry_form same parted letter_numbers all_numerals value_from
 length = refl
 
-load : request_of (ascii "load 3 02ca") ≡ asked_bytes Load (3 ∷ 0 ∷ 0 ∷ 0 ∷ []) (2 ∷ 202 ∷ [])
+load : request_of (ascii "load 3 02ca") ≡ Some (asked_bytes Load (3 ∷ 0 ∷ 0 ∷ 0 ∷ []) (2 ∷ 202 ∷ []))
 unfolding request_of mode_of form_by entry_form same parted letter_numbers all_numerals value_from all_digits spelled_bytes
 load = refl
 
-carry : request_of (ascii "carry 0 3 -1,2147483648,-31") ≡ asked_items Carry (0 ∷ 3 ∷ 0 ∷ 0 ∷ []) (negsuc 0 ∷ pos 2147483648 ∷ negsuc 30 ∷ [])
+carry : request_of (ascii "carry 0 3 -1,2147483648,-31") ≡ Some (asked_items Carry (0 ∷ 3 ∷ 0 ∷ 0 ∷ []) (negsuc 0 ∷ pos 2147483648 ∷ negsuc 30 ∷ []))
 unfolding request_of mode_of form_by entry_form same parted letter_numbers all_numerals value_from spelled_item spelled_list before
 carry = refl
 
 add : request_of (ascii "add 1,2147483648,-31 -1,3221225472,-30")
-    ≡ asked_items Add (0 ∷ 0 ∷ 0 ∷ 0 ∷ []) (pos 1 ∷ pos 2147483648 ∷ negsuc 30 ∷ negsuc 0 ∷ pos 3221225472 ∷ negsuc 29 ∷ [])
+    ≡ Some (asked_items Add (0 ∷ 0 ∷ 0 ∷ 0 ∷ []) (pos 1 ∷ pos 2147483648 ∷ negsuc 30 ∷ negsuc 0 ∷ pos 3221225472 ∷ negsuc 29 ∷ []))
 unfolding request_of mode_of form_by entry_form same parted letter_numbers all_numerals value_from spelled_item spelled_list before
 add = refl
 
@@ -126,17 +127,17 @@ add-three : request_of (ascii "add 1,2147483648,-31 -1,3221225472,-30 1,21474836
 unfolding request_of mode_of form_by entry_form same parted letter_numbers all_numerals value_from spelled_item spelled_list before
 add-three = refl
 
-build : request_of (ascii "build 3 1 3 7") ≡ asked_wholes Build (3 ∷ 0 ∷ 0 ∷ 0 ∷ []) (1 ∷ 3 ∷ 7 ∷ [])
+build : request_of (ascii "build 3 1 3 7") ≡ Some (asked_wholes Build (3 ∷ 0 ∷ 0 ∷ 0 ∷ []) (1 ∷ 3 ∷ 7 ∷ []))
 unfolding request_of mode_of form_by entry_form same parted letter_numbers all_numerals value_from spelled_list
 build = refl
 
 -- no stamp
-build-none : request_of (ascii "build 0") ≡ asked_wholes Build (0 ∷ 0 ∷ 0 ∷ 0 ∷ []) []
+build-none : request_of (ascii "build 0") ≡ Some (asked_wholes Build (0 ∷ 0 ∷ 0 ∷ 0 ∷ []) [])
 unfolding request_of mode_of form_by entry_form same parted letter_numbers all_numerals value_from spelled_list
 build-none = refl
 
 -- the largest stamp, and one more
-build-largest : request_of (ascii "build 3 18446744073709551615") ≡ asked_wholes Build (3 ∷ 0 ∷ 0 ∷ 0 ∷ []) (18446744073709551615 ∷ [])
+build-largest : request_of (ascii "build 3 18446744073709551615") ≡ Some (asked_wholes Build (3 ∷ 0 ∷ 0 ∷ 0 ∷ []) (18446744073709551615 ∷ []))
 unfolding request_of mode_of form_by entry_form same parted letter_numbers all_numerals value_from spelled_list
 build-largest = refl
 
@@ -151,7 +152,7 @@ build-malformed = refl
 
 -- sixteen stamps, and seventeen
 build-sixteen : request_of (ascii "build 3 1 2 3 4 5 6 7 8 9 10 11 12 13 14 15 16")
-    ≡ asked_wholes Build (3 ∷ 0 ∷ 0 ∷ 0 ∷ []) (1 ∷ 2 ∷ 3 ∷ 4 ∷ 5 ∷ 6 ∷ 7 ∷ 8 ∷ 9 ∷ 10 ∷ 11 ∷ 12 ∷ 13 ∷ 14 ∷ 15 ∷ 16 ∷ [])
+    ≡ Some (asked_wholes Build (3 ∷ 0 ∷ 0 ∷ 0 ∷ []) (1 ∷ 2 ∷ 3 ∷ 4 ∷ 5 ∷ 6 ∷ 7 ∷ 8 ∷ 9 ∷ 10 ∷ 11 ∷ 12 ∷ 13 ∷ 14 ∷ 15 ∷ 16 ∷ []))
 unfolding request_of mode_of form_by entry_form same parted letter_numbers all_numerals value_from spelled_list
 build-sixteen = refl
 
@@ -159,12 +160,13 @@ build-seventeen : request_of (ascii "build 3 1 2 3 4 5 6 7 8 9 10 11 12 13 14 15
 unfolding request_of mode_of form_by entry_form same parted letter_numbers all_numerals value_from spelled_list
 build-seventeen = refl
 
-sentence : request_of (ascii "sentence 38 11 0 6") ≡ asked_wholes Sentence (38 ∷ 11 ∷ 0 ∷ 0 ∷ []) (6 ∷ [])
+sentence : request_of (ascii "sentence 38 11 0 6") ≡ Some (asked_wholes Sentence (38 ∷ 11 ∷ 0 ∷ 0 ∷ []) (6 ∷ []))
 unfolding request_of mode_of form_by entry_form same parted letter_numbers all_numerals value_from spelled_list
 sentence = refl
 
 -- any number of 32 bits, and one more
-sentence-largest : request_of (ascii "sentence 512 256 4294967295 4294967295 0") ≡ asked_wholes Sentence (512 ∷ 256 ∷ 4294967295 ∷ 0 ∷ []) (4294967295 ∷ 0 ∷ [])
+sentence-largest : request_of (ascii "sentence 512 256 4294967295 4294967295 0")
+    ≡ Some (asked_wholes Sentence (512 ∷ 256 ∷ 4294967295 ∷ 0 ∷ []) (4294967295 ∷ 0 ∷ []))
 unfolding request_of mode_of form_by entry_form same parted letter_numbers all_numerals value_from spelled_list
 sentence-largest = refl
 

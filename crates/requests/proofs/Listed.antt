@@ -5,7 +5,7 @@ use native.Mathlib.Nat.{zero-mul, mul-le-mul_right}
 use native.Mathlib.Omega.{arith}
 use mathlib.Core.Path.{◌≡◌, refl, sym, ap, ◌∙◌}
 use mathlib.Core.List.{List, [], ◌∷◌, ◌++◌, append-nil, append_assoc}
-use mathlib.Core.Option.{Option, none, some}
+use Rattle.std.specs.Prelude.{Option, Some, None}
 use lib.ListN.{length, take, drop, length-append}
 use lib.Seq.{sets, sets-eq, length-sets, take_at, length-take-le}
 use Rattle.lines.specs.Words.{word_at, next_word}
@@ -16,13 +16,13 @@ use Rattle.requests.proofs.Words.{words-at, words-past}
 module _ {A : Type 0} where
   -- k numbers for each of n words
   abbrev pub Counted : ℕ → ℕ → Option (List A) → Type 0
-  Counted k n none = Unit {0}
-  Counted k n (some l) = length l ≡ n * k
+  Counted k n None = Unit {0}
+  Counted k n (Some l) = length l ≡ n * k
 
   counted-more : (k n : ℕ) (o m : Option (List A)) → Counted k 1 o → Counted k n m → Counted k (suc n) (appended o m)
-  counted-more k n none m h i = tt
-  counted-more k n (some l) none h i = tt
-  counted-more k n (some l) (some m) h i = omega (arith, length-append l m)
+  counted-more k n None m h i = tt
+  counted-more k n (Some l) None h i = tt
+  counted-more k n (Some l) (Some m) h i = omega (arith, length-append l m)
 
   module _ (f : List ℕ → Option (List A)) (k : ℕ) (each : (w : List ℕ) → Counted k 1 (f w)) where
     pub counted : (n : ℕ) (ws : List (List ℕ)) → Counted k (length ws) (spelled_list f n ws)
@@ -31,13 +31,13 @@ module _ {A : Type 0} where
     counted zero (w ∷ ws) = tt
     counted (suc n) (w ∷ ws) = counted-more k (length ws) (f w) (spelled_list f n ws) (each w) (counted n ws)
 
-  appended-nil : (o : Option (List A)) → o ≡ appended (some []) o
-  appended-nil none = refl
-  appended-nil (some m) = refl
+  appended-nil : (o : Option (List A)) → o ≡ appended (Some []) o
+  appended-nil None = refl
+  appended-nil (Some m) = refl
 
-  appended-assoc : (l m : List A) (o : Option (List A)) → appended (some l) (appended (some m) o) ≡ appended (some (l ++ m)) o
-  appended-assoc l m none = refl
-  appended-assoc l m (some n) = ap some (sym (append_assoc l m n))
+  appended-assoc : (l m : List A) (o : Option (List A)) → appended (Some l) (appended (Some m) o) ≡ appended (Some (l ++ m)) o
+  appended-assoc l m None = refl
+  appended-assoc l m (Some n) = ap Some (sym (append_assoc l m n))
 
   -- numbers are put at an index
   pub take-sets : (l vs : List A) (i : ℕ) → i + length vs ≤ length l → take (i + length vs) (sets l i vs) ≡ take i l ++ vs
@@ -50,19 +50,19 @@ pub record Passed {A : Type 0} (f : List ℕ → Option (List A)) (k : ℕ) (lin
   pub room : 16 * k ≤ length list₀
   pub kept : length list ≡ length list₀
   pub few : count ≤ 16
-  pub same : spelled_list f 16 (words_at line at) ≡ appended (some (take (count * k) list)) (spelled_list f (16 - count) (words_at line next))
+  pub same : spelled_list f 16 (words_at line at) ≡ appended (Some (take (count * k) list)) (spelled_list f (16 - count) (words_at line next))
 
 module _ {A : Type 0} {f : List ℕ → Option (List A)} {k : ℕ} {line : List ℕ} {at : ℕ} where
   pub passed_none : {list : List A} → 16 * k ≤ length list → Passed f k line at list list at 0
   passed_none h = record { room = h; kept = refl; few = omega arith; same = rw zero-mul (appended-nil _) }
 
   module _ {list₀ list : List A} {next count : ℕ} (p : Passed f k line at list₀ list next count) where
-    pub passed-end : length line < next → some (take (count * k) list) ≡ spelled_list f 16 (words_at line at)
+    pub passed-end : length line < next → Some (take (count * k) list) ≡ spelled_list f 16 (words_at line at)
     unfolding spelled_list
-    passed-end h = sym (p.same ∙ rw (words-past line next h) (ap some (append-nil (take (count * k) list))))
+    passed-end h = sym (p.same ∙ rw (words-past line next h) (ap Some (append-nil (take (count * k) list))))
 
     module _ (h : next ≤ length line) where
-      pub passed-many : 16 ≤ count → none ≡ spelled_list f 16 (words_at line at)
+      pub passed-many : 16 ≤ count → None ≡ spelled_list f 16 (words_at line at)
       unfolding spelled_list
       passed-many m =
           let z : 16 - count ≡ 0 = omega arith in
@@ -70,17 +70,17 @@ module _ {A : Type 0} {f : List ℕ → Option (List A)} {k : ℕ} {line : List 
 
       module _ (m : count < 16) where
         passed-word : spelled_list f 16 (words_at line at)
-            ≡ appended (some (take (count * k) list))
+            ≡ appended (Some (take (count * k) list))
             (appended (f (word_at line next)) (spelled_list f (16 - (count + 1)) (words_at line (next_word line next))))
         unfolding spelled_list
         passed-word =
             let z : 16 - count ≡ suc (16 - (count + 1)) = omega arith in
             p.same ∙ rw (words-at line next h, z)
 
-        pub passed-other : f (word_at line next) ≡ none → none ≡ spelled_list f 16 (words_at line at)
+        pub passed-other : f (word_at line next) ≡ None → None ≡ spelled_list f 16 (words_at line at)
         passed-other e = sym (passed-word ∙ rw e)
 
-        pub passed-more : {l : List A} (vs : List A) → f (word_at line next) ≡ some vs → length vs ≡ k → l ≡ sets list (count * k) vs →
+        pub passed-more : {l : List A} (vs : List A) → f (word_at line next) ≡ Some vs → length vs ≡ k → l ≡ sets list (count * k) vs →
             Passed f k line at list₀ l (next_word line next) (count + 1)
         passed-more vs e n s =
             let t : (count + 1) * k ≡ count * k + length vs = omega arith in

@@ -3,15 +3,15 @@ use Prim.Native.Nat.{ℕ, ◌+◌, ◌-◌, ◌^◌}
 use mathlib.Core.Path.{◌≡◌}
 use mathlib.Core.List.{List}
 use lib.ListN.{length, take, drop}
-use Rattle.lines.specs.declared.reading.ReadWhole.{ReadWhole}
+use Rattle.walk.specs.declared.Way.{Way}
+use Rattle.std.specs.Prelude.{Option}
 use Rattle.lines.specs.Decimal.{spelled_whole}
 use Rattle.lines.specs.Words.{before}
-use Rattle.requests.specs.declared.steps.ReadWay.{ReadWay}
 use Rattle.requests.specs.Steps.{spelled_way, code_by, spelled_step}
 use Rattle.requests.proofs.Triples.{part-before}
 
-module _ (w last : List ℕ) (a : ℕ) (x : ReadWhole) (y : ReadWay) where
-  pub step_is : a ≡ length (before 44 w) → last ≡ drop (a + 1) w → x ≡ spelled_whole (take (a - 0) w) (2 ^ 32 - 1) → y ≡ spelled_way last →
+module _ (w last : List ℕ) (a : ℕ) (x : Option ℕ) (y : Option Way) where
+  pub step_is : a ≡ length (before 44 w) → last ≡ drop (a + 1) w → x ≡ spelled_whole (take a w) (2 ^ 32 - 1) → y ≡ spelled_way last →
       code_by x y ≡ spelled_step w
   unfolding spelled_step
   step_is ea el ex ey =

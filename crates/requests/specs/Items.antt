@@ -1,42 +1,31 @@
 -- List items, `sign,mantissa,exponent` each (`spelled_item`), and the numbers of a list of them (`spelled_items`).
-use Rattle.std.specs.Prelude.{ℕ, ◌+◌, List, [], ◌∷◌, ℤ, pos, neg_ℤ, length, drop}
-use Rattle.std.proofs.Math.Option.{Option, none, some}
-use Rattle.lines.specs.declared.reading.ReadSigned.{ReadSigned}
-use Rattle.lines.specs.declared.reading.ReadSigned.TheVariants as signed
+use Rattle.std.specs.Prelude.{ℕ, ◌+◌, List, [], ◌∷◌, ℤ, length, drop, Option, Some, None}
 use Rattle.lines.specs.Decimal.{spelled_signed}
 use Rattle.lines.specs.Words.{before}
-use Rattle.requests.specs.declared.items.ReadNumber.{ReadNumber}
-use Rattle.requests.specs.declared.items.ReadNumber.TheVariants as number
-use Rattle.requests.specs.declared.items.ReadItem.{ReadItem}
-use Rattle.requests.specs.declared.items.ReadItem.TheVariants as item
+use Rattle.requests.specs.declared.items.Item.{Item}
 use Rattle.requests.specs.Lists.{spelled_list}
 
 -- a number of 64 bits with a sign
-abbrev pub signed_number : ReadSigned → ReadNumber
-signed_number (signed.Plus n) = number.Value (pos n)
-signed_number (signed.Minus n) = number.Value (neg_ℤ (pos n))
-signed_number signed.Malformed = number.Malformed
-
-abbrev pub spelled_number : List ℕ → ReadNumber
-spelled_number s = signed_number (spelled_signed s)
+abbrev pub spelled_number : List ℕ → Option ℤ
+spelled_number s = spelled_signed s
 
 -- what stands behind the first comma, nothing where there is none
 abbrev pub behind_comma : List ℕ → List ℕ
 behind_comma s = drop (length (before 44 s) + 1) s
 
-abbrev pub spelled_by : ReadNumber → ReadNumber → ReadNumber → ReadItem
-spelled_by (number.Value a) (number.Value b) (number.Value c) = item.Value a b c
-spelled_by (number.Value a) (number.Value b) number.Malformed = item.Malformed
-spelled_by (number.Value a) number.Malformed z = item.Malformed
-spelled_by number.Malformed y z = item.Malformed
+abbrev pub spelled_by : Option ℤ → Option ℤ → Option ℤ → Option Item
+spelled_by (Some a) (Some b) (Some c) = Some (record { sign = a; mantissa = b; exponent = c })
+spelled_by (Some a) (Some b) None = None
+spelled_by (Some a) None z = None
+spelled_by None y z = None
 
 -- the numbers before, between and behind two commas; where a comma lacks, the last is empty and no number
-unfoldable pub spelled_item : List ℕ → ReadItem
+unfoldable pub spelled_item : List ℕ → Option Item
 spelled_item w = spelled_by (spelled_number (before 44 w)) (spelled_number (before 44 (behind_comma w))) (spelled_number (behind_comma (behind_comma w)))
 
-abbrev pub three_numbers : ReadItem → Option (List ℤ)
-three_numbers (item.Value a b c) = some (a ∷ b ∷ c ∷ [])
-three_numbers item.Malformed = none
+abbrev pub three_numbers : Option Item → Option (List ℤ)
+three_numbers (Some i) = Some (i.sign ∷ i.mantissa ∷ i.exponent ∷ [])
+three_numbers None = None
 
 -- the three numbers of an item
 abbrev pub item_numbers : List ℕ → Option (List ℤ)

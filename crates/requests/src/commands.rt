@@ -1,11 +1,11 @@
 // The words of the console, and what follows each: a table of forms.
-ghost use Rattle.std.specs.Prelude.{◌≡◌};
-ghost use Rattle.requests.specs.Commands.{operation_forms, first_forms, second_forms, no_form, entry_form, form_from, mode_of, without_target, form_by};
+ghost use Rattle.std.specs.Prelude.{◌≡◌, true};
+ghost use Rattle.requests.specs.Commands.{operation_forms, first_forms, second_forms, no_form, form_from, differ, entries_of, mode_of, without_target, form_by};
 
 use crate::wholes::Member;
 
 // The kinds of operations.
-#[derive(Clone, Copy)]
+#[derive(Clone, Copy, PartialEq, Eq)]
 pub enum Kind {
     Product,
     Inverse,
@@ -16,14 +16,14 @@ pub enum Kind {
 }
 
 // How an operation is asked for: directly, or with a word in front of its own.
-#[derive(Clone, Copy)]
+#[derive(Clone, Copy, PartialEq, Eq)]
 pub enum Mode {
     Direct,
     // `forecast`.
     Foretold,
 }
 
-#[derive(Clone, Copy)]
+#[derive(Clone, Copy, PartialEq, Eq)]
 pub enum Command {
     Load,
     Write,
@@ -42,12 +42,22 @@ pub enum Command {
     Rest,
     Sentence,
     Show,
-    // None of these.
-    Bad,
+}
+
+// What a number of a request is.
+#[derive(Clone, Copy, PartialEq, Eq)]
+pub enum Letter {
+    // A place, or another number of 32 bits.
+    Place,
+    Mask,
+    // A length to lend.
+    Length,
+    // No number.
+    None,
 }
 
 // What stands behind the numbers of a request.
-#[derive(Clone, Copy)]
+#[derive(Clone, Copy, PartialEq, Eq)]
 pub enum Tail {
     None,
     Bytes,
@@ -58,100 +68,101 @@ pub enum Tail {
     Wholes(Member),
 }
 
-// A command, the letters of its numbers (P a place or another number of 32 bits, M a mask, C a length to lend, - no number), and what stands behind them.
+// A command, the letters of its numbers, and what stands behind them.
 #[derive(Clone, Copy)]
 pub struct Form {
     pub command: Command,
-    pub letters: [u8; 4],
+    pub letters: [Letter; 4],
     pub tail: Tail,
 }
 
-// One entry of the table: its form where the word is its name, else what the entries before it gave.
-fn named(
-    word: &[u8],
-    before: Form,
-    name: &[u8],
-    command: Command,
-    letters: &[u8; 4],
-    tail: Tail,
-) -> Form
-    ensures { result ≡ entry_form word.now before name.now
-        (record { command = command; letters = letters.now; tail = tail }) }
+// A word of the console, its command, the letters of its numbers, and what stands behind them.
+type Entry = (&'static [u8], Command, [Letter; 4], Tail);
+
+// The letters as the tables have them.
+const P: Letter = Letter::Place;
+
+const M: Letter = Letter::Mask;
+
+const C: Letter = Letter::Length;
+
+const O: Letter = Letter::None;
+
+// The form of a word in a table, whose words differ.
+fn form_in(table: &[Entry], word: &[u8]) -> Option<Form>
+    requires { differ (entries_of table.now) ≡ true }
+    ensures { result ≡ form_from word.now (entries_of table.now) no_form }
 {
-    if check::same(word, name) {
-        let spelled = *letters;
-        return Form {
-            command,
-            letters: spelled,
-            tail,
-        };
-    }
-    before
+    let &(_, command, letters, tail) = table.iter().find(|entry| check::same(word, entry.0))?;
+    Some(Form {
+        command,
+        letters,
+        tail,
+    })
 }
 
-fn operation(
-    word: &[u8],
-    before: Form,
-    name: &[u8],
-    mode: Mode,
-    kind: Kind,
-    letters: &[u8; 4],
-) -> Form
-    ensures { result ≡ entry_form word.now before name.now
-        (record { command = Command.Operation mode kind; letters = letters.now; tail = Tail.None }) }
+fn operation(mode: Mode, kind: Kind) -> Command
+    ensures { result ≡ Command.Operation mode kind }
 {
-    let command = Command::Operation { mode, kind };
-    named(word, before, name, command, letters, Tail::None)
+    Command::Operation { mode, kind }
 }
 
 // The last number of an operation is its target.
-fn operation_forms(w: &[u8], mode: Mode, before: Form) -> Form
-    ensures { result ≡ form_from w.now (operation_forms mode) before }
+fn operation_form(mode: Mode, word: &[u8]) -> Option<Form>
+    ensures { result ≡ form_from word.now (operation_forms mode) no_form }
 {
-    let f = operation(w, before, b"product", mode, Kind::Product, b"PP-P");
-    let f = operation(w, f, b"inverse", mode, Kind::Inverse, b"P--P");
-    let f = operation(w, f, b"converse", mode, Kind::Converse, b"P--P");
-    let f = operation(w, f, b"transpose", mode, Kind::Transpose, b"P--P");
-    let f = operation(w, f, b"submatrix", mode, Kind::Submatrix, b"PMMP");
-    let f = operation(w, f, b"schur", mode, Kind::Schur, b"PP-P");
+    let product = operation(mode, Kind::Product);
+    let inverse = operation(mode, Kind::Inverse);
+    let converse = operation(mode, Kind::Converse);
+    let transpose = operation(mode, Kind::Transpose);
+    let submatrix = operation(mode, Kind::Submatrix);
+    let schur = operation(mode, Kind::Schur);
     let steps = Tail::Wholes(Member::Step);
-    named(w, f, b"recipe", Command::Recipe(mode), b"---P", steps)
+    let table: [Entry; 7] = [
+        (b"product", product, [P, P, O, P], Tail::None),
+        (b"inverse", inverse, [P, O, O, P], Tail::None),
+        (b"converse", converse, [P, O, O, P], Tail::None),
+        (b"transpose", transpose, [P, O, O, P], Tail::None),
+        (b"submatrix", submatrix, [P, M, M, P], Tail::None),
+        (b"schur", schur, [P, P, O, P], Tail::None),
+        (b"recipe", Command::Recipe(mode), [O, O, O, P], steps),
+    ];
+    form_in(&table, word)
 }
 
-fn first_forms(w: &[u8], before: Form) -> Form
-    ensures { result ≡ form_from w.now first_forms before }
-{
-    let f = named(w, before, b"load", Command::Load, b"P---", Tail::Bytes);
-    let f = named(w, f, b"write", Command::Write, b"PC--", Tail::None);
-    let f = named(w, f, b"length", Command::Length, b"P---", Tail::None);
-    let f = named(w, f, b"drop", Command::Drop, b"P---", Tail::None);
-    let stamps = Tail::Wholes(Member::Stamp);
-    named(w, f, b"build", Command::Build, b"P---", stamps)
-}
+// The other words.
+const OTHERS: [Entry; 14] = [
+    (b"load", Command::Load, [P, O, O, O], Tail::Bytes),
+    (b"write", Command::Write, [P, C, O, O], Tail::None),
+    (b"length", Command::Length, [P, O, O, O], Tail::None),
+    (b"drop", Command::Drop, [P, O, O, O], Tail::None),
+    (
+        b"build",
+        Command::Build,
+        [P, O, O, O],
+        Tail::Wholes(Member::Stamp),
+    ),
+    (b"minor", Command::Minor, [P, M, M, O], Tail::None),
+    (b"carry", Command::Carry, [P, C, O, O], Tail::Items),
+    (b"reversals", Command::Reversals, [O; 4], Tail::Items),
+    (b"add", Command::Add, [O; 4], Tail::Two),
+    (b"multiply", Command::Multiply, [O; 4], Tail::Two),
+    (b"divide", Command::Divide, [O; 4], Tail::Two),
+    (b"rest", Command::Rest, [O; 4], Tail::Bytes),
+    (
+        b"sentence",
+        Command::Sentence,
+        [C, P, P, O],
+        Tail::Wholes(Member::Place),
+    ),
+    (b"show", Command::Show, [P, O, O, O], Tail::None),
+];
 
-fn second_forms(w: &[u8], before: Form) -> Form
-    ensures { result ≡ form_from w.now second_forms before }
+fn other_form(word: &[u8]) -> Option<Form>
+    ensures { result ≡ form_from word.now second_forms (form_from word.now first_forms no_form) }
 {
-    let f = named(w, before, b"minor", Command::Minor, b"PMM-", Tail::None);
-    let f = named(w, f, b"carry", Command::Carry, b"PC--", Tail::Items);
-    let f = named(w, f, b"reversals", Command::Reversals, b"----", Tail::Items);
-    let f = named(w, f, b"add", Command::Add, b"----", Tail::Two);
-    let f = named(w, f, b"multiply", Command::Multiply, b"----", Tail::Two);
-    let f = named(w, f, b"divide", Command::Divide, b"----", Tail::Two);
-    let f = named(w, f, b"rest", Command::Rest, b"----", Tail::Bytes);
-    let places = Tail::Wholes(Member::Place);
-    let f = named(w, f, b"sentence", Command::Sentence, b"CPP-", places);
-    named(w, f, b"show", Command::Show, b"P---", Tail::None)
-}
-
-fn no_form() -> Form
-    ensures { result ≡ no_form }
-{
-    Form {
-        command: Command::Bad,
-        letters: [b'-'; 4],
-        tail: Tail::None,
-    }
+    let table = OTHERS;
+    form_in(&table, word)
 }
 
 // How an operation is asked for, by the first word of a line.
@@ -167,24 +178,18 @@ pub fn mode_of(word: &[u8]) -> Mode
 fn without_target(form: Form) -> Form
     ensures { result ≡ without_target form }
 {
-    let command = form.command;
     let mut letters = form.letters;
-    let tail = form.tail;
-    letters[3] = b'-';
-    Form {
-        command,
-        letters,
-        tail,
-    }
+    letters[3] = O;
+    Form { letters, ..form }
 }
 
 // The form that a word names: any, or behind a word in front an operation's.
-pub fn form_by(mode: Mode, word: &[u8]) -> Form
+pub fn form_by(mode: Mode, word: &[u8]) -> Option<Form>
     ensures { result ≡ form_by mode word.now }
 {
-    let operation = operation_forms(word, mode, no_form());
+    let operation = operation_form(mode, word);
     match mode {
-        Mode::Direct => second_forms(word, first_forms(word, operation)),
-        Mode::Foretold => without_target(operation),
+        Mode::Direct => other_form(word).or(operation),
+        Mode::Foretold => Some(without_target(operation?)),
     }
 }

@@ -4,30 +4,28 @@ ghost use Rattle.requests.specs.Words.{words_at};
 ghost use Rattle.requests.specs.Lists.{list_read};
 ghost use Rattle.requests.specs.Wholes.{spelled_member, spelled_wholes};
 
-use crate::lists::{LONGEST, ReadList};
-use crate::steps;
-use lines::ReadWhole;
+use crate::{LONGEST, steps};
 
 // What the words of a list are: numbers of 64 bits, of 32, or the steps of a recipe.
-#[derive(Clone, Copy)]
+#[derive(Clone, Copy, PartialEq, Eq)]
 pub enum Member {
     Stamp,
     Place,
     Step,
 }
 
-fn spelled_member(word: &[u8], member: Member) -> ReadWhole
+fn spelled_member(word: &[u8], member: Member) -> Option<u64>
     ensures { result ≡ spelled_member member word.now }
 {
     match member {
         Member::Stamp => lines::read_whole(word, u64::MAX),
-        Member::Place => lines::read_whole(word, 4294967295),
+        Member::Place => lines::read_whole(word, u64::from(u32::MAX)),
         Member::Step => steps::spelled_step(word),
     }
 }
 
 // Reads each word from an index on as a whole number, and puts it behind those before it.
-pub fn read(line: &[u8], at: usize, member: Member, list: &mut [u64]) -> ReadList
+pub fn read(line: &[u8], at: usize, member: Member, list: &mut [u64]) -> Option<usize>
     requires { 16 ≤ length list.old }
     ensures { list_read 1 list.new result ≡ spelled_wholes member 16 (words_at line.now at) }
 {
@@ -35,19 +33,11 @@ pub fn read(line: &[u8], at: usize, member: Member, list: &mut [u64]) -> ReadLis
     let mut count: usize = 0;
     while next <= line.len() {
         if LONGEST <= count {
-            return ReadList::Malformed;
+            return None;
         }
-        let number = spelled_member(lines::word(line, next), member);
-        match number {
-            ReadWhole::Value(n) => {
-                list[count] = n;
-            }
-            ReadWhole::Malformed => {
-                return ReadList::Malformed;
-            }
-        }
+        list[count] = spelled_member(lines::word(line, next), member)?;
         next = lines::next_word(line, next);
         count += 1;
     }
-    ReadList::Count(count)
+    Some(count)
 }

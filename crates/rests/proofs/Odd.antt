@@ -1,14 +1,14 @@
 -- Twos taken out of a whole number: what is left is odd, and the number is it times a power of 2 (`halves`). A number is so in one way only (`odd-unique`),
--- and so a word's trailing zeros are its twos (`word-twos`), fewer than 64 (`word-twos-lt`).
+-- and so a word's trailing zeros are its twos (`word-twos`).
 use mathlib.Core.Path.{◌≡◌, refl, sym, ap, ap₂, ◌∙◌}
 use Prim.Native.Nat.{ℕ, zero, suc, ◌+◌, ◌-◌, ◌*◌, ◌/◌, ◌%◌, ◌^◌, ◌≤◌, ◌<◌}
-use native.Mathlib.Nat.{mul-le-mul_right, eq_of_mul-eq-mul_right, lt_of_not-le, div-one, mul_comm, pow-suc, div-div-eq-div-mul}
+use native.Mathlib.Nat.{eq_of_mul-eq-mul_right, div-one, mul_comm, pow-suc, div-div-eq-div-mul}
 use native.Mathlib.Decide.{dec_le}
 use native.Mathlib.Omega.{arith}
 use lib.Count.{count_trailing_zeros, under}
 use lib.Ieee.{size}
 use lib.Ieee.Digits.{size-lt}
-use lib.Pow.{pow_pos, pow-add, pow_mono}
+use lib.Pow.{pow_pos, pow-add}
 use Rattle.rests.specs.Rest.{twos}
 
 -- ---- twos taken out, by the last digit
@@ -64,11 +64,3 @@ word-twos n p h =
     let a = halves 64 n p h in
     let b = halves (size n) n p (size-lt n) in
     (odd-unique _ _ _ _ a.odd b.odd (a.whole ∙ sym b.whole)).exponent
-
-pub word-twos-lt : (n : ℕ) → 0 < n → n < 2 ^ 64 → count_trailing_zeros 64 n < 64
-word-twos-lt n p h =
-    let a = halves 64 n p h in
-    let t : ℕ = count_trailing_zeros 64 n in
-    let one : 1 ≤ n / 2 ^ t = omega (arith, a.odd) in
-    let l : 2 ^ t ≤ n = omega (arith, a.whole, mul-le-mul_right (2 ^ t) one) in
-    lt_of_not-le (λ (g : 64 ≤ t). omega (arith, pow_mono {i = 64} {j = t} g))

@@ -1,7 +1,7 @@
 -- A rest by its whole numbers: what an odd part stands for (`odd-value`), the balance p = q + rest (`rest-parts`), odd or none (`rest-odd`), its sign
 -- (`rest-sign`), size (`rest-at-most`) and exponent (`rest-place`); a number added to both sides changes nothing (`rest-shifted`). Exponents keep their bias,
 -- and 2 ^ bias is never computed.
-use mathlib.Core.Path.{◌≡◌, refl, sym, ap, ◌∙◌, subst}
+use mathlib.Core.Path.{◌≡◌, refl, sym, ap, ap₂, ◌∙◌, subst}
 use mathlib.Core.Bool.{Bool, true, false, cond, false≢true}
 use mathlib.Core.Logic.{◌⊎◌, ◌↔◌, inl, inr}
 use Prim.Native.Nat.{ℕ, zero, suc, ◌+◌, ◌-◌, ◌*◌, ◌/◌, ◌%◌, ◌^◌, ◌≤◌, ◌<◌}
@@ -10,7 +10,7 @@ use native.Mathlib.Omega.{arith}
 use native.Mathlib.Decide.{dec_lt}
 use borrow.Author.Tests.{lt-ltb, le-ltb, ne_eqb}
 use lib.Count.{trailing_le}
-use lib.Dec.{eqb}
+use lib.Dec.{eqb, ltb}
 use lib.Ieee.{size}
 use lib.Ieee.Digits.{size-lt, size-le}
 use lib.Pow.{pow-add}
@@ -128,6 +128,18 @@ module _ (p q x : ℕ) where
       let d : q + (p - q) ≡ p = omega arith in
       let z = zero-mul (2 ^ (odd_part false (p - q) x).x) in
       rw (odd-plus (p - q) x) (omega (arith, ap (λ (z : ℕ). z * 2 ^ x) d, odd-value false (p - q) x)))
+
+-- by one test: the distance of p and q, with its sign
+pub rest-apart : (p q x : ℕ) → odd_part (ltb p q) (p - q + (q - p)) x ≡ rest_of p q x
+rest-apart p q x = elim (dec_lt p q) [
+  | yes h ↦
+      let d : p - q + (q - p) ≡ q - p = omega arith in
+      ap₂ (λ (s : Bool) (n : ℕ). odd_part s n x) (lt-ltb p q h) d ∙ sym (rest-above p q x h)
+  | no h ↦
+      let l : q ≤ p = omega arith in
+      let d : p - q + (q - p) ≡ p - q = omega arith in
+      ap₂ (λ (s : Bool) (n : ℕ). odd_part s n x) (le-ltb p q l) d ∙ sym (rest-not-above p q x l)
+]
 
 -- what is added on both sides takes no part
 pub rest-shifted : (c p q x : ℕ) → rest_of (c + p) (c + q) x ≡ rest_of p q x

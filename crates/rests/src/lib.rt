@@ -16,6 +16,7 @@ pub enum Operator {
 }
 
 // An odd whole number times 2 to the power x - BIAS, with a sign. No rest is 0 with x BIAS, and not negative.
+// It is answered so to callers in C, number and exponent alike: hence no Option.
 #[derive(Clone, Copy)]
 pub struct Rest {
     pub negative: bool,
@@ -37,9 +38,10 @@ impl Rest {
         ensures { result ≡ rest_integer self }
     {
         if self.negative {
-            return integer::minus(self.odd);
+            integer::minus(self.odd)
+        } else {
+            integer::plus(self.odd)
         }
-        integer::plus(self.odd)
     }
 
     pub fn exponent(self) -> i64
@@ -62,11 +64,11 @@ fn odd_part(negative: bool, n: u64, x: u64) -> Rest
             x: BIAS,
         };
     }
-    let t = u64::trailing_zeros(n) as u64;
+    let twos = u64::from(n.trailing_zeros());
     Rest {
         negative,
-        odd: n >> t,
-        x: x + t,
+        odd: n >> twos,
+        x: x + twos,
     }
 }
 
@@ -75,10 +77,7 @@ fn difference(p: u64, q: u64, x: u64) -> Rest
     requires { x < 2 ^ 62 }
     ensures { result ≡ rest_of p q x }
 {
-    if p < q {
-        return odd_part(true, q - p, x);
-    }
-    odd_part(false, p - q, x)
+    odd_part(p < q, p.abs_diff(q), x)
 }
 
 // The sum, where the second exponent is not above the first: the result less the first is exact, and the second less that is the rest (Fast2Sum).
@@ -89,27 +88,21 @@ fn sum(a: Number, b: Number) -> Rounded
 {
     let number = a.add(b, Direction::Nearest);
     let k = a.x - b.x;
-    if 32 < k {
-        return Rounded {
-            number,
-            rest: odd_part(false, b.m, b.x),
-        };
-    }
-    let more = number.m * power(number.x - a.x) - a.m;
-    Rounded {
-        number,
-        rest: difference(b.m, more * power(k), b.x),
-    }
+    let rest = if 32 < k {
+        odd_part(false, b.m, b.x)
+    } else {
+        let more = number.m * power(number.x - a.x) - a.m;
+        difference(b.m, more * power(k), b.x)
+    };
+    Rounded { number, rest }
 }
 
+// The three take two numbers, as their callers have them: a type for a positive pair would be made for one call each.
 pub fn add(a: Number, b: Number) -> Rounded
     requires { PositivePair a b }
     ensures { result ≡ sum_rounded a b }
 {
-    if a.x < b.x {
-        return sum(b, a);
-    }
-    sum(a, b)
+    if a.x < b.x { sum(b, a) } else { sum(a, b) }
 }
 
 pub fn multiply(a: Number, b: Number) -> Rounded
@@ -118,10 +111,8 @@ pub fn multiply(a: Number, b: Number) -> Rounded
 {
     let number = a.mul(b, Direction::Nearest);
     let x = a.x + b.x - BIAS;
-    Rounded {
-        number,
-        rest: difference(a.m * b.m, number.m * power(number.x - x), x),
-    }
+    let rest = difference(a.m * b.m, number.m * power(number.x - x), x);
+    Rounded { number, rest }
 }
 
 pub fn divide(a: Number, b: Number) -> Rounded
@@ -130,10 +121,8 @@ pub fn divide(a: Number, b: Number) -> Rounded
 {
     let number = a.div(b, Direction::Nearest);
     let x = number.x + b.x - BIAS;
-    Rounded {
-        number,
-        rest: difference(a.m * power(a.x - x), number.m * b.m, x),
-    }
+    let rest = difference(a.m * power(a.x - x), number.m * b.m, x);
+    Rounded { number, rest }
 }
 
 // One of the three.

@@ -1,19 +1,20 @@
 -- What the loop that counts comes to: one item more (`count_next`), which adds at most one reversal (`turn-le`).
-use mathlib.Core.Path.{◌≡◌, ap}
+use mathlib.Core.Path.{◌≡◌, ap, ◌∙◌}
 use mathlib.Core.Bool.{Bool, true, false, cond}
-use mathlib.Core.List.{List}
-use Prim.Native.Nat.{ℕ, ◌+◌, ◌≤◌, ◌<◌}
+use mathlib.Core.List.{List, ◌∷◌}
+use Prim.Native.Nat.{ℕ, suc, ◌+◌, ◌≤◌, ◌<◌}
 use native.Mathlib.Omega.{arith}
-use lib.ListN.{length, get_or, take, drop}
-use Rattle.arrays.proofs.Fronts.{front-next}
+use lib.ListN.{length, get_or, drop}
+use lib.Seq.{drop-cons}
 use Rattle.number.specs.declared.signed.Signed.{Signed}
 use Rattle.reversals.specs.Reversals.{opposite, turn, latest, reversals_behind}
 
-module _ (v : List Signed) (n k : ℕ) (d : Signed) (h : k < n) (g : n ≤ length v) where
-  pub count_next : (r found t : ℕ) (last : Signed) → t ≡ turn last (get_or v k d) → r ≡ found + reversals_behind last (drop k (take n v))
-      → r ≡ found + t + reversals_behind (latest last (get_or v k d)) (drop (k + 1) (take n v))
-  unfolding reversals_behind
-  count_next r found t last e f = omega (arith, e, f, ap (reversals_behind last) (front-next v n k d h g))
+pub count_next : (L : List Signed) (k : ℕ) (d : Signed) → k < length L → (last : Signed)
+    → reversals_behind last (drop k L) ≡ turn last (get_or L k d) + reversals_behind (latest last (get_or L k d)) (drop (k + 1) L)
+unfolding reversals_behind
+count_next L k d h last =
+    let e : suc k ≡ k + 1 = omega arith in
+    ap (reversals_behind last) (drop-cons L k d h ∙ ap (λ (i : ℕ). get_or L k d ∷ drop i L) e)
 
 pub turn-le : (a b : Signed) → turn a b ≤ 1
 turn-le a b = go (opposite a b)

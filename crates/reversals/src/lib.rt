@@ -10,37 +10,16 @@ use number::signed::Signed;
 fn turn(a: Signed, b: Signed) -> u64
     ensures { result ≡ turn a b }
 {
-    let x = a.size;
-    let y = b.size;
-    let first_vanishes = x.m == 0;
-    if first_vanishes {
-        return 0;
-    }
-    let second_vanishes = y.m == 0;
-    if second_vanishes {
-        return 0;
-    }
-    if a.negative {
-        if b.negative {
-            return 0;
-        }
-        return 1;
-    }
-    if b.negative {
-        return 1;
-    }
-    0
+    let first_vanishes = a.size.m == 0;
+    let second_vanishes = b.size.m == 0;
+    u64::from(!first_vanishes && !second_vanishes && a.negative != b.negative)
 }
 
 // The later of two items, unless it is zero: a standstill is passed over.
 fn latest(a: Signed, b: Signed) -> Signed
     ensures { result ≡ latest a b }
 {
-    let size = b.size;
-    if size.m == 0 {
-        return a;
-    }
-    b
+    if b.size.m == 0 { a } else { b }
 }
 
 // The reversals among the first n of eight items: each is set against the last before it that is not zero.
@@ -49,13 +28,10 @@ pub fn count(v: [Signed; 8], n: usize) -> u64
     ensures { result ≡ reversals (take n v) }
 {
     let mut last = Signed::zero();
-    let mut found = 0u64;
-    let mut k = 0;
-    while k < n {
-        let a = v[k];
-        found += turn(last, a);
-        last = latest(last, a);
-        k += 1;
+    let mut found = 0;
+    for a in &v[..n] {
+        found += turn(last, *a);
+        last = latest(last, *a);
     }
     found
 }

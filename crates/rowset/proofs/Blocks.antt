@@ -1,15 +1,15 @@
--- A table to be lent, as it is made: the sets and positions copied (copied_next, copied_all), the blocks of the sets that letters change, where they stand
+-- A table to be lent, as it is made: the sets and positions copied (copied), the blocks of the sets that letters change, where they stand
 -- (block_up, block-down, block-fits), and how they are filled, two entries at a time, to the whole table (filled_none, filled_next, filled_row, filled-all).
 use mathlib.Core.Path.{◌≡◌, sym, ap, ap₂, ◌∙◌}
 use mathlib.Core.Logic.{⊎_elim}
-use mathlib.Core.List.{List}
+use mathlib.Core.List.{List, ◌++◌}
 use Prim.Native.Nat.{ℕ, ◌+◌, ◌-◌, ◌*◌, ◌%◌, ◌^◌, ◌≤◌, ◌<◌, min}
 use native.Mathlib.Decide.{ℕ_discrete}
 use native.Mathlib.Omega.{arith}
 use borrow.Author.Tests.{lt-ltb, le-ltb}
-use lib.ListN.{length, get_or, set, length-set}
+use lib.ListN.{length, get_or, set, take, length-set, get_or-append}
 use lib.Pow.{pow_mono, shl_exact}
-use lib.Seq.{get_or-set_same, get_or-set_other}
+use lib.Seq.{get_or-set_same, get_or-set_other, get_or-append-add, take_at}
 use Rattle.rowset.specs.Mask.{position_of}
 use Rattle.rowset.specs.Sets.{Neighbours, parted_of, changed_of, begin_of, block_of, Listed, Placed, Tables}
 use Rattle.rowset.specs.Blocks.{Filled}
@@ -48,36 +48,20 @@ placed-kept kept P = record { entry = λ s h. kept (256 + s) (omega arith) ∙ P
 pub placed_at : {t : List ℕ} → Placed t → (s i : ℕ) → s < 256 → i ≡ 256 + s → get_or t i 0 ≡ position_of s
 placed_at {t} P s i h e = ap (λ (v : ℕ). get_or t v 0) e ∙ P.entry s h
 
--- THE SETS AND THE POSITIONS, COPIED
-pub record Copied (sets positions : List ℕ) (s : ℕ) (t : List ℕ) : Type 0 where
-  pub long : length t ≡ 1408
-  pub first : (i : ℕ) → i < s → get_or t i 0 ≡ get_or sets i 0
-  pub second : (i : ℕ) → i < s → get_or t (256 + i) 0 ≡ get_or positions i 0
-
-module _ {sets positions t : List ℕ} {s : ℕ} (C : Copied sets positions s t) where
-  pub copied_next : s < 256 → Copied sets positions (s + 1) (set (set t s (get_or sets s 0)) (256 + s) (get_or positions s 0))
-  copied_next h =
-      let u = set t s (get_or sets s 0) in
+-- THE SETS AND THE POSITIONS, COPIED, one after the other into the first places of a table
+pub copied : {sets positions : List ℕ} (a b r z : List ℕ) → a ≡ sets → b ≡ positions → length sets ≡ 256 → length positions ≡ 256 → Listed sets
+    → ((s : ℕ) → s < 256 → get_or positions s 0 ≡ position_of s) → Listed (take 256 (a ++ r) ++ (b ++ z)) × Placed (take 256 (a ++ r) ++ (b ++ z))
+copied {sets} {positions} a b r z ea eb ls lp L P =
+    let e : take 256 (a ++ r) ++ (b ++ z) ≡ sets ++ (positions ++ z) =
+    rw (ea, eb) (ap (λ (x : List ℕ). x ++ (positions ++ z)) (take_at sets r 256 ls)) in
+    rw e (
+      listed_kept (λ i g. get_or-append sets (positions ++ z) 0 i (omega arith)) L,
       record {
-        long = length-set u (256 + s) (get_or positions s 0) ∙ length-set t s (get_or sets s 0) ∙ C.long;
-        first = λ i g.
-            get_or-set_other u (256 + s) i (get_or positions s 0) 0 (λ e. omega arith) ∙
-            elim (ℕ_discrete i s) [
-              | yes e ↦ rw e (get_or-set_same t s (get_or sets s 0) 0 (omega (arith, C.long)))
-              | no e ↦ get_or-set_other t s i (get_or sets s 0) 0 e ∙ C.first i (omega arith)
-            ];
-        second = λ i g.
-            elim (ℕ_discrete i s) [
-              | yes e ↦ rw e (get_or-set_same u (256 + s) (get_or positions s 0) 0 (omega (arith, C.long, length-set t s (get_or sets s 0))))
-              | no e ↦
-                  get_or-set_other u (256 + s) (256 + i) (get_or positions s 0) 0 (λ f. omega arith) ∙
-                  get_or-set_other t s (256 + i) (get_or sets s 0) 0 (λ f. omega arith) ∙ C.second i (omega arith)
-            ];
-      }
-
-  pub copied_all : 256 ≤ s → Listed sets → ((i : ℕ) → i < 256 → get_or positions i 0 ≡ position_of i) → Listed t × Placed t
-  copied_all h L P =
-      (listed_kept (λ i g. C.first i (omega arith)) L, record { entry = λ i g. C.second i (omega arith) ∙ P i g })
+        entry = λ s g.
+            ap (λ (n : ℕ). get_or (sets ++ (positions ++ z)) (n + s) 0) (sym ls) ∙ get_or-append-add sets (positions ++ z) s 0
+            ∙ get_or-append positions z 0 s (omega arith) ∙ P s g;
+      },
+    )
 
 -- THE TWO SETS OF A PAIR OF ROWS
 module _ (l m : ℕ) (hl : 1 ≤ l) (ll : l < 8) (lm : m < 64) where

@@ -26,11 +26,9 @@ fn joined(sets: &[u8; 256], positions: &[u8; 256]) -> [u8; 1408]
     requires { Listed sets.now × ((s : ℕ) → s < 256 → get_or positions.now s 0 ≡ position_of s) }
     ensures { Listed result × Placed result }
 {
-    let mut t = [0u8; 1408];
-    for s in 0..256usize {
-        t[s] = sets[s];
-        t[256 + s] = positions[s];
-    }
+    let mut t = [0; 1408];
+    t[..256].copy_from_slice(sets);
+    t[256..512].copy_from_slice(positions);
     t
 }
 
@@ -42,20 +40,18 @@ fn block(a: usize, o: usize) -> usize
     if a < o { a - 1 } else { a + 5 }
 }
 
-// The two blocks of the rows l and l + 1 filled; those of smaller l are.
-fn filled(t: [u8; 1408], n: usize, l: usize) -> [u8; 1408]
-    requires { (n ≤ 8) × (1 ≤ l) × (l < n) × Filled n (l * 64) t }
-    ensures { Filled n (l * 64 + 64) result }
+// Fills the two blocks of the rows l and l + 1; those of smaller l are filled.
+fn fill(t: &mut [u8; 1408], n: usize, l: usize)
+    requires { (n ≤ 8) × (1 ≤ l) × (l < n) × Filled n (l * 64) t.old }
+    ensures { Filled n (l * 64 + 64) t.new }
 {
     let up = 512 + block(l, l + 1) * 64;
     let down = 512 + block(l + 1, l) * 64;
-    let mut u = t;
-    for m in 0..(1usize << (n - 2)) {
+    for m in 0..1 << (n - 2) {
         let s = sets::parted(m, l) + (1 << (l - 1));
-        u[up + m] = u[256 + s];
-        u[down + m] = u[256 + replaced(s, l, l + 1)];
+        t[up + m] = t[256 + s];
+        t[down + m] = t[256 + replaced(s, l, l + 1)];
     }
-    u
 }
 
 // The tables for n rows.
@@ -63,12 +59,9 @@ pub fn tables(n: usize) -> [u8; 1408]
     requires { n ≤ 8 }
     ensures { Tables n result }
 {
-    let sets = all_sets();
-    let positions = positions();
-    let mut t = joined(&sets, &positions);
+    let mut t = joined(&all_sets(), &positions());
     for l in 1..n {
-        let u = filled(t, n, l);
-        t = u;
+        fill(&mut t, n, l);
     }
     t
 }

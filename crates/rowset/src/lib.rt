@@ -14,7 +14,7 @@ pub fn wide(x: u8) -> usize
     ensures value { result ≡ x }
     ensures upper_bound { result < 256 }
 {
-    x as usize
+    usize::from(x)
 }
 
 // Row i is in s.
@@ -49,7 +49,7 @@ pub fn count(s: usize) -> usize
     ensures value { result ≡ mask_count s }
     ensures upper_bound { result ≤ 8 }
 {
-    u32::count_ones(s as u32) as usize
+    s.count_ones() as usize
 }
 
 // The consecutive rows a .. b, none if b < a.
@@ -66,11 +66,12 @@ pub fn among(p: usize, s: usize) -> usize
     ensures value { result ≡ mask_among p s }
     ensures upper_bound { result < 256 }
 {
-    let mut r: usize = 0;
+    let mut r = 0;
+    // k chosen rows are below row i + 1. Counted by hand: numbering the chosen rows by `filter` and `enumerate` is no plainer, and s >> k needs k below 8.
     let mut k: usize = 0;
     for i in 0..8usize {
         if (p >> i) & 1 == 1 {
-            r = r | (((s >> k) & 1) << i);
+            r |= ((s >> k) & 1) << i;
             k += 1;
         }
     }

@@ -1,6 +1,7 @@
 -- The minors that the formulas ask for: at masks that the walk takes (asked-ready), as the definition has them and fit to be multiplied and divided by
--- (asked-answer, chosen-ranged), with as many rows (asked-rows); of consecutive rows (run-ready, run-answer, run-rows).
+-- (asked-answer, chosen-ranged), with as many rows (asked-rows), in the order asked for (in-order); of consecutive rows (run-ready, run-answer, run-rows).
 use mathlib.Core.Path.{◌≡◌, refl, sym, ap, ap₂, ◌∙◌, subst}
+use mathlib.Core.Bool.{Bool, true, false, cond}
 use mathlib.Core.List.{List, []}
 use Prim.Native.Nat.{ℕ, suc, ◌+◌, ◌-◌, ◌*◌, ◌^◌, ◌≤◌, ◌<◌}
 use native.Mathlib.Nat.{mul-le-mul, min-le_left}
@@ -11,7 +12,6 @@ use Rattle.number.specs.Number.{rounded, Ranged}
 use Rattle.number.specs.declared.Number.{Number}
 use Rattle.number.proofs.Reach.{ranged-more}
 use Rattle.rowset.specs.Mask.{mask_count, mask_among, mask_run, mask_with_first}
-use Rattle.rowset.specs.Sets.{Tables}
 use Rattle.rowset.proofs.Masks.{of_mask-length}
 use Rattle.rowset.proofs.Counts.{mask-count, mask-among, among_below, among-count, mask-run, run-count, run-below}
 use Rattle.words.specs.RowSet.{RowSet, count, among, rows, of_mask, with_first}
@@ -20,12 +20,27 @@ use Rattle.words.specs.Walk.{minor}
 use Rattle.words.specs.Operation.{joined_word}
 use Rattle.words.proofs.Chosen.{length-among}
 use Rattle.words.proofs.FirstRows.{long-first}
-use Rattle.words.specs.Sources.{Walkable, Sources, run_reach}
+use Rattle.words.specs.Sources.{run_reach}
 use Rattle.words.proofs.Exponents.{walk-ranged}
-use Rattle.walk.specs.Lent.{AllSpelled, numbered, step_at, steps_of}
+use Rattle.walk.specs.Lent.{numbered, step_at, steps_of}
 use Rattle.walk.proofs.Minors.{rows_few}
 use Rattle.rule.specs.declared.Chosen.{Chosen}
-use Rattle.rule.specs.Chosen.{size_of, chosen_rows, chosen_columns, chosen_minor, Workable, Lent}
+use Rattle.rule.specs.Chosen.{size_of, chosen_rows, chosen_columns, chosen_minor, turned_by, Workable}
+
+-- TWO SETS IN THE ORDER ASKED FOR, s and t
+pub record InOrder (turned : Bool) (m : ℕ) (M : RowSet → RowSet → Number) (i j s t : ℕ) : Type 0 where
+  pub row-set : s < 2 ^ m
+  pub column-set : t < 2 ^ m
+  pub equal : mask_count s ≡ mask_count t
+  pub rows : mask_count s ≡ mask_count i
+  pub same : M (of_mask m s) (of_mask m t) ≡ turned_by turned M (of_mask m i) (of_mask m j)
+
+pub in-order : (turned : Bool) (m : ℕ) (M : RowSet → RowSet → Number) (i j : ℕ) → i < 2 ^ m → j < 2 ^ m → mask_count i ≡ mask_count j
+    → (p : ℕ × ℕ) → p ≡ cond turned (j, i) (i, j) → InOrder turned m M i j p.0 p.1
+in-order true m M i j bi bj e p q =
+    subst (λ (x : ℕ × ℕ). InOrder true m M i j x.0 x.1) (sym q) (record { row-set = bj; column-set = bi; equal = sym e; rows = sym e; same = refl })
+in-order false m M i j bi bj e p q =
+    subst (λ (x : ℕ × ℕ). InOrder false m M i j x.0 x.1) (sym q) (record { row-set = bi; column-set = bj; equal = e; rows = refl; same = refl })
 
 module _ (c : Chosen) {f : List ℕ} (P : Workable c f) where
   few-masks : 2 ^ c.word.n ≤ 2 ^ 8
@@ -103,19 +118,11 @@ module _ (c : Chosen) {f : List ℕ} (P : Workable c f) where
   -- THE MINOR AT MASKS i AND j that count among the chosen ones behind the clamped; i' and j' are these with the clamped, among all rows
   module _ (i j i' j' : ℕ) (bi : i < 2 ^ size_of c) (bj : j < 2 ^ size_of c) (e : mask_count i ≡ mask_count j)
       (ei : i' ≡ mask_among c.rows (mask_with_first c.clamped i)) (ej : j' ≡ mask_among c.columns (mask_with_first c.clamped j)) where
-    pub asked-ready : {t l : List ℕ} → Lent c t l → ((1 ≤ c.word.n) × (c.word.n ≤ 8) × (c.word.count ≤ 6))
-        × (((i' < 2 ^ c.word.n) × (j' < 2 ^ c.word.n) × (mask_count i' ≡ mask_count j'))
-        × (Sources (Walkable c.word.n) (steps_of c.word f) × (Tables c.word.n t × AllSpelled c.word l)))
-    asked-ready L = (
-      (P.some, P.few, P.six),
-      (
-        (
-          omega (arith, ei, (asked-below (mask_with_first k i)).0),
-          omega (arith, ej, (asked-below (mask_with_first k j)).1),
-          ap mask_count ei ∙ asked-count i j bi bj e ∙ ap mask_count (sym ej),
-        ),
-        (P.walkable, (L.tables, L.letters)),
-      ),
+    pub asked-ready : (i' < 2 ^ c.word.n) × (j' < 2 ^ c.word.n) × (mask_count i' ≡ mask_count j')
+    asked-ready = (
+      omega (arith, ei, (asked-below (mask_with_first k i)).0),
+      omega (arith, ej, (asked-below (mask_with_first k j)).1),
+      ap mask_count ei ∙ asked-count i j bi bj e ∙ ap mask_count (sym ej),
     )
 
     pub asked-answer : (r : Number) → r ≡ minor rounded (joined_word c.word.n (steps_of c.word f)) (of_mask c.word.n i') (of_mask c.word.n j')
@@ -132,11 +139,10 @@ module _ (c : Chosen) {f : List ℕ} (P : Workable c f) where
         let p : suc b - a ≡ m = omega arith in
         ap mask_count es ∙ run-count a b ha (omega arith) (omega arith) ∙ p
 
-    pub run-ready : Workable c f × (s < 2 ^ size_of c) × (t < 2 ^ size_of c) × (mask_count s ≡ mask_count t)
+    pub run-ready : (s < 2 ^ size_of c) × (t < 2 ^ size_of c) × (mask_count s ≡ mask_count t)
     run-ready =
         let k = size_few in
         let q : suc m - 1 ≡ m = omega arith in (
-          P,
           subst (λ (x : ℕ). x < 2 ^ size_of c) (sym es) (run-below (size_of c) a b lb),
           subst (λ (x : ℕ). x < 2 ^ size_of c) (sym et) (run-below (size_of c) 1 m (omega arith)),
           run-rows ∙ sym (ap mask_count et ∙ run-count 1 m (omega arith) (omega arith) (omega arith) ∙ q),

@@ -86,9 +86,8 @@ module _ (c : Chosen) {f : List ℕ} (P : Workable c f) (M : RowSet → RowSet �
   pub latest-256 : s < 256
   latest-256 = let h : 2 ^ size_of c ≤ 2 ^ 8 = pow_mono (size_few c P) in omega (arith, latest-below)
 
-  pub alone-ready : (t : ℕ) → t ≡ mask_run 1 (j - 1) → Workable c f × (s < 2 ^ size_of c) × (t < 2 ^ size_of c) × (mask_count s ≡ mask_count t)
+  pub alone-ready : (t : ℕ) → t ≡ mask_run 1 (j - 1) → (s < 2 ^ size_of c) × (t < 2 ^ size_of c) × (mask_count s ≡ mask_count t)
   alone-ready t e = (
-    P,
     latest-below,
     subst (λ (x : ℕ). x < 2 ^ size_of c) (sym e) (run-below (size_of c) 1 (j - 1) (omega arith)),
     m.rows ∙ sym (ap mask_count e ∙ run-count 1 (j - 1) (omega arith) (omega arith) (omega (arith, size_few c P)) ∙ omega arith),
@@ -124,9 +123,8 @@ module _ (c : Chosen) {f : List ℕ} (P : Workable c f) (M : RowSet → RowSet �
         ∙ count-put i (of_mask (size_of c) s) (omega arith) (omega (arith, of_mask-length (size_of c) s)) before
         ∙ ap suc (mask-count (size_of c) s (size_few c P) latest-below ∙ m.rows) ∙ omega arith
 
-    pub with-ready : Workable c f × (u < 2 ^ size_of c) × (t < 2 ^ size_of c) × (mask_count u ≡ mask_count t)
+    pub with-ready : (u < 2 ^ size_of c) × (t < 2 ^ size_of c) × (mask_count u ≡ mask_count t)
     with-ready = (
-      P,
       put-lt,
       subst (λ (x : ℕ). x < 2 ^ size_of c) (sym e) (run-below (size_of c) 1 j (omega arith)),
       with_rows ∙ sym (ap mask_count e ∙ run-count 1 j (omega arith) (omega arith) (omega (arith, size_few c P)) ∙ omega arith),

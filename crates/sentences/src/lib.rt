@@ -8,8 +8,7 @@ ghost use Rattle.notices.specs.Reasons.{HasReason};
 ghost use Rattle.notices.specs.Sentence.{notice, refusal_text, sentence_of, unsayable, sentence_report, bytes_after_sentence};
 ghost use Rattle.notices.specs.Promise.{Worded};
 
-use verdict::{Verdict, test};
-use writer::Written;
+use verdict::{Reason, Refusal, refuse_if};
 
 mod reasons; // reasons.rt: a reason for each number
 
@@ -31,11 +30,9 @@ fn put_places(out: &mut [u8], at: usize, places: &[u64]) -> usize
     ensures { Puts out.old at (spaced decimal places.now) out.new result }
 {
     let mut to = at;
-    let mut i: usize = 0;
-    while i < places.len() {
+    for &place in places {
         let next = lines::put(out, to, b" ");
-        to = lines::put_whole(out, next, places[i]);
-        i += 1;
+        to = lines::put_whole(out, next, place);
     }
     to
 }
@@ -47,24 +44,22 @@ fn put_sentence(out: &mut [u8], number: u64, offset: u64, places: &[u64]) -> usi
 {
     let space = put_front(out, 0, number, offset);
     let reason = lines::put(out, space, b" ");
-    let end = reasons::put(out, reason, number);
+    let end = lines::put(out, reason, reasons::reason_of(number));
     put_places(out, end, places)
 }
 
 // Writes a text to lent bytes. No byte past its length is changed, and none where the lent bytes are too few.
-fn write(text: &[u8], out: &mut [u8]) -> Written
+#[tactic(auto, unfolding(writer::specs::Encoding::writing_report, writer::specs::Encoding::bytes_after_writing))]
+fn write(text: &[u8], out: &mut [u8]) -> Result<usize, Refusal>
     ensures result_value { written_report result ≡ writing_report out.old text.now }
     ensures out_after { out.new ≡ bytes_after_writing out.old text.now }
 {
-    let verdict = test(Verdict::Accepted, out.len() < text.len(), 10);
-    match verdict {
-        Verdict::Accepted => Written::Length(lines::put(out, 0, text)),
-        Verdict::Refused(why) => Written::Refused(why),
-    }
+    refuse_if(out.len() < text.len(), Reason::OutputTooShort)?;
+    Ok(lines::put(out, 0, text))
 }
 
 // The sentence is made beside the lent bytes, so that these stay as they were where they are too few.
-fn say(number: u64, offset: u64, places: &[u64], out: &mut [u8]) -> Written
+fn say(number: u64, offset: u64, places: &[u64], out: &mut [u8]) -> Result<usize, Refusal>
     requires { HasReason number × (length places.now ≤ 7) }
     ensures result_value { written_report result ≡ writing_report out.old (sentence_of (notice number offset places.now)) }
     ensures out_after { out.new ≡ bytes_after_writing out.old (sentence_of (notice number offset places.now)) }
@@ -78,24 +73,16 @@ fn say(number: u64, offset: u64, places: &[u64], out: &mut [u8]) -> Written
 fn unsayable(number: u64, count: usize) -> bool
     ensures { result ≡ unsayable number count }
 {
-    if number < 1 {
-        return true;
-    }
-    if 22 < number {
-        return true;
-    }
-    7 < count
+    !matches!(number, 1..=22) || 7 < count
 }
 
 // Writes the sentence of a refusal to lent bytes, and answers its length.
-pub fn sentence(number: u64, offset: u64, places: &[u64], out: &mut [u8]) -> Written
+#[tactic(auto, unfolding(notices::specs::Sentence::sentence_report, notices::specs::Sentence::bytes_after_sentence, verdict::specs::Verdict::first_behind))]
+pub fn sentence(number: u64, offset: u64, places: &[u64], out: &mut [u8]) -> Result<usize, Refusal>
     ensures result_value { written_report result ≡ sentence_report (notice number offset places.now) out.old }
     ensures out_after { out.new ≡ bytes_after_sentence (notice number offset places.now) out.old }
     ensures worded { Worded (notice number offset places.now) out.old out.new result }
 {
-    let verdict = test(Verdict::Accepted, unsayable(number, places.len()), 9);
-    match verdict {
-        Verdict::Accepted => say(number, offset, places, out),
-        Verdict::Refused(why) => Written::Refused(why),
-    }
+    refuse_if(unsayable(number, places.len()), Reason::WrongList)?;
+    say(number, offset, places, out)
 }

@@ -12,9 +12,8 @@ use Rattle.words.specs.Sources.{Each}
 use Rattle.words.proofs.Banded.{stored-banded}
 use Rattle.table.specs.Table.{table_of, square_of}
 use Rattle.verdict.specs.declared.Refusal.{Refusal}
-use Rattle.verdict.specs.declared.Verdict.{Verdict}
-use Rattle.verdict.specs.declared.Verdict.TheVariants.{Accepted, Refused}
-use Rattle.verdict.specs.Verdict.{first_of, or_else}
+use Rattle.std.specs.Prelude.{Ok, Err}
+use Rattle.verdict.specs.Verdict.{Verdict, first_of, or_else}
 use Rattle.verdict.specs.Report.{accepted}
 use Rattle.verdict.proofs.Verdicts.{first-last, first-passed, report-accepted}
 use Rattle.reader.specs.Matrix.{Reading, matrix, fault, matrix_of, behind_by}
@@ -54,7 +53,7 @@ module _ (bytes : List ℕ) where
 
   module _ (s : Shelf) (p : ℕ) where
     -- 1 and 12 are tested before the bytes are read
-    pub placed-before : (w : Refusal) → first_of (target_tests s p) ≡ Refused w → load_call s p bytes ≡ old_load s p bytes
+    pub placed-before : (w : Refusal) → first_of (target_tests s p) ≡ Err w → load_call s p bytes ≡ old_load s p bytes
     placed-before w e =
         sym (load-turned s p bytes w e)
         ∙ ap (λ (v : Verdict). changing v s (read_to s p (old_reading bytes)))
@@ -62,22 +61,22 @@ module _ (bytes : List ℕ) where
 
     -- AN ACCEPTED LOAD
     module _ (done : (old_load s p bytes).report ≡ accepted []) where
-      verdict : first_of (target_tests s p ++ (of_reading bytes (old_reading bytes) ∷ [])) ≡ Accepted
+      verdict : first_of (target_tests s p ++ (of_reading bytes (old_reading bytes) ∷ [])) ≡ Ok tt
       verdict = report-accepted (first_of (target_tests s p ++ (of_reading bytes (old_reading bytes) ∷ []))) [] done
 
-      passed : (first_of (target_tests s p) ≡ Accepted) × (of_reading bytes (old_reading bytes) ≡ Accepted)
+      passed : (first_of (target_tests s p) ≡ Ok tt) × (of_reading bytes (old_reading bytes) ≡ Ok tt)
       passed = first-passed (target_tests s p) (of_reading bytes (old_reading bytes)) verdict
 
       pub accepted-load-before : load_call s p bytes ≡ old_load s p bytes
       accepted-load-before = by (old_reading bytes) refl passed.1
         where
-          by : (w : Reading) → old_reading bytes ≡ w → of_reading bytes w ≡ Accepted → load_call s p bytes ≡ old_load s p bytes
+          by : (w : Reading) → old_reading bytes ≡ w → of_reading bytes w ≡ Ok tt → load_call s p bytes ≡ old_load s p bytes
           by (matrix n L q) e f = (accepted-loads-before n L q e).load-before s p
           by (fault k o) e f = absurd (let z : ◌≡◌ {A = ℕ} 0 1 = cc in omega arith)
 
       -- WHAT IT STORES IS WITHOUT ZEROS
       module _ (good : Good s) where
-        stored-by : (w : Reading) → old_reading bytes ≡ w → of_reading bytes w ≡ Accepted → WithoutZeros (read_to s p w) p
+        stored-by : (w : Reading) → old_reading bytes ≡ w → of_reading bytes w ≡ Ok tt → WithoutZeros (read_to s p w) p
         stored-by (matrix n L q) e f =
             let h = old-stored bytes n L q e in
             let small : p < 8 = (target-accepted (rows_at s) p passed.0).small in

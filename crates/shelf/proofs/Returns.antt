@@ -9,9 +9,8 @@ use lib.ListN.{length, length-drop}
 use lib.Seq.{sets, length-sets}
 use Rattle.number.specs.declared.Number.{Number}
 use Rattle.words.specs.Operation.{Operation}
-use Rattle.verdict.specs.declared.Verdict.{Verdict}
-use Rattle.verdict.specs.declared.Verdict.TheVariants.{Accepted, Refused}
-use Rattle.verdict.specs.Verdict.{first_of, after}
+use Rattle.std.specs.Prelude.{Ok, Err}
+use Rattle.verdict.specs.Verdict.{Verdict, first_of, after}
 use Rattle.verdict.specs.Report.{Report, accepted, refused, report_of}
 use Rattle.reader.specs.Matrix.{Reading, matrix, fault, matrix_of, behind_by}
 use Rattle.arithmetic.specs.Arithmetic.{arithmetic_tests, arithmetic_call}
@@ -37,8 +36,8 @@ values_of (accepted values) = values
 values_of (refused number offset) = []
 
 few : (v : Verdict) (values : List ℤ) → length values ≤ 4 → length (values_of (report_of v values)) ≤ 4
-few Accepted values h = h
-few (Refused w) values h = omega arith
+few (Ok tt) values h = h
+few (Err w) values h = omega arith
 
 operation-few : (s : Shelf) (L : List Verdict) (t n : ℕ) (o : Operation Number) → length (values_of (operation_call s L t n o).report) ≤ 4
 unfolding operation_call
@@ -85,8 +84,8 @@ report-few s (factor p i j) = omega arith
 
 -- values put over what was lent, or what was lent
 as_lent : {A : Type 0} (v : Verdict) (out values : List A) → length (after v out (sets out 0 values)) ≡ length out
-as_lent Accepted out values = length-sets out 0 values
-as_lent (Refused w) out values = refl
+as_lent (Ok tt) out values = length-sets out 0 values
+as_lent (Err w) out values = refl
 
 behind-short : (bytes : List ℕ) (r : Reading) → length (behind_by bytes r) ≤ length bytes
 behind-short bytes (matrix n L q) = simp length-drop (omega arith)

@@ -21,9 +21,10 @@ use Rattle.writer.proofs.Length.{encoding-short}
 use Rattle.reader.specs.Matrix.{Reading, matrix, fault, matrix_of}
 use Rattle.reader.proofs.RoundTrip.{matrix-written, matrix-read}
 use Rattle.places.specs.declared.Shelf.{Shelf}
-use Rattle.verdict.specs.declared.Verdict.TheVariants.{Accepted}
+use Rattle.std.specs.Prelude.{Ok}
 use Rattle.table.specs.Table.{square_of}
 use Rattle.places.specs.Shelf.{rows_at, factors_at, with_table, holding, without, Good}
+use Rattle.verdict.specs.declared.Reason.TheVariants.{BytesBehind}
 use Rattle.verdict.specs.Verdict.{first_of, refused_at}
 use Rattle.places.specs.Tests.{target_tests}
 use Rattle.table.proofs.RowByRow.{row-by-row-same}
@@ -49,32 +50,32 @@ module _ (s : Shelf) (good : Good s) (q : ℕ) (held : Source (rows_at s) q) whe
   unfolding bytes_at
   write-short = encoding-short (rows_at s q) (row_by_row (rows_at s q) (factors_at s q)) storable
 
-  pub write-load : (t : Shelf) (p : ℕ) → first_of (target_tests t p) ≡ Accepted
-      → changing Accepted t (holding t p (rows_at s q) (factors_at s q)) ≡ load_call t p (bytes_at s q)
+  pub write-load : (t : Shelf) (p : ℕ) → first_of (target_tests t p) ≡ Ok tt
+      → changing (Ok tt) t (holding t p (rows_at s q) (factors_at s q)) ≡ load_call t p (bytes_at s q)
   write-load t p e =
       let n = rows_at s q in
-      ap (λ (u : List Number). changing Accepted t (with_table t p n u))
+      ap (λ (u : List Number). changing (Ok tt) t (with_table t p n u))
       (sym (table_same n (square_of n (row_by_row n (factors_at s q))) (factors_at s q) (square-factors n (factors_at s q))))
       ∙ load-done t p (bytes_at s q) e n (row_by_row n (factors_at s q)) (length (bytes_at s q)) read_back (omega arith)
 
 -- ACCEPTED BYTES ARE THE ONES THAT THE WRITER MAKES
 module _ (s : Shelf) (good : Good s) (p : ℕ) (bytes : List ℕ) (bs : Bytes bytes) (done : (load_call s p bytes).report ≡ accepted []) where
-  passed : (first_of (target_tests s p) ≡ Accepted) × (of_reading bytes (matrix_of bytes) ≡ Accepted)
+  passed : (first_of (target_tests s p) ≡ Ok tt) × (of_reading bytes (matrix_of bytes) ≡ Ok tt)
   unfolding load_call
   passed = first-passed (target_tests s p) (of_reading bytes (matrix_of bytes)) (report-accepted (first_of (load_tests s p bytes)) [] done)
 
-  whole : (t : Bool) (q k : ℕ) → ltb q k ≡ t → cond t (refused_at 7 q) Accepted ≡ Accepted → k ≤ q
+  whole : (t : Bool) (q k : ℕ) → ltb q k ≡ t → cond t (refused_at BytesBehind q) (Ok tt) ≡ Ok tt → k ≤ q
   whole true q k e f = absurd (let z : ◌≡◌ {A = ℕ} 0 1 = cc in omega arith)
   whole false q k e f = ltb-false q k e
 
-  written-by : (w : Reading) → matrix_of bytes ≡ w → of_reading bytes w ≡ Accepted → bytes_at (load_call s p bytes).shelf p ≡ bytes
+  written-by : (w : Reading) → matrix_of bytes ≡ w → of_reading bytes w ≡ Ok tt → bytes_at (load_call s p bytes).shelf p ≡ bytes
   unfolding bytes_at
   written-by (matrix n L q) e f =
       let m = matrix-read bytes bs n L q e in
       let l : length bytes ≤ q = whole (ltb q (length bytes)) q (length bytes) refl f in
       let small : p < 8 = (target-accepted (rows_at s) p passed.0).small in
       let fits = read_fits bytes bs n L q e in
-      let new : load_call s p bytes ≡ changing Accepted s (holding s p n (square_of n L)) = sym (load-done s p bytes passed.0 n L q e l) in
+      let new : load_call s p bytes ≡ changing (Ok tt) s (holding s p n (square_of n L)) = sym (load-done s p bytes passed.0 n L q e l) in
       let r : rows_at (holding s p n (square_of n L)) p ≡ n = rows-held s good p n (table_of n (square_of n L)) small fits in
       rw (new, r)
       (ap (encoding n)

@@ -2,6 +2,7 @@
 -- and the bundle call do what they did (`LoadsBefore`), refused ones included, unless document 01 met a zero off the diagonal (`LoadedAsBefore`). The
 -- operations: crate operations, `CallsBefore`.
 use Rattle.std.specs.Prelude.{ℕ, ◌≡◌, List, [], ◌∷◌, ◌++◌}
+use Rattle.verdict.specs.declared.Reason.TheVariants.{FactorZero}
 use Rattle.verdict.specs.Verdict.{first_of}
 use Rattle.reader.specs.Matrix.{fault, behind_by, behind_of}
 use Rattle.reader.specs.Before.{old_reading, ZeroOffDiagonal}
@@ -22,4 +23,4 @@ pub record LoadsBefore (bytes : List ℕ) : Type 0 where
 -- ANY BYTES: a load and the bundle call do what they did; or document 01's reading was 6, at a zero off the diagonal
 pub data LoadedAsBefore (bytes : List ℕ) : Type 0 where
   same : LoadsBefore bytes → LoadedAsBefore bytes
-  was-six : (o : ℕ) → old_reading bytes ≡ fault 6 o → ZeroOffDiagonal bytes o → LoadedAsBefore bytes
+  was-six : (o : ℕ) → old_reading bytes ≡ fault FactorZero o → ZeroOffDiagonal bytes o → LoadedAsBefore bytes

@@ -9,9 +9,9 @@ use Rattle.writer.specs.Encoding.{encoding}
 use Rattle.reader.specs.Matrix.{Reading, matrix, fault, matrix_of}
 use Rattle.items.specs.Items.{list_numbers, items_of}
 use Rattle.lists.specs.Lists.{carry_tests, carried_list}
-use Rattle.verdict.specs.declared.Verdict.{Verdict}
-use Rattle.verdict.specs.declared.Verdict.TheVariants.{Accepted}
-use Rattle.verdict.specs.Verdict.{first_of, after, when, refused_at}
+use Rattle.std.specs.Prelude.{Ok}
+use Rattle.verdict.specs.declared.Reason.TheVariants.{BytesBehind, OutputTooShort}
+use Rattle.verdict.specs.Verdict.{Verdict, first_of, after, when, refused_at}
 use Rattle.verdict.specs.Report.{Report, accepted, refused, report_of, verdict_report}
 use Rattle.places.specs.declared.Shelf.{Shelf}
 use Rattle.table.specs.Table.{square_of}
@@ -26,7 +26,7 @@ changing v old new = outcome (after v old new) (verdict_report v)
 -- LOAD
 -- 2 to 6, or 16: a fault in the matrix, at its offset; 7: bytes behind it
 abbrev pub of_reading : List ℕ → Reading → Verdict
-of_reading bytes (matrix n L q) = cond (ltb q (length bytes)) (refused_at 7 q) Accepted
+of_reading bytes (matrix n L q) = cond (ltb q (length bytes)) (refused_at BytesBehind q) (Ok tt)
 of_reading bytes (fault k o) = refused_at k o
 
 abbrev pub load_tests : Shelf → ℕ → List ℕ → List Verdict
@@ -48,7 +48,7 @@ unfoldable pub bytes_at : Shelf → ℕ → List ℕ
 bytes_at s p = encoding (rows_at s p) (row_by_row (rows_at s p) (factors_at s p))
 
 abbrev pub write_tests : Shelf → ℕ → List ℕ → List Verdict
-write_tests s p out = source_tests s p ++ (when (ltb (length out) (length (bytes_at s p))) 10 ∷ [])
+write_tests s p out = source_tests s p ++ (when (ltb (length out) (length (bytes_at s p))) OutputTooShort ∷ [])
 
 abbrev pub writing : Shelf → ℕ → List ℕ → Verdict → Outcome
 writing s p out v = record { shelf = s; report = report_of v (pos (length (bytes_at s p)) ∷ []); bytes = after v out (sets out 0 (bytes_at s p)); items = [] }

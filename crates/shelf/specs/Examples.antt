@@ -10,6 +10,7 @@ use Rattle.words.specs.Operation.{row_by_row}
 use Rattle.words.specs.Examples.{ones, higher, half, three_halves, two, five_halves, three, large}
 use Rattle.items.specs.Examples.{plus_one_item, minus_one_item, zero_item}
 use Rattle.lists.specs.Examples.{lent_seven}
+use Rattle.verdict.specs.declared.Reason.TheVariants.{ExponentOutOfRange}
 use Rattle.verdict.specs.Verdict.{refused_at}
 use Rattle.verdict.specs.Report.{accepted, refused}
 use Rattle.walk.specs.declared.Way.TheVariants.{Plain, Inverted, Conversed, Transposed}
@@ -95,7 +96,7 @@ banded_table =
     ∷ row (run banded (submatrix 0 9 12 7)).report (refused 8 0)  -- 8 before 17: the same row and column with a fourth of each, which three rows do not have,
     ∷ row (singular 3 (submatrix_at banded 0 9 12)) true  -- and of which 17 would hold too
     ∷ row (run steep (submatrix 0 6 3 7)).report (refused 17 0)  -- 17 before 14: rows 2 and 3, columns 1 and 2, which are 2 ^ 2062 1, 0 0,
-    ∷ row (factor_test 3 (submatrix_at steep 0 6 3)) (refused_at 14 0)  -- and of which 14 would hold too
+    ∷ row (factor_test 3 (submatrix_at steep 0 6 3)) (refused_at ExponentOutOfRange 0)  -- and of which 14 would hold too
     ∷ row (run steep (submatrix 0 2 1 7)).report (refused 14 0)  -- as it does of their first number alone
     ∷ row (held 2 (run banded (submatrix 0 3 6 7))) (one_number ∷ zero_number ∷ two ∷ one_number ∷ [])  -- 1 0, 2 1: a zero stays one
     ∷ row (held 3 (run banded (inverse 0 7)))

@@ -2,11 +2,11 @@
 use Rattle.std.specs.Prelude.{[], ◌∷◌, pos}
 use Rattle.verdict.specs.Report.{Report, accepted, verdict_report}
 use Rattle.places.specs.Outcome.{Outcome, outcome}
+use Rattle.operations.specs.declared.Value.{Value}
 use Rattle.shelf.specs.declared.Changed.{Changed}
-use Rattle.shelf.specs.declared.Factor.{Factor}
 
 abbrev pub changed_outcome : Changed → Outcome
 changed_outcome x = outcome x.shelf (verdict_report x.verdict)
 
-abbrev pub factor_report : Factor → Report
+abbrev pub factor_report : Value → Report
 factor_report a = accepted (pos a.mantissa ∷ a.exponent ∷ [])

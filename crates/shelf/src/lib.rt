@@ -6,22 +6,22 @@ ghost use Rattle.places.specs.Shelf.{Good};
 ghost use Rattle.verdict.specs.Report.{verdict_report};
 ghost use Rattle.writer.specs.Encoding.{written_report};
 ghost use Rattle.lists.specs.Promise.{Steady};
-ghost use Rattle.shelf.specs.Calls.{changing, load_call, drop_call, write_call, length_call, Measuring, carry_call, factor_call};
+ghost use Rattle.shelf.specs.Calls.{load_call, drop_call, write_call, length_call, Measuring, carry_call, factor_call};
 ghost use Rattle.shelf.specs.Reports.{changed_outcome, factor_report};
+ghost use Rattle.shelf.specs.Changed.{changed_by, loaded, dropped};
 
 pub use arithmetic::{Operator, Worked, arithmetic};
-pub use lists::{Reversals, count_reversals};
+pub use lists::count_reversals;
 pub use operations::{
-    Bounded, Filled, Foretold, Operated, Performed, Task, Valued, build, converse, forecast,
-    forecast_recipe, inverse, minor, perform, perform_recipe, product, schur, submatrix, transpose,
+    Filled, Operated, Performed, Task, Value, build, converse, forecast, forecast_recipe, inverse,
+    minor, perform, perform_recipe, product, schur, submatrix, transpose,
 };
 use places::judge;
 pub use places::{Shelf, new, rows_at};
 pub use reader::behind;
 pub use recipes::{Recipe, RecipeStep, Way};
 pub use sentences::sentence;
-pub use verdict::{Refusal, Verdict};
-pub use writer::Written;
+pub use verdict::{Reason, Refusal, Verdict};
 
 // The shelf after a call that only changes it.
 #[derive(Clone, Copy)]
@@ -30,21 +30,38 @@ pub struct Changed {
     pub verdict: Verdict,
 }
 
-// A mantissa times 2 to the power of an exponent.
-#[derive(Clone, Copy)]
-pub struct Factor {
-    pub mantissa: u64,
-    pub exponent: i64,
+// A call that was turned down hands the shelf back as it was.
+fn answered(shelf: Shelf, new: Result<Shelf, Refusal>) -> Changed
+    ensures { result ≡ changed_by shelf new }
+{
+    match new {
+        Ok(new) => Changed {
+            shelf: new,
+            verdict: Ok(()),
+        },
+        Err(why) => Changed {
+            shelf,
+            verdict: Err(why),
+        },
+    }
 }
 
-// A call that was turned down hands the shelf back as it was.
-fn unchanged(shelf: Shelf, why: Refusal) -> Changed
-    ensures { changed_outcome result ≡ changing (Verdict.Refused why) shelf shelf }
+// The shelf with the matrix that bytes hold at a place.
+fn loaded(shelf: Shelf, place: usize, bytes: &[u8]) -> Result<Shelf, Refusal>
+    requires { Good shelf }
+    ensures { result ≡ loaded shelf place bytes.now }
 {
-    Changed {
-        shelf: shelf,
-        verdict: Verdict::Refused(why),
+    judge::target(shelf, place)?;
+    let read = reader::read_matrix(bytes)?;
+    let bytes_behind = read.next < bytes.len();
+    if bytes_behind {
+        return Err(Refusal {
+            reason: Reason::BytesBehind,
+            offset: read.next,
+        });
     }
+    let factors = table::spread(read.numbers, read.rows);
+    Ok(places::with_table(shelf, place, read.rows, factors))
 }
 
 // Loads a place from bytes.
@@ -53,34 +70,16 @@ pub fn load(shelf: Shelf, place: usize, bytes: &[u8]) -> Changed
     ensures result_value { changed_outcome result ≡ load_call shelf place bytes.now }
     ensures good { Good result.shelf }
 {
-    let first = judge::target(shelf, place);
-    if let Verdict::Refused(why) = first {
-        return unchanged(shelf, why);
-    }
-    let read = reader::read_matrix(bytes);
-    let outcome = read.outcome;
-    match outcome {
-        reader::ReadOutcome::Matrix { rows, next } => {
-            if next < bytes.len() {
-                return unchanged(
-                    shelf,
-                    Refusal {
-                        number: 7,
-                        offset: next,
-                    },
-                );
-            }
-            let numbers = read.numbers;
-            Changed {
-                shelf: places::with_table(shelf, place, rows, table::spread(numbers, rows)),
-                verdict: Verdict::Accepted,
-            }
-        }
-        reader::ReadOutcome::Fault { number, offset } => unchanged(
-            shelf,
-            Refusal { number, offset },
-        ),
-    }
+    answered(shelf, loaded(shelf, place, bytes))
+}
+
+// The shelf with a place emptied.
+fn dropped(shelf: Shelf, place: usize) -> Result<Shelf, Refusal>
+    requires { Good shelf }
+    ensures { result ≡ dropped shelf place }
+{
+    judge::source(shelf, place)?;
+    Ok(places::with_table(shelf, place, 0, table::blank()))
 }
 
 // Empties a place, which can then be filled again.
@@ -89,44 +88,32 @@ pub fn drop_place(shelf: Shelf, place: usize) -> Changed
     ensures result_value { changed_outcome result ≡ drop_call shelf place }
     ensures good { Good result.shelf }
 {
-    let first = judge::source(shelf, place);
-    if let Verdict::Refused(why) = first {
-        return unchanged(shelf, why);
-    }
-    Changed {
-        shelf: places::with_table(shelf, place, 0, table::blank()),
-        verdict: Verdict::Accepted,
-    }
+    answered(shelf, dropped(shelf, place))
 }
 
 // Writes a place to lent bytes. No byte past the matrix's length is changed, and none where the call is turned down.
-pub fn write(shelf: Shelf, place: usize, out: &mut [u8]) -> Written
+pub fn write(shelf: Shelf, place: usize, out: &mut [u8]) -> Result<usize, Refusal>
     requires { Good shelf }
     ensures result_value { written_report result ≡ (write_call shelf place out.old).report }
     ensures out_after { out.new ≡ (write_call shelf place out.old).bytes }
 {
-    let first = judge::source(shelf, place);
-    if let Verdict::Refused(why) = first {
-        return Written::Refused(why);
-    }
+    judge::source(shelf, place)?;
     let n = places::rows_at(shelf, place);
     let factors = table::packed(places::table_at(shelf, place), n);
     writer::write_matrix(factors, n, out)
 }
 
 // How many bytes writing a place will take. Nothing is written.
-pub fn length(shelf: Shelf, place: usize) -> Written
+// It judges and packs as `write` does: a function for both would return rows with factors, and be no plainer.
+pub fn length(shelf: Shelf, place: usize) -> Result<usize, Refusal>
     requires { Good shelf }
     ensures result_value { written_report result ≡ length_call shelf place }
     ensures measuring { Measuring shelf place (written_report result) }
 {
-    let first = judge::source(shelf, place);
-    if let Verdict::Refused(why) = first {
-        return Written::Refused(why);
-    }
+    judge::source(shelf, place)?;
     let n = places::rows_at(shelf, place);
     let factors = table::packed(places::table_at(shelf, place), n);
-    Written::Length(writer::matrix_length(factors, n))
+    Ok(writer::matrix_length(factors, n))
 }
 
 // Carries a list of items through the word of a place, to a second list, past whose first n items nothing is changed.
@@ -137,39 +124,27 @@ pub fn carry(shelf: Shelf, place: usize, items: &[i64], out: &mut [i64]) -> Verd
     ensures out_after { out.new ≡ (carry_call shelf place items.now out.old).items }
     ensures steady { Steady result items.now out.new }
 {
-    let first = judge::source(shelf, place);
-    if let Verdict::Refused(why) = first {
-        return Verdict::Refused(why);
-    }
+    judge::source(shelf, place)?;
     let n = places::rows_at(shelf, place);
     lists::carry(places::table_at(shelf, place), n, items, out)
 }
 
 // The factor of row i and column j of a place, zero where the place holds none.
-pub fn factor_at(shelf: Shelf, place: usize, i: usize, j: usize) -> Factor
+pub fn factor_at(shelf: Shelf, place: usize, i: usize, j: usize) -> Value
     requires { Good shelf }
     ensures { factor_report result ≡ factor_call shelf place i j }
 {
-    let zero = Factor {
-        mantissa: 0,
-        exponent: 0,
-    };
     let n = rows_at(shelf, place);
-    if i < 1 {
-        return zero;
-    }
-    if j < 1 {
-        return zero;
-    }
-    if n < i {
-        return zero;
-    }
-    if n < j {
-        return zero;
+    let absent = i < 1 || j < 1 || n < i || n < j;
+    if absent {
+        return Value {
+            mantissa: 0,
+            exponent: 0,
+        };
     }
     let t = places::table_at(shelf, place);
     let a = t[(i - 1) * 8 + (j - 1)];
-    Factor {
+    Value {
         mantissa: a.m,
         exponent: a.exponent(),
     }

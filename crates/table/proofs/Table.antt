@@ -9,6 +9,7 @@ use mathlib.Core.Bool.{Bool, true, false, cond, ◌&&◌}
 use mathlib.Core.List.{List}
 use lib.Dec.{leb}
 use lib.ListN.{length, get_or, replicate}
+use lib.Seq.{ext_get_or}
 use borrow.Author.Tests.{le-leb, lt-leb, leb-true}
 use Rattle.arrays.proofs.Filled.{read-any, Filled, filled-all}
 use Rattle.number.specs.declared.Number.{Number}
@@ -44,13 +45,6 @@ table_none b = refl
 module _ (n : ℕ) where
   pub padded-in : (b : Factors Number) (i j : ℕ) → i ≤ n → j ≤ n → padded n b i j ≡ b i j
   padded-in b i j h g = rw (le-leb i n h, le-leb j n g)
-
-  -- a cell past the rows, and past the columns
-  pub past-rows : (b : Factors Number) (k : ℕ) → n ≤ k / 8 → zero_number ≡ cell_at n b k
-  past-rows b k h = rw (lt-leb (k / 8 + 1) n (omega arith))
-
-  pub past-columns : (b : Factors Number) (k : ℕ) → k / 8 < n → n ≤ k % 8 → zero_number ≡ cell_at n b k
-  past-columns b k h g = rw (le-leb (k / 8 + 1) n (omega arith), lt-leb (k % 8 + 1) n (omega arith))
 
   -- within the n rows and columns, or past them
   pub within-cases : (P : Bool → Type 0) (i j : ℕ) → 1 ≤ i → 1 ≤ j → (In n i → In n j → P true) → P false → P (leb i n && leb j n)
@@ -89,6 +83,10 @@ module _ (n : ℕ) where
       → ((i j : ℕ) → i < 8 → j < 8 → get_or t (i * 8 + j) z ≡ padded n b (suc i) (suc j)) → t ≡ table_of n b
   unfolding table_of
   table-list b z t l h = row-by-row-list z 8 (padded n b) t l h
+
+  pub table-cells : (b : Factors Number) (z : Number) (t : List Number) → length t ≡ 64 → ((k : ℕ) → k < 64 → get_or t k z ≡ cell_at n b k) → t ≡ table_of n b
+  table-cells b z t l h =
+      ext_get_or z t (table_of n b) (l ∙ sym (table-length b)) (λ k q. let few : k < 64 = omega (arith, l) in h k few ∙ sym (table-cell b z k few))
 
   pub table_filled : (b : Factors Number) {k : ℕ} {t : List Number} → Filled zero_number (cell_at n b) 64 k t → 64 ≤ k → t ≡ table_of n b
   table_filled b w h = filled-all zero_number (cell_at n b) 64 w h (table_of n b) (table-length b) (table-cell b zero_number)

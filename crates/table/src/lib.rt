@@ -8,29 +8,27 @@ ghost use Rattle.words.specs.Word.{exchanged};
 ghost use Rattle.table.specs.Table.{factors_of, cell_at, table_of, square_of, packed_of, outside};
 
 use number::Number;
+use std::array;
 
 // No factor.
 pub fn blank() -> [Number; 64]
     ensures { result ≡ replicate 64 zero_number }
 {
-    let zero = Number::zero();
-    [zero; 64]
+    [Number::zero(); 64]
 }
 
 // What stands at k in the table of a matrix of n rows whose factors stand one behind the other, row by row.
-fn cell(numbers: [Number; 64], n: usize, k: usize) -> Number
+fn cell(numbers: &[Number; 64], n: usize, k: usize) -> Number
     requires { n ≤ 8 }
-    ensures { result ≡ cell_at n (square_of n numbers) k }
+    ensures { result ≡ cell_at n (square_of n numbers.now) k }
 {
     let i = k / 8;
     let j = k % 8;
-    if n <= i {
-        return Number::zero();
+    if i < n && j < n {
+        numbers[i * n + j]
+    } else {
+        Number::zero()
     }
-    if n <= j {
-        return Number::zero();
-    }
-    numbers[i * n + j]
 }
 
 // The table of such a matrix.
@@ -38,21 +36,16 @@ pub fn spread(numbers: [Number; 64], n: usize) -> [Number; 64]
     requires { n ≤ 8 }
     ensures { result ≡ table_of n (square_of n numbers) }
 {
-    let zero = Number::zero();
-    let mut t = [zero; 64];
-    for k in 0..64usize {
-        t[k] = cell(numbers, n, k);
-    }
-    t
+    array::from_fn(|k| cell(&numbers, n, k))
 }
 
 // And back: the factors of n rows, one behind the other, and zeros behind them.
+// A loop by the index, since only the first n * n are put, each from a place that its number tells.
 pub fn packed(t: [Number; 64], n: usize) -> [Number; 64]
     requires { n ≤ 8 }
     ensures { result ≡ packed_of n t }
 {
-    let zero = Number::zero();
-    let mut r = [zero; 64];
+    let mut r = blank();
     for k in 0..n * n {
         r[k] = t[k / n * 8 + k % n];
     }
@@ -63,23 +56,12 @@ pub fn packed(t: [Number; 64], n: usize) -> [Number; 64]
 pub fn exchanged(t: [Number; 64]) -> [Number; 64]
     ensures { result ≡ table_of 8 (exchanged (factors_of t)) }
 {
-    let zero = Number::zero();
-    let mut r = [zero; 64];
-    for k in 0..64usize {
-        r[k] = t[k % 8 * 8 + k / 8];
-    }
-    r
+    array::from_fn(|k| t[k % 8 * 8 + k / 8])
 }
 
 // A number has an exponent outside -1000 to 1000.
 pub fn outside(t: [Number; 64]) -> bool
     ensures { result ≡ outside t }
 {
-    for k in 0..64usize {
-        let a = t[k];
-        if !a.in_range() {
-            return true;
-        }
-    }
-    false
+    t.iter().any(|a| !a.in_range())
 }

@@ -13,9 +13,8 @@ use Rattle.number.specs.Number.{rounded}
 use Rattle.words.specs.Operation.{Operation, size, bound, row_by_row, result}
 use Rattle.words.specs.Effort.{steps_made}
 use Rattle.table.specs.Table.{outside}
-use Rattle.verdict.specs.declared.Verdict.{Verdict}
-use Rattle.verdict.specs.declared.Verdict.TheVariants.{Accepted, Refused}
-use Rattle.verdict.specs.Verdict.{first_of}
+use Rattle.std.specs.Prelude.{Ok, Err}
+use Rattle.verdict.specs.Verdict.{Verdict, first_of}
 use Rattle.verdict.specs.Report.{Report, accepted, refused, report_of}
 use Rattle.places.specs.declared.Shelf.{Shelf}
 use Rattle.places.specs.Shelf.{rows_at, Good}
@@ -40,8 +39,7 @@ use Rattle.tnb_c.specs.declared.Steps.{Steps}
 use Rattle.tnb_c.specs.declared.Length.{Length}
 use Rattle.tnb_c.specs.Answers.{foreign, checked, number_of, value_at, answer_of, steps_of, length_of, ForetoldAnswer, MeasuredAnswer}
 use Rattle.tnb_c.proofs.Checked.{run-checked, foreign-checked}
-use Rattle.tnb_c.proofs.Numbers.{Numbered, AllNumbered, numbered, behind-numbered, one_more_lem}
-use Rattle.tnb_c.proofs.Answered.{sources-numbered, choice-numbered}
+use Rattle.tnb_c.proofs.Numbers.{numbered}
 
 -- AN OPERATION ANSWERED 0 was accepted: what it reports is its bound and its steps
 pub record Made (r : Report) : Type 0 where
@@ -49,28 +47,24 @@ pub record Made (r : Report) : Type 0 where
   pub steps-made : ℕ
   pub reports : r ≡ accepted (done bound-made steps-made)
 
-made : (v : Verdict) (b e : ℕ) → Numbered v → number_of (report_of v (done b e)) ≡ 0 → Made (report_of v (done b e))
-made Accepted b e n z = record { bound-made = b; steps-made = e; reports = refl }
-made (Refused w) b e n z = absurd (omega (arith, n, z))
+made : (v : Verdict) (b e : ℕ) → number_of (report_of v (done b e)) ≡ 0 → Made (report_of v (done b e))
+made (Ok u) b e z = record { bound-made = b; steps-made = e; reports = refl }
+made (Err w) b e z = absurd (let n = numbered w.reason in omega (arith, n, z))
 
-operation-made : (s : Shelf) (L : List Verdict) (t n : ℕ) (o : Operation Number) → AllNumbered L → number_of (operation_call s L t n o).report ≡ 0
+operation-made : (s : Shelf) (L : List Verdict) (t n : ℕ) (o : Operation Number) → number_of (operation_call s L t n o).report ≡ 0
     → Made (operation_call s L t n o).report
 unfolding operation_call
-operation-made s L t n o numbers =
-    made (operation_verdict L n o) (bound n o) (steps_made rounded n o)
-    (behind-numbered Accepted (L ++ (factor_test n o ∷ [])) tt (one_more_lem L (outside (row_by_row (size n o) (result rounded n o))) 13 numbers))
+operation-made s L t n o = made (operation_verdict L n o) (bound n o) (steps_made rounded n o)
 
 task-made : (s : Shelf) (o : Task) (t : ℕ) → number_of (task_call s o t).report ≡ 0 → Made (task_call s o t).report
 unfolding transpose_call
-task-made s (Product l r) t = operation-made s (two_sources s l r t) t _ _ (sources-numbered s (l ∷ r ∷ []) t)
-task-made s (Inverse p) t = operation-made s (one_source s p t) t _ _ (sources-numbered s (p ∷ []) t)
-task-made s (Converse p) t = operation-made s (one_source s p t) t _ _ (sources-numbered s (p ∷ []) t)
-task-made s (Transpose p) t = made (first_of (one_source s p t)) 0 0 (behind-numbered Accepted (one_source s p t) tt (sources-numbered s (p ∷ []) t))
+task-made s (Product l r) t = operation-made s (two_sources s l r t) t _ _
+task-made s (Inverse p) t = operation-made s (one_source s p t) t _ _
+task-made s (Converse p) t = operation-made s (one_source s p t) t _ _
+task-made s (Transpose p) t = made (first_of (one_source s p t)) 0 0
 task-made s (Submatrix p I J) t =
     operation-made s (submatrix_tests s p I J t) t _ _
-    (one_more_lem (chosen_tests s p I J t) (singular (rows_at s p) (submatrix_at s p I J)) 16
-    (choice-numbered s p (unfit (rows_at s p) I J) t))
-task-made s (Schur p k) t = operation-made s (clamped_tests s p k t) t _ _ (choice-numbered s p (misclamped (rows_at s p) k) t)
+task-made s (Schur p k) t = operation-made s (clamped_tests s p k t) t _ _
 
 -- a shelf that is not good: no call is answered 0
 module _ (s : Shelf) (bad : is_good s ≡ false) where
@@ -78,10 +72,10 @@ module _ (s : Shelf) (bad : is_good s ≡ false) where
   not-nothing z = omega arith
 
   -- both clauses of a forecast's contract
-  pub away-foretold : (ahead : Call) (call : ℕ → Call) → (foreign s ahead).report ≡ refused 255 0 → ((t : ℕ) → (foreign s (call t)).report ≡ refused 255 0)
-      → (let f = steps_of (refused 255 0) in (f ≡ steps_of (checked s ahead).report) × ForetoldAnswer s call f)
-  away-foretold ahead call e away = (
-    sym (ap steps_of e) ∙ ap (λ (x : Outcome). steps_of x.report) (foreign-checked s ahead bad),
+  pub away-foretold : (ahead : Call) (call : ℕ → Call) (f : Steps) → f ≡ steps_of (refused 255 0) → (foreign s ahead).report ≡ refused 255 0
+      → ((t : ℕ) → (foreign s (call t)).report ≡ refused 255 0) → (f ≡ steps_of (checked s ahead).report) × ForetoldAnswer s call f
+  away-foretold ahead call f told e away = (
+    told ∙ sym (ap steps_of e) ∙ ap (λ (x : Outcome). steps_of x.report) (foreign-checked s ahead bad),
     λ t z. absurd (not-nothing (sym (ap number_of (away t)) ∙ ap (λ (x : Outcome). number_of x.report) (foreign-checked s (call t) bad) ∙ z)),
   )
 
@@ -118,7 +112,7 @@ module _ (s : Shelf) (good : Good s) where
   unfolding run
   recipe-foretold r long =
       answered-by (recipe r) (forecast_recipe r)
-      (λ t. operation-made s (recipe_tests s r t) t _ _ (numbered (miscounted r.count) 17, sources-numbered s (places_in r) t)) (recipe-made s good r long)
+      (λ t. operation-made s (recipe_tests s r t) t _ _) (recipe-made s good r long)
 
   pub measured-answered : (p : ℕ) (f : Length) → f ≡ length_of (checked s (byte_length p)).report → MeasuredAnswer s p f
   unfolding run

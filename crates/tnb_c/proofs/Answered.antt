@@ -1,6 +1,6 @@
 -- WHAT THE ANSWERS PROMISE: demand 3 (`product-answered`, `inverse-answered`, `converse-answered`, `submatrix-answered`, `schur-answered`, `recipe-answered`)
 -- and the promise of a build (`build-answered`); `away-answered`, `away-promising` of a shelf that is turned away. An answer with number 0 is the shelf's own,
--- of an accepted call, since 255 is not 0 and every test of these calls has a number above 0 (`Numbered`).
+-- of an accepted call, since 255 is not 0 and every reason has a number above 0 (`numbered`).
 use Prim.Native.Nat.{ℕ, suc}
 use native.Mathlib.Omega.{arith}
 use mathlib.Core.Path.{◌≡◌, refl, sym, ap, ◌∙◌, subst}
@@ -13,9 +13,8 @@ use Rattle.number.specs.declared.Number.{Number}
 use Rattle.number.specs.Number.{rounded}
 use Rattle.words.specs.Word.{Factors}
 use Rattle.words.specs.Operation.{Operation, size, bound, row_by_row, result}
-use Rattle.verdict.specs.declared.Verdict.{Verdict}
-use Rattle.verdict.specs.declared.Verdict.TheVariants.{Accepted, Refused}
-use Rattle.verdict.specs.Verdict.{first_of}
+use Rattle.std.specs.Prelude.{Ok, Err}
+use Rattle.verdict.specs.Verdict.{Verdict, first_of}
 use Rattle.table.specs.Table.{outside}
 use Rattle.stamps.specs.Stamps.{mistimed, built_factors, stamp_bound}
 use Rattle.places.specs.declared.Shelf.{Shelf}
@@ -38,37 +37,16 @@ use Rattle.shelf.specs.Run.{Call, product, inverse, converse, submatrix, schur, 
 use Rattle.tnb_c.specs.declared.Answer.{Answer}
 use Rattle.tnb_c.specs.Answers.{turned_away, checked, answer_of, Promising, Answered, BuiltAnswer}
 use Rattle.tnb_c.proofs.Checked.{run-checked}
-use Rattle.tnb_c.proofs.Numbers.{Numbered, AllNumbered, numbered, behind-numbered, one_more_lem, all-numbered}
-
--- the tests of a target, and of sources with one
-target-numbered : (s : Shelf) (t : ℕ) → AllNumbered (target_tests s t)
-target-numbered s t = (numbered (above t) 0, (numbered (full (rows_at s) t) 11, tt))
-
-each-numbered : (f : ℕ → Bool) (k : ℕ) (L : List ℕ) → AllNumbered (each_tested f (suc k) L)
-each-numbered f k [] = tt
-each-numbered f k (p ∷ L) = (numbered (f p) k, each-numbered f k L)
-
-alike-numbered : (rows : ℕ → ℕ) (L : List ℕ) → AllNumbered (alike_tests rows L)
-alike-numbered rows [] = tt
-alike-numbered rows (p ∷ L) = each-numbered (differ rows p) 12 L
-
-pub sources-numbered : (s : Shelf) (L : List ℕ) (t : ℕ) → AllNumbered (sources_to (rows_at s) L t)
-sources-numbered s L t =
-    let rows = rows_at s in
-    all-numbered (each_tested above 1 L) _ (each-numbered above 0 L)
-    (numbered (above t) 0, all-numbered (each_tested (empty rows) 11 L) _ (each-numbered (empty rows) 10 L) (numbered (full rows t) 11, alike-numbered rows L))
-
-pub choice-numbered : (s : Shelf) (p : ℕ) (wrong : Bool) (t : ℕ) → AllNumbered (choice_to (rows_at s) p wrong t)
-choice-numbered s p wrong t = one_more_lem (sources_to (rows_at s) (p ∷ []) t) wrong 7 (sources-numbered s (p ∷ []) t)
+use Rattle.tnb_c.proofs.Numbers.{numbered}
 
 -- A PROMISE P of the shelf, the bound and the steps
 module _ (P : Shelf → ℕ → ℕ → Type 0) where
-  -- the shelf's own answer to a call whose tests have numbers: where it was accepted, P of what is held and returned
-  resulting-promises : (s : Shelf) (t k : ℕ) (values : List ℤ) (b : Factors Number) (v : Verdict) → Numbered v
-      → (v ≡ Accepted → P (holding s t k b) (nat_abs (get_or values 0 (pos 0))) (nat_abs (get_or values 1 (pos 0))))
+  -- the shelf's own answer to a call: where it was accepted, P of what is held and returned
+  resulting-promises : (s : Shelf) (t k : ℕ) (values : List ℤ) (b : Factors Number) (v : Verdict)
+      → (v ≡ Ok tt → P (holding s t k b) (nat_abs (get_or values 0 (pos 0))) (nat_abs (get_or values 1 (pos 0))))
       → Promising P (answer_of (resulting s t v k values b))
-  resulting-promises s t k values b Accepted z h g = h refl
-  resulting-promises s t k values b (Refused w) z h g = absurd (omega (arith, z, g))
+  resulting-promises s t k values b (Ok u) h g = h refl
+  resulting-promises s t k values b (Err w) h g = absurd (let z = numbered w.reason in omega (arith, z, g))
 
   -- on a good shelf the call is run
   own-promises : (s : Shelf) → Good s → (c : Call) → Promising P (answer_of (run s c)) → Promising P (answer_of (checked s c))
@@ -91,49 +69,45 @@ module _ (a : Answer) (t n : ℕ) (o : Operation Number) where
   away-answered = away-promising (λ s k e. Met s t n o k e) a
 
 -- behind the tests L
-operation-answered : (L : List Verdict) (t n : ℕ) (o : Operation Number) → (first_of L ≡ Accepted → Ready t n o) → AllNumbered L → (s : Shelf) → Good s
+operation-answered : (L : List Verdict) (t n : ℕ) (o : Operation Number) → (first_of L ≡ Ok tt → Ready t n o) → (s : Shelf) → Good s
     → (c : Call) → run s c ≡ operation_call s L t n o → Answered (answer_of (checked s c)) t n o
 unfolding operation_call
-operation-answered L t n o ready numbers s good c e =
+operation-answered L t n o ready s good c e =
     own-promises (λ s k e. Met s t n o k e) s good c
     (subst (λ (x : Outcome). Answered (answer_of x) t n o) (sym e)
     (resulting-promises (λ s k e. Met s t n o k e) s t (size n o) (done (bound n o) (steps_made rounded n o)) (result rounded n o) (operation_verdict L n o)
-    (behind-numbered Accepted (L ++ (factor_test n o ∷ [])) tt (one_more_lem L (outside (row_by_row (size n o) (result rounded n o))) 13 numbers))
     (operation-met L t n o ready s good)))
 
 module _ (s : Shelf) (good : Good s) where
   pub product-answered : (l r t : ℕ) → Answered (answer_of (checked s (product l r t))) t (rows_at s l) (product_at s l r)
   unfolding run
   product-answered l r t =
-      operation-answered (two_sources s l r t) t _ _ (product-ready s good l r t) (sources-numbered s (l ∷ r ∷ []) t) s good (product l r t) refl
+      operation-answered (two_sources s l r t) t _ _ (product-ready s good l r t) s good (product l r t) refl
 
   pub inverse-answered : (p t : ℕ) → Answered (answer_of (checked s (inverse p t))) t (rows_at s p) (inverse_at s p)
   unfolding run
   inverse-answered p t =
-      operation-answered (one_source s p t) t _ _ (whole_ready s good Inverted p t) (sources-numbered s (p ∷ []) t) s good (inverse p t) refl
+      operation-answered (one_source s p t) t _ _ (whole_ready s good Inverted p t) s good (inverse p t) refl
 
   pub converse-answered : (p t : ℕ) → Answered (answer_of (checked s (converse p t))) t (rows_at s p) (converse_at s p)
   unfolding run
   converse-answered p t =
-      operation-answered (one_source s p t) t _ _ (whole_ready s good Conversed p t) (sources-numbered s (p ∷ []) t) s good (converse p t) refl
+      operation-answered (one_source s p t) t _ _ (whole_ready s good Conversed p t) s good (converse p t) refl
 
   pub submatrix-answered : (p I J t : ℕ) → Answered (answer_of (checked s (submatrix p I J t))) t (rows_at s p) (submatrix_at s p I J)
   unfolding run
   submatrix-answered p I J t =
-      operation-answered (submatrix_tests s p I J t) t _ _ (submatrix-ready s good p I J t)
-      (one_more_lem (chosen_tests s p I J t) (singular (rows_at s p) (submatrix_at s p I J)) 16
-      (choice-numbered s p (unfit (rows_at s p) I J) t)) s good (submatrix p I J t) refl
+      operation-answered (submatrix_tests s p I J t) t _ _ (submatrix-ready s good p I J t) s good (submatrix p I J t) refl
 
   pub schur-answered : (p k t : ℕ) → Answered (answer_of (checked s (schur p k t))) t (rows_at s p) (schur_at s p k)
   unfolding run
   schur-answered p k t =
-      operation-answered (clamped_tests s p k t) t _ _ (schur-ready s good p k t) (choice-numbered s p (misclamped (rows_at s p) k) t) s good (schur p k t) refl
+      operation-answered (clamped_tests s p k t) t _ _ (schur-ready s good p k t) s good (schur p k t) refl
 
   pub recipe-answered : (r : Recipe) (t : ℕ) → length r.steps ≡ 6 → Answered (answer_of (checked s (recipe r t))) t (joined_rows s r) (joined_at s r)
   unfolding run
   recipe-answered r t long =
-      operation-answered (recipe_tests s r t) t _ _ (recipe-ready s good r t long)
-      (numbered (miscounted r.count) 17, sources-numbered s (places_in r) t) s good (recipe r t) refl
+      operation-answered (recipe_tests s r t) t _ _ (recipe-ready s good r t long) s good (recipe r t) refl
 
   -- THE PROMISE OF A BUILD
   pub build-answered : (t : ℕ) (stamps : List ℕ) → BuiltAnswer (answer_of (checked s (build t stamps))) t stamps
@@ -141,5 +115,4 @@ module _ (s : Shelf) (good : Good s) where
   build-answered t stamps =
       own-promises (λ s k e. Built s t stamps k) s good (build t stamps)
       (resulting-promises (λ s k e. Built s t stamps k) s t (length stamps) (pos stamp_bound ∷ []) (built_factors stamps) (first_of (build_tests s t stamps))
-      (behind-numbered Accepted (build_tests s t stamps) tt (one_more_lem (target_tests s t) (mistimed stamps) 14 (target-numbered s t)))
       (build-met s t stamps good))

@@ -1,5 +1,5 @@
 -- THE PROMISE OF A CARRY in C (`carry-answered`; `carry-away` of a shelf that is turned away): a status with number 0 is that of an accepted carry, since 255
--- is not 0 and every test of a carry has a number above 0; and an accepted carry adds no reversal (`call-steady`).
+-- is not 0 and every reason has a number above 0; and an accepted carry adds no reversal (`call-steady`).
 use Prim.Native.Nat.{ℕ, ◌*◌}
 use native.Mathlib.Omega.{arith}
 use mathlib.Core.Path.{◌≡◌, subst}
@@ -8,7 +8,7 @@ use mathlib.Core.List.{List, []}
 use lib.Dec.{ltb}
 use lib.IntN.{ℤ}
 use lib.ListN.{length}
-use Rattle.verdict.specs.declared.Verdict.TheVariants.{Accepted}
+use Rattle.std.specs.Prelude.{Ok, Err}
 use Rattle.verdict.specs.Verdict.{first_of}
 use Rattle.items.specs.Items.{list_of, items_of, proper}
 use Rattle.lists.specs.Lists.{carried_list, any_outside, carry_tests}
@@ -24,17 +24,9 @@ use Rattle.shelf.proofs.Carrying.{call-steady}
 use Rattle.tnb_c.specs.declared.Status.{Status}
 use Rattle.tnb_c.specs.Answers.{status_of, checked, SteadyStatus}
 use Rattle.tnb_c.proofs.Checked.{run-checked, foreign-checked}
-use Rattle.tnb_c.proofs.Numbers.{AllNumbered, numbered, behind-numbered, numbered-accepted}
+use Rattle.tnb_c.proofs.Numbers.{numbered-accepted}
 
 module _ (s : Shelf) (p : ℕ) (given out : List ℤ) where
-  tests-numbered : AllNumbered (place_carry_tests s p given out)
-  tests-numbered =
-      let n = rows_at s p in
-      let outside = any_outside (carried_list n (factors_at s p) (items_of given)) in
-      let lists : AllNumbered (carry_tests n (factors_at s p) given out) =
-      (numbered (not (proper n n (list_of given))) 8, (numbered outside 13, (numbered (ltb (length out) (3 * n)) 9, tt))) in
-      (numbered (above p) 0, (numbered (empty (rows_at s) p) 10, lists))
-
   -- what an outcome promises of the list that it leaves
   abbrev SteadyOutcome : Outcome → Type 0
   SteadyOutcome x = SteadyStatus (status_of x.report) given x.items
@@ -43,7 +35,7 @@ module _ (s : Shelf) (p : ℕ) (given out : List ℤ) where
   unfolding carry_call
   own good z =
       let v = first_of (place_carry_tests s p given out) in
-      call-steady s p given out good (numbered-accepted v [] (behind-numbered Accepted (place_carry_tests s p given out) tt tests-numbered) z)
+      call-steady s p given out good (numbered-accepted v [] z)
 
   pub carry-answered : Good s → SteadyOutcome (checked s (carry p given out))
   unfolding run

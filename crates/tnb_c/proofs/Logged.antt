@@ -1,4 +1,4 @@
--- THE PROMISE OF A WORKED NUMBER in C (`logged-answer`): an answer with number 0 is that of an accepted call, since every test of the arithmetic call has a
+-- THE PROMISE OF A WORKED NUMBER in C (`logged-answer`): an answer with number 0 is that of an accepted call, since every reason has a
 -- number above 0; and the log of an accepted call balances (`Logged`).
 use Prim.Native.Nat.{ℕ}
 use native.Mathlib.Omega.{arith}
@@ -6,36 +6,32 @@ use mathlib.Core.Path.{◌≡◌, sym, ap, ◌∙◌}
 use mathlib.Core.Bool.{not}
 use mathlib.Core.List.{List}
 use lib.IntN.{ℤ}
-use Rattle.verdict.specs.declared.Verdict.TheVariants.{Accepted}
+use Rattle.std.specs.Prelude.{Result, Ok, Err}
+use Rattle.verdict.specs.declared.Refusal.{Refusal}
 use Rattle.verdict.specs.Verdict.{first_of}
 use Rattle.rests.specs.declared.Operator.{Operator}
 use Rattle.items.specs.Items.{list_of, proper}
 use Rattle.arithmetic.specs.Arithmetic.{is_positive, first_item, second_item, arithmetic_tests, arithmetic_call, worked_report}
 use Rattle.arithmetic.specs.Promise.{Logged}
 use Rattle.arithmetic.specs.declared.Worked as arithmetic
-use Rattle.arithmetic.specs.declared.Worked.TheVariants.{Result, Refused}
 use Rattle.arithmetic.proofs.Outcomes.{answered}
 use Rattle.tnb_c.specs.declared.Worked.{Worked}
 use Rattle.tnb_c.specs.Answers.{number_of, worked_of, LoggedAnswer}
-use Rattle.tnb_c.proofs.Numbers.{AllNumbered, numbered, behind-numbered, numbered-accepted}
+use Rattle.tnb_c.proofs.Numbers.{numbered-accepted}
 
 module _ (o : Operator) (z : List ℤ) where
-  tests-numbered : AllNumbered (arithmetic_tests z)
-  tests-numbered =
-      (numbered (not (proper 2 2 (list_of z))) 8, (numbered (not (is_positive (first_item z))) 8, (numbered (not (is_positive (second_item z))) 8, tt)))
-
-  accepted-call : number_of (arithmetic_call o z) ≡ 0 → first_of (arithmetic_tests z) ≡ Accepted
+  accepted-call : number_of (arithmetic_call o z) ≡ 0 → first_of (arithmetic_tests z) ≡ Ok tt
   unfolding arithmetic_call
-  accepted-call = numbered-accepted (first_of (arithmetic_tests z)) _ (behind-numbered Accepted (arithmetic_tests z) tt tests-numbered)
+  accepted-call = numbered-accepted (first_of (arithmetic_tests z)) _
 
-  by-variant : (x : arithmetic.Worked) → worked_report x ≡ arithmetic_call o z → Logged o z x → LoggedAnswer o (worked_of (worked_report x)) z
-  by-variant (Result m e t y) told log n = log
-  by-variant (Refused w) told log n =
+  by-answer : (x : Result arithmetic.Worked Refusal) → worked_report x ≡ arithmetic_call o z → Logged o z x → LoggedAnswer o (worked_of (worked_report x)) z
+  by-answer (Ok m) told log n = log
+  by-answer (Err w) told log n =
       let accepted = answered o z (accepted-call (ap number_of (sym told) ∙ n)) in
       let never : ◌≡◌ {A = ℕ} 0 1 = cc in
       absurd (omega arith)
 
   -- WHAT A CALL ANSWERED a is known to equal: the contract's two clauses
-  pub logged-answer : (a : Worked) (x : arithmetic.Worked) → worked_report x ≡ arithmetic_call o z → Logged o z x → a ≡ worked_of (worked_report x)
+  pub logged-answer : (a : Worked) (x : Result arithmetic.Worked Refusal) → worked_report x ≡ arithmetic_call o z → Logged o z x → a ≡ worked_of (worked_report x)
       → (a ≡ worked_of (arithmetic_call o z)) × LoggedAnswer o a z
-  logged-answer a x told log e = (e ∙ ap worked_of told, rw e (by-variant x told log))
+  logged-answer a x told log e = (e ∙ ap worked_of told, rw e (by-answer x told log))

@@ -3,7 +3,7 @@ ghost use Rattle.std.specs.Prelude.{◌≡◌};
 ghost use Rattle.shelf.specs.Run.{operate, forecast};
 ghost use Rattle.tnb_c.specs.Answers.{checked, steps_of, ForetoldAnswer};
 
-use crate::{Steps, answers};
+use crate::Steps;
 use operations::Task;
 use places::{Shelf, check};
 
@@ -13,13 +13,9 @@ fn foretold(shelf: Shelf, task: Task) -> Steps
     ensures foretold_answer { ForetoldAnswer shelf (operate task) result }
 {
     if check::is_good(shelf) {
-        return answers::foretold(operations::forecast(shelf, task));
+        return operations::forecast(shelf, task).into();
     }
-    Steps {
-        number: 255,
-        offset: 0,
-        steps: 0,
-    }
+    Steps::foreign()
 }
 
 // The steps that the product of two places will make.

@@ -94,9 +94,9 @@ pub extern "C" fn tnb_load(shelf: Shelf, place: usize, bytes: &[u8]) -> Answer
     ensures { result ≡ answer_of (checked shelf (load place bytes.now)) }
 {
     if check::is_good(shelf) {
-        return answers::changed(shelf::load(shelf, place, bytes));
+        return shelf::load(shelf, place, bytes).into();
     }
-    answers::foreign(shelf)
+    Answer::foreign(shelf)
 }
 
 // Empties a place.
@@ -105,9 +105,9 @@ pub extern "C" fn tnb_drop(shelf: Shelf, place: usize) -> Answer
     ensures { result ≡ answer_of (checked shelf (drop place)) }
 {
     if check::is_good(shelf) {
-        return answers::changed(shelf::drop_place(shelf, place));
+        return shelf::drop_place(shelf, place).into();
     }
-    answers::foreign(shelf)
+    Answer::foreign(shelf)
 }
 
 // Writes a place to lent bytes.
@@ -117,9 +117,9 @@ pub extern "C" fn tnb_write(shelf: Shelf, place: usize, out: &mut [u8]) -> Lengt
     ensures out_after { out.new ≡ (checked shelf (write place out.old)).bytes }
 {
     if check::is_good(shelf) {
-        return answers::written(shelf::write(shelf, place, out));
+        return shelf::write(shelf, place, out).into();
     }
-    answers::no_length(255, 0)
+    Length::foreign()
 }
 
 // How many bytes writing a place will take.
@@ -129,9 +129,9 @@ pub extern "C" fn tnb_byte_length(shelf: Shelf, place: usize) -> Length
     ensures measured_answer { MeasuredAnswer shelf place result }
 {
     if check::is_good(shelf) {
-        return answers::written(shelf::length(shelf, place));
+        return shelf::length(shelf, place).into();
     }
-    answers::no_length(255, 0)
+    Length::foreign()
 }
 
 // The product of two places, left times right, to an empty place.
@@ -141,9 +141,9 @@ pub extern "C" fn tnb_product(shelf: Shelf, left: usize, right: usize, target: u
     ensures answered { Answered result target (rows_at shelf left) (product_at shelf left right) }
 {
     if check::is_good(shelf) {
-        return answers::operated(operations::product(shelf, left, right, target));
+        return operations::product(shelf, left, right, target).into();
     }
-    answers::foreign(shelf)
+    Answer::foreign(shelf)
 }
 
 // The re-signed inverse of a place, to an empty place.
@@ -153,9 +153,9 @@ pub extern "C" fn tnb_inverse(shelf: Shelf, source: usize, target: usize) -> Ans
     ensures answered { Answered result target (rows_at shelf source) (inverse_at shelf source) }
 {
     if check::is_good(shelf) {
-        return answers::operated(operations::inverse(shelf, source, target));
+        return operations::inverse(shelf, source, target).into();
     }
-    answers::foreign(shelf)
+    Answer::foreign(shelf)
 }
 
 // The converse of a place, to an empty place.
@@ -165,9 +165,9 @@ pub extern "C" fn tnb_converse(shelf: Shelf, source: usize, target: usize) -> An
     ensures answered { Answered result target (rows_at shelf source) (converse_at shelf source) }
 {
     if check::is_good(shelf) {
-        return answers::operated(operations::converse(shelf, source, target));
+        return operations::converse(shelf, source, target).into();
     }
-    answers::foreign(shelf)
+    Answer::foreign(shelf)
 }
 
 // The chosen rows and columns of a place, given as masks, to an empty place.
@@ -183,9 +183,9 @@ pub extern "C" fn tnb_submatrix(
     ensures answered { Answered result target (rows_at shelf source) (submatrix_at shelf source rows columns) }
 {
     if check::is_good(shelf) {
-        return answers::operated(operations::submatrix(shelf, source, rows, columns, target));
+        return operations::submatrix(shelf, source, rows, columns, target).into();
     }
-    answers::foreign(shelf)
+    Answer::foreign(shelf)
 }
 
 // The Schur complement of the first k rows and columns of a place, to an empty place: what remains once the first k control points are clamped.
@@ -195,9 +195,9 @@ pub extern "C" fn tnb_schur(shelf: Shelf, source: usize, k: usize, target: usize
     ensures answered { Answered result target (rows_at shelf source) (schur_at shelf source k) }
 {
     if check::is_good(shelf) {
-        return answers::operated(operations::schur(shelf, source, k, target));
+        return operations::schur(shelf, source, k, target).into();
     }
-    answers::foreign(shelf)
+    Answer::foreign(shelf)
 }
 
 // The transpose of a place, to an empty place.
@@ -206,9 +206,9 @@ pub extern "C" fn tnb_transpose(shelf: Shelf, source: usize, target: usize) -> A
     ensures { result ≡ answer_of (checked shelf (transpose source target)) }
 {
     if check::is_good(shelf) {
-        return answers::operated(operations::transpose(shelf, source, target));
+        return operations::transpose(shelf, source, target).into();
     }
-    answers::foreign(shelf)
+    Answer::foreign(shelf)
 }
 
 // The matrix whose row i holds the powers 0 to n - 1 of stamp i, from n time stamps, 1 to 8, to an empty place.
@@ -218,9 +218,9 @@ pub extern "C" fn tnb_build(shelf: Shelf, target: usize, stamps: &[u64]) -> Answ
     ensures built_answer { BuiltAnswer result target stamps.now }
 {
     if check::is_good(shelf) {
-        return answers::filled(operations::build(shelf, target, stamps));
+        return operations::build(shelf, target, stamps).into();
     }
-    answers::foreign(shelf)
+    Answer::foreign(shelf)
 }
 
 // A minor of a place, of the rows and columns of two masks.
@@ -229,9 +229,9 @@ pub extern "C" fn tnb_minor(shelf: Shelf, place: usize, rows: u8, columns: u8) -
     ensures { result ≡ value_of (checked shelf (minor place rows columns)).report }
 {
     if check::is_good(shelf) {
-        return answers::valued(operations::minor(shelf, place, rows, columns));
+        return operations::minor(shelf, place, rows, columns).into();
     }
-    answers::no_value(255, 0)
+    Value::foreign()
 }
 
 // The rows of the matrix at a place, 0 where the place is empty or above 7.
@@ -240,9 +240,9 @@ pub extern "C" fn tnb_rows(shelf: Shelf, place: usize) -> Length
     ensures { result ≡ length_of (checked shelf (rows place)).report }
 {
     if check::is_good(shelf) {
-        return answers::length(places::rows_at(shelf, place));
+        return Length::of(places::rows_at(shelf, place));
     }
-    answers::no_length(255, 0)
+    Length::foreign()
 }
 
 // The factor of row i and column j of a place, zero where the place has none.
@@ -251,9 +251,9 @@ pub extern "C" fn tnb_factor(shelf: Shelf, place: usize, i: usize, j: usize) -> 
     ensures { result ≡ value_of (checked shelf (factor place i j)).report }
 {
     if check::is_good(shelf) {
-        return answers::factor(shelf::factor_at(shelf, place, i, j));
+        return shelf::factor_at(shelf, place, i, j).into();
     }
-    answers::no_value(255, 0)
+    Value::foreign()
 }
 
 // How many bytes lie behind the first matrix; all, where a load would refuse that matrix for a fault in its own bytes.
@@ -273,12 +273,9 @@ pub extern "C" fn tnb_carry(shelf: Shelf, place: usize, items: &[i64], out: &mut
     ensures steady_status { SteadyStatus result items.now out.new }
 {
     if check::is_good(shelf) {
-        return answers::carried(shelf::carry(shelf, place, items, out));
+        return shelf::carry(shelf, place, items, out).into();
     }
-    Status {
-        number: 255,
-        offset: 0,
-    }
+    Status::foreign()
 }
 
 // Counts the reversals of a list of 1 to 8 items.
@@ -286,7 +283,7 @@ pub extern "C" fn tnb_carry(shelf: Shelf, place: usize, items: &[i64], out: &mut
 pub extern "C" fn tnb_reversals(items: &[i64]) -> Length
     ensures { result ≡ length_of (reversals_call items.now) }
 {
-    answers::counted(lists::count_reversals(items))
+    lists::count_reversals(items).into()
 }
 
 // Works two positive items. No shelf is handed over, so there is none to test.
@@ -294,7 +291,7 @@ fn worked_by(operator: Operator, items: &[i64]) -> Worked
     ensures value { result ≡ worked_of (arithmetic_call operator items.now) }
     ensures logged_answer { LoggedAnswer operator result items.now }
 {
-    answers::worked(arithmetic::arithmetic(operator, items))
+    arithmetic::arithmetic(operator, items).into()
 }
 
 // The sum of two positive items. The rest: first plus second, minus the result.
@@ -331,5 +328,5 @@ pub extern "C" fn tnb_sentence(number: u64, offset: u64, places: &[u64], out: &m
     ensures out_after { out.new ≡ bytes_after_sentence (notice number offset places.now) out.old }
     ensures sentence_answer { SentenceAnswer (notice number offset places.now) out.old out.new result }
 {
-    answers::written(sentences::sentence(number, offset, places, out))
+    sentences::sentence(number, offset, places, out).into()
 }

@@ -7,7 +7,7 @@ ghost use Rattle.operations.specs.Operations.{joined_rows, joined_at};
 ghost use Rattle.shelf.specs.Run.{recipe, forecast_recipe};
 ghost use Rattle.tnb_c.specs.Answers.{checked, answer_of, step_of, steps_of, Answered, ForetoldAnswer, StepAnswer};
 
-use crate::{Answer, Steps, answers};
+use crate::{Answer, Steps};
 use places::{Shelf, check};
 use recipes::{Way, codes};
 
@@ -70,9 +70,9 @@ pub extern "C" fn tnb_recipe(shelf: Shelf, steps: &[u64], target: usize) -> Answ
 {
     if check::is_good(shelf) {
         let made = codes::recipe(steps);
-        return answers::operated(operations::perform_recipe(shelf, made, target));
+        return operations::perform_recipe(shelf, made, target).into();
     }
-    answers::foreign(shelf)
+    Answer::foreign(shelf)
 }
 
 // The steps that a recipe will make.
@@ -83,11 +83,7 @@ pub extern "C" fn tnb_forecast_recipe(shelf: Shelf, steps: &[u64]) -> Steps
 {
     if check::is_good(shelf) {
         let made = codes::recipe(steps);
-        return answers::foretold(operations::forecast_recipe(shelf, made));
+        return operations::forecast_recipe(shelf, made).into();
     }
-    Steps {
-        number: 255,
-        offset: 0,
-        steps: 0,
-    }
+    Steps::foreign()
 }

@@ -25,48 +25,23 @@ struct State {
     written: bool,
 }
 
-fn keep(shelf: Shelf, start: usize, waiting: usize, long: bool, written: bool) -> State
-    ensures { (result.shelf ≡ shelf) × (result.start ≡ start) × (result.waiting ≡ waiting) × (result.long ≡ long) }
-{
-    State {
-        shelf,
-        start,
-        waiting,
-        long,
-        written,
-    }
-}
-
-// Writes what waits, and answers whether it could.
-fn flush(rt: &HostRuntime, output: &[u8], waiting: usize) -> bool
+// Writes what waits.
+fn flush(rt: &HostRuntime, output: &[u8], waiting: usize) -> std::io::Result<()>
     requires { waiting ≤ length output.now }
 {
-    rt.stdout().write_all(&output[0..waiting]).is_ok()
+    rt.stdout().write_all(&output[..waiting])
 }
 
-// Where an answer goes, and whether those before it could be written.
-#[derive(Clone, Copy)]
-struct Opening {
-    at: usize,
-    written: bool,
-}
-
-// Makes room for an answer.
-fn room(rt: &HostRuntime, output: &[u8], waiting: usize, written: bool) -> Opening
+// Makes room for an answer, and answers where it goes. Where a write fails, the answers behind it are written all the same.
+fn room(rt: &HostRuntime, output: &[u8], waiting: usize, written: &mut bool) -> usize
     requires { waiting ≤ length output.now }
-    ensures { result.at ≡ place_of waiting }
+    ensures { result ≡ place_of waiting }
 {
     if waiting < ENOUGH {
-        return Opening {
-            at: waiting,
-            written,
-        };
+        return waiting;
     }
-    let done = flush(rt, output, waiting);
-    Opening {
-        at: 0,
-        written: written & done,
-    }
+    *written &= flush(rt, output, waiting).is_ok();
+    0
 }
 
 // Answers a line, which is given without its end; the one behind it starts at `next`.
@@ -75,11 +50,16 @@ fn respond(rt: &HostRuntime, was: State, line: &[u8], next: usize, output: &mut 
     ensures orderly { Orderly result output.new }
     ensures output_after { (session_of result output.new ≡ after_line (session_of was output.old) line.now) × (result.start ≡ next) }
 {
-    let shelf = was.shelf;
-    let opening = room(rt, output, was.waiting, was.written);
-    let answered = replies::to_line(shelf, line, was.long, output, opening.at);
-    let after = answered.shelf;
-    keep(after, next, answered.at, false, opening.written)
+    let mut written = was.written;
+    let at = room(rt, output, was.waiting, &mut written);
+    let answered = replies::to_line(was.shelf, line, was.long, output, at);
+    State {
+        shelf: answered.shelf,
+        start: next,
+        waiting: answered.at,
+        long: false,
+        written,
+    }
 }
 
 // Where the line that starts at an index ends; the text's length where that is not read yet.
@@ -117,10 +97,8 @@ fn respond_text(rt: &HostRuntime, was: State, text: &[u8], output: &mut [u8]) ->
     ensures text_answered { TextAnswered was text.now output.old result output.new }
 {
     let now = respond_all(rt, was, text, output);
-    let shelf = now.shelf;
-    let start = now.start;
-    let long = now.long | (LONGEST < text.len() - start);
-    keep(shelf, start, now.waiting, long, now.written)
+    let long = now.long | (LONGEST < text.len() - now.start);
+    State { long, ..now }
 }
 
 // Reads once, behind the first `held` bytes, and answers how many there are then. At the end of input that is no more.
@@ -142,11 +120,8 @@ fn move_up(input: &mut [u8], start: usize, n: usize) -> usize
     ensures input_after { take result input.new ≡ drop start (take n input.old) }
     ensures upper_bound { result ≤ length input.new }
 {
-    let count = n - start;
-    for k in 0..count {
-        input[k] = input[start + k];
-    }
-    count
+    input.copy_within(start..n, 0);
+    n - start
 }
 
 // The same for what is left of an unfinished line: nothing, where that is too long.
@@ -182,7 +157,7 @@ fn respond_piece(
     ensures orderly_2 { Orderly result.state output.new }
     ensures piece_answered { PieceAnswered was (take n input.old) output.old result input.new output.new }
 {
-    let state = respond_text(rt, was, &input[0..n], output);
+    let state = respond_text(rt, was, &input[..n], output);
     let held = hold(input, state.start, n, state.long);
     Piece { state, held }
 }
@@ -193,7 +168,7 @@ fn finish(rt: &HostRuntime, was: State, start: &[u8], output: &mut [u8]) -> Stat
     ensures orderly { Orderly result output.new }
     ensures output_after { session_of result output.new ≡ after_end (session_of was output.old) start.now }
 {
-    if was.long | (0 < start.len()) {
+    if was.long || !start.is_empty() {
         return respond(rt, was, start, 0, output);
     }
     was
@@ -203,7 +178,7 @@ fn finish(rt: &HostRuntime, was: State, start: &[u8], output: &mut [u8]) -> Stat
 fn deliver(rt: &HostRuntime, state: State, output: &[u8]) -> bool
     requires { state.waiting ≤ length output.now }
 {
-    if flush(rt, output, state.waiting) & state.written {
+    if flush(rt, output, state.waiting).is_ok() && state.written {
         return true;
     }
     let told = rt
@@ -218,31 +193,38 @@ fn delivered(was: State) -> State
     ensures by_index { (out : List ℕ) → session_of result out ≡ emptied (session_of was out) }
     ensures start_value { (result.start ≡ 0) × (result.waiting ≡ 0) }
 {
-    let shelf = was.shelf;
-    keep(shelf, 0, 0, was.long, true)
+    State {
+        start: 0,
+        waiting: 0,
+        written: true,
+        ..was
+    }
 }
 
-// Nothing says that the input ends, so turns are counted down from a number that no run uses up.
+// Nothing says that the input ends, so turns are counted up to a number that no run reaches.
 fn serve(rt: &HostRuntime, input: &mut [u8], output: &mut [u8])
     requires { (length input.old ≡ 65536) × (length output.old ≡ 65536) }
 {
-    let mut now = keep(shelf::new(), 0, 0, false, true);
-    let mut held: usize = 0;
-    let mut turns = u64::MAX;
-    while turns > 0 {
+    let mut now = State {
+        shelf: shelf::new(),
+        start: 0,
+        waiting: 0,
+        long: false,
+        written: true,
+    };
+    let mut held = 0;
+    for _ in 0..u64::MAX {
         let n = read_more(rt, input, held);
         if n <= held {
-            deliver(rt, finish(rt, now, &input[0..held], output), output);
+            deliver(rt, finish(rt, now, &input[..held], output), output);
             return;
         }
         let piece = respond_piece(rt, now, input, n, output);
-        let state = piece.state;
-        if !deliver(rt, state, output) {
+        if !deliver(rt, piece.state, output) {
             return;
         }
         held = piece.held;
-        now = delivered(state);
-        turns -= 1;
+        now = delivered(piece.state);
     }
 }
 

@@ -5,62 +5,39 @@
 ghost use Rattle.std.specs.Prelude.{◌≡◌, ℕ, ◌≤◌, length, take};
 ghost use Rattle.lines.specs.Text.{Puts};
 ghost use Rattle.verdict.specs.Report.{verdict_report};
+ghost use Rattle.verdict.specs.Verdict.{number_of};
 ghost use Rattle.places.specs.Shelf.{Good};
 ghost use Rattle.operations.specs.Reports.{operated_outcome};
 ghost use Rattle.shelf.specs.Reports.{factor_report};
-ghost use Rattle.tnb_product.specs.Printed.{factor_line, row_lines, factor_lines, result_text, refusal_line, printed, unless_refused, longest_text, program_text};
+ghost use Rattle.tnb_product.specs.Printed.{factor_line, row_lines, factor_lines, result_text, refusal_line, printed};
+ghost use Rattle.tnb_product.specs.Printed.{unless_refused, longest_text, program_text};
 
-use shelf::{Factor, Operated, Performed, Refusal, Shelf, Verdict};
+use shelf::{Operated, Refusal, Shelf, Value, Verdict};
 use std::fs::File;
 use std::io::{Read, Write};
 
-// What a read gave.
-#[derive(Clone, Copy)]
-enum Got {
-    // So many bytes are read by now.
-    More(usize),
-    End,
-    Failed,
-}
-
-// Reads once, behind the bytes that are read already.
-fn read_some(file: &mut File, buffer: &mut [u8], have: usize) -> Got {
-    if buffer.len() <= have {
-        return Got::End;
-    }
-    match file.read(&mut buffer[have..]) {
-        Ok(0) => Got::End,
-        Ok(n) => Got::More(have + n),
-        Err(_) => Got::Failed,
-    }
-}
-
-// Reads until the file ends or the buffer is full. A file of which a read fails counts as no bytes.
-fn read_all(file: &mut File, buffer: &mut [u8]) -> usize {
-    let mut have: usize = 0;
-    for _ in 0..buffer.len() {
-        let got = read_some(file, buffer, have);
-        match got {
-            Got::More(n) => {
-                have = n;
-            }
-            Got::End => return have,
-            Got::Failed => return 0,
+// Reads until the file ends or the buffer is full, and answers how many bytes that were.
+fn read_all(file: &mut File, buffer: &mut [u8]) -> std::io::Result<usize> {
+    let mut have = 0;
+    while have < buffer.len() {
+        match file.read(&mut buffer[have..])? {
+            0 => break,
+            n => have += n,
         }
     }
-    have
+    Ok(have)
 }
 
-// Reads a file to the start of the buffer; one that can't be opened counts as no bytes.
+// Reads a file to the start of the buffer; one that can't be opened, or of which a read fails, counts as no bytes.
 fn read_file(rt: &HostRuntime, path: &str, buffer: &mut [u8]) -> usize {
     match File::open(rt, path) {
-        Ok(mut file) => read_all(&mut file, buffer),
+        Ok(mut file) => read_all(&mut file, buffer).unwrap_or(0),
         Err(_) => 0,
     }
 }
 
 // The line of a factor.
-fn put_factor(out: &mut [u8], at: usize, i: usize, j: usize, factor: Factor) -> usize
+fn put_factor(out: &mut [u8], at: usize, i: usize, j: usize, factor: Value) -> usize
     ensures { Puts out.old at (factor_line i j (factor_report factor)) out.new result }
 {
     let first = lines::put_whole(out, at, i as u64);
@@ -70,15 +47,13 @@ fn put_factor(out: &mut [u8], at: usize, i: usize, j: usize, factor: Factor) -> 
     lines::put(out, end, b"\n")
 }
 
-// The lines of row i of place 2, which has n factors.
+// The lines of row i of place 2, which has n factors. A closure for the text of a factor, to share this with `answers`, would be no plainer.
 fn put_row(out: &mut [u8], at: usize, shelf: Shelf, n: usize, i: usize) -> usize
     requires { Good shelf }
     ensures { Puts out.old at (row_lines shelf n i) out.new result }
 {
     let mut to = at;
-    let mut j: usize = 0;
-    while j < n {
-        j += 1;
+    for j in 1..=n {
         to = put_factor(out, to, i, j, shelf::factor_at(shelf, 2, i, j));
     }
     to
@@ -90,9 +65,7 @@ fn put_factors(out: &mut [u8], at: usize, shelf: Shelf, n: usize) -> usize
     ensures { Puts out.old at (factor_lines shelf n) out.new result }
 {
     let mut to = at;
-    let mut i: usize = 0;
-    while i < n {
-        i += 1;
+    for i in 1..=n {
         to = put_row(out, to, shelf, n, i);
     }
     to
@@ -110,37 +83,21 @@ fn put_result(out: &mut [u8], shelf: Shelf) -> usize
 }
 
 fn put_refused(out: &mut [u8], why: Refusal) -> usize
-    ensures { Puts out.old 0 (refusal_line why.number why.offset) out.new result }
+    ensures { Puts out.old 0 (refusal_line (number_of why.reason) why.offset) out.new result }
 {
     let end = answers::put_refusal(out, 0, why);
     lines::put(out, end, b"\n")
 }
 
-// What a product that was not refused left at place 2, or its refusal.
-fn put_product(out: &mut [u8], product: Operated) -> usize
-    requires { Good product.shelf }
-    ensures { Puts out.old 0 (printed (operated_outcome product)) out.new result }
-{
-    let shelf = product.shelf;
-    let answer = product.answer;
-    match answer {
-        Performed::Done { bound: _, steps: _ } => put_result(out, shelf),
-        Performed::Refused(why) => put_refused(out, why),
-    }
-}
-
-// The first refusal of the two loads, or else the product.
+// The first refusal of the two loads and the product, or else what the product left at place 2.
 fn put_text(out: &mut [u8], left: Verdict, right: Verdict, product: Operated) -> usize
     requires { Good product.shelf }
     ensures { Puts out.old 0 (unless_refused (verdict_report left) (unless_refused (verdict_report right) (printed (operated_outcome product))))
         out.new result }
 {
-    match left {
-        Verdict::Refused(why) => put_refused(out, why),
-        Verdict::Accepted => match right {
-            Verdict::Refused(why) => put_refused(out, why),
-            Verdict::Accepted => put_product(out, product),
-        },
+    match left.and(right).and(product.answer) {
+        Ok(_) => put_result(out, product.shelf),
+        Err(why) => put_refused(out, why),
     }
 }
 
@@ -150,13 +107,9 @@ fn text(left: &[u8], right: &[u8], out: &mut [u8]) -> usize
     ensures { take result out.new ≡ program_text left.now right.now }
 {
     let first = shelf::load(shelf::new(), 0, left);
-    let one = first.shelf;
-    let second = shelf::load(one, 1, right);
-    let two = second.shelf;
-    let product = shelf::product(two, 0, 1, 2);
-    let left_verdict = first.verdict;
-    let right_verdict = second.verdict;
-    put_text(out, left_verdict, right_verdict, product)
+    let second = shelf::load(first.shelf, 1, right);
+    let product = shelf::product(second.shelf, 0, 1, 2);
+    put_text(out, first.verdict, second.verdict, product)
 }
 
 // Reads the two files, and puts what is printed. A load judges less than 4,096 bytes, so a longer file may be cut there.

@@ -1,5 +1,6 @@
 pub mod Steps
 pub mod Letters
 pub mod Lent
+pub mod Single
 pub mod Held
 pub mod Packed

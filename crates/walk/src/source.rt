@@ -16,8 +16,7 @@ pub fn put_factors(b: &mut [u64; 768], c: usize, table: [Number; 64])
     ensures kept { Kept (c * 128) b.old b.new }
     ensures b_len { length b.new ≡ 768 }
 {
-    for t in 0..64usize {
-        let a = table[t];
+    for (t, a) in table.iter().enumerate() {
         b[c * 128 + 2 * t] = a.m;
         b[c * 128 + 2 * t + 1] = a.x;
     }
@@ -31,12 +30,6 @@ pub fn factor_in(b: &[u64; 768], p: usize) -> Number
     let m = b[2 * p];
     let x = b[2 * p + 1];
     Number { m, x }
-}
-
-fn wide(x: u16) -> usize
-    ensures { result ≡ x }
-{
-    x as usize
 }
 
 // A letter as a number.
@@ -70,7 +63,7 @@ pub fn letter_in(l: &[u16; 342], n: usize, way: Way, c: usize, t: usize) -> Move
     ensures value { result ≡ move_at n way t }
     ensures move_within { MoveWithin n result }
 {
-    let v = wide(l[c * 57 + t]);
+    let v = usize::from(l[c * 57 + t]);
     let rows = v / 64;
     Move {
         to: rows % 16,

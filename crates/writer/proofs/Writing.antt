@@ -1,26 +1,26 @@
 -- Writing a matrix a factor at a time: `Counted` is what holds when k factors are counted, `WrittenSoFar` when they are written. And the answer, by whether
 -- the bytes fit (`writing-room`, `writing-done`, `writing-refused`).
-use Prim.Native.Nat.{ℕ, ◌+◌, ◌-◌, ◌*◌, ◌<◌, ◌≤◌, min}
+use Prim.Native.Nat.{ℕ, ◌+◌, ◌-◌, ◌*◌, ◌<◌, ◌≤◌}
 use native.Mathlib.Nat.{mul-le-mul, add_assoc}
 use native.Mathlib.Numerals.{add-one}
 use native.Mathlib.Omega.{arith}
 use mathlib.Core.Path.{◌≡◌, refl, sym, ap, ◌∙◌}
 use mathlib.Core.List.{List, [], ◌∷◌, ◌++◌}
 use lib.IntN.{pos}
-use lib.ListN.{length, take, drop, get_or, length-append, length-take, drop_of_length-le}
-use lib.Seq.{sets, drop-cons, get_or-take, length-sets}
+use lib.ListN.{length, take, drop, get_or, length-append, drop_of_length-le}
+use lib.Seq.{sets, drop-cons, length-sets}
 use borrow.Author.Tests.{eq-eqb, ne_eqb, ltb-false}
 use lib.Dec.{ltb}
+use Rattle.std.specs.Prelude.{Ok, Err}
+use Rattle.verdict.specs.declared.Reason.TheVariants.{OutputTooShort}
 use Rattle.verdict.specs.declared.Refusal.{Refusal}
-use Rattle.verdict.specs.declared.Verdict.{Verdict}
-use Rattle.verdict.specs.declared.Verdict.TheVariants.{Accepted, Refused}
-use Rattle.verdict.specs.Verdict.{after}
+use Rattle.verdict.specs.Verdict.{Verdict, number_of, after}
 use Rattle.verdict.specs.Report.{accepted, refused, report_of}
 use Rattle.verdict.proofs.Verdicts.{when-passed}
 use Rattle.group.specs.Group.{bytes_of}
 use Rattle.number.specs.declared.Number.{Number}
 use Rattle.number.specs.Number.{Stored}
-use Rattle.writer.specs.Encoding.{exponent_code, part_of, factor_bytes, factors_bytes, encoding, square_factors, room_test, writing_report, bytes_after_writing}
+use Rattle.writer.specs.Encoding.{exponent_code, part_of, factor_bytes, factors_bytes, encoding, room_test, writing_report, bytes_after_writing}
 use Rattle.arrays.proofs.Runs.{sets-part, sets-append}
 
 -- what a read past the end of an array would give
@@ -53,14 +53,6 @@ square-small n h =
     let l : n ≤ 8 = omega arith in
     mul-le-mul l l
 
--- the factors among 64 numbers
-module _ (n : ℕ) (numbers : List Number) (long : length numbers ≡ 64) where
-  pub factors-length : length (square_factors n numbers) ≡ min (n * n) 64
-  factors-length = length-take (n * n) numbers ∙ ap (min (n * n)) long
-
-  pub factors-at : (k : ℕ) → k < min (n * n) 64 → get_or (square_factors n numbers) k unread ≡ get_or numbers k unread
-  factors-at k h = get_or-take (n * n) numbers k unread (omega arith)
-
 -- the encoding, from n's bytes on
 pub encoding-length : (n : ℕ) (L : List Number) → length (encoding n L) ≡ length (bytes_of n) + length (factors_bytes L)
 unfolding encoding
@@ -79,9 +71,6 @@ module _ (L : List Number) where
     pub few : k ≤ length L
     pub same : start + length (factors_bytes L) ≡ total + length (factors_bytes (drop k L))
 
-  pub counted_none : (start : ℕ) → Counted start start 0
-  counted_none start = record { few = omega arith; same = refl }
-
   module _ {start total k : ℕ} (w : Counted start total k) where
     pub counted-more : (t : ℕ) → k < length L → t ≡ length (factor_bytes (get_or L k unread)) → Counted start (total + t) (k + 1)
     counted-more t h e = record { few = omega arith; same = w.same ∙ rw (factors-bytes-more L k h, length-append, e) (sym (add_assoc _ _ _)) }
@@ -94,9 +83,6 @@ module _ (L : List Number) where
     pub counted : Counted start at k
     pub kept : length out ≡ length out₀
     pub same : sets out₀ start (factors_bytes L) ≡ sets out at (factors_bytes (drop k L))
-
-  pub written_none : (out : List ℕ) (start : ℕ) → WrittenSoFar out start out start 0
-  written_none out start = record { counted = counted_none start; kept = refl; same = refl }
 
   module _ {out₀ : List ℕ} {start : ℕ} {out : List ℕ} {at k : ℕ} (w : WrittenSoFar out₀ start out at k) where
     pub written_all : length L ≤ k → out ≡ sets out₀ start (factors_bytes L)
@@ -132,15 +118,15 @@ sets-two out u v one two k w h e f =
 
 -- ---- the answer: the bytes fit, or they do not
 module _ (out bytes : List ℕ) where
-  pub writing-room : room_test out bytes ≡ Accepted → length bytes ≤ length out
-  writing-room h = ltb-false (length out) (length bytes) (when-passed (ltb (length out) (length bytes)) 10 h)
+  pub writing-room : room_test out bytes ≡ Ok tt → length bytes ≤ length out
+  writing-room h = ltb-false (length out) (length bytes) (when-passed (ltb (length out) (length bytes)) OutputTooShort h)
 
-  pub writing-done : room_test out bytes ≡ Accepted →
+  pub writing-done : room_test out bytes ≡ Ok tt →
       (accepted (pos (length bytes) ∷ []) ≡ writing_report out bytes) × (sets out 0 bytes ≡ bytes_after_writing out bytes)
   unfolding writing_report bytes_after_writing
   writing-done h = (sym (ap (λ (v : Verdict). report_of v (pos (length bytes) ∷ [])) h), sym (ap (λ (v : Verdict). after v out (sets out 0 bytes)) h))
 
-  pub writing-refused : (w : Refusal) → room_test out bytes ≡ Refused w →
-      (refused w.number w.offset ≡ writing_report out bytes) × (out ≡ bytes_after_writing out bytes)
+  pub writing-refused : (w : Refusal) → room_test out bytes ≡ Err w →
+      (refused (number_of w.reason) w.offset ≡ writing_report out bytes) × (out ≡ bytes_after_writing out bytes)
   unfolding writing_report bytes_after_writing
   writing-refused w h = (sym (ap (λ (v : Verdict). report_of v (pos (length bytes) ∷ [])) h), sym (ap (λ (v : Verdict). after v out (sets out 0 bytes)) h))

@@ -1,17 +1,16 @@
 -- The bytes of a matrix (document 01, "Bytes"): `encoding`, and `encoded_length`, how many they are; and what writing them to lent bytes returns and leaves
 -- (`writing_report`, `bytes_after_writing`); which matrices can be stored (`Storable`).
-use Rattle.std.specs.Prelude.{ℕ, ◌-◌, ◌*◌, ◌^◌, ◌≤◌, ◌<◌, ◌≡◌, cond, List, [], ◌∷◌, ◌++◌, pos, length, take, ltb, eqb}
+use Rattle.std.specs.Prelude.{ℕ, ◌-◌, ◌*◌, ◌^◌, ◌≤◌, ◌<◌, ◌≡◌, cond, List, [], ◌∷◌, ◌++◌, pos, length, take, ltb, eqb, Result}
 use Rattle.std.proofs.lemmas.List.Edits.{sets}
-use Rattle.verdict.specs.declared.Verdict.{Verdict}
-use Rattle.verdict.specs.Verdict.{when, after}
-use Rattle.verdict.specs.Report.{Report, accepted, refused, report_of}
+use Rattle.verdict.specs.declared.Reason.TheVariants.{OutputTooShort}
+use Rattle.verdict.specs.declared.Refusal.{Refusal}
+use Rattle.verdict.specs.Verdict.{Verdict, when, after}
+use Rattle.verdict.specs.Report.{Report, answer_report, report_of}
 use Rattle.group.specs.Group.{bytes_of}
 use Rattle.number.specs.declared.Number.{Number}
 use Rattle.number.specs.Number.{bias}
 use Rattle.words.specs.Sources.{BandedNumbers}
 use Rattle.table.specs.Table.{square_of}
-use Rattle.writer.specs.declared.Written.{Written}
-use Rattle.writer.specs.declared.Written.TheVariants.{Length, Refused}
 
 -- the exponent -1001: an exponent code counts from there
 abbrev pub code_zero : ℕ
@@ -46,7 +45,7 @@ square_factors n numbers = take (n * n) numbers
 
 -- 10: the lent bytes are too few
 abbrev pub room_test : (out bytes : List ℕ) → Verdict
-room_test out bytes = when (ltb (length out) (length bytes)) 10
+room_test out bytes = when (ltb (length out) (length bytes)) OutputTooShort
 
 -- what writing bytes to lent ones returns: how many they are
 unfoldable pub writing_report : (out bytes : List ℕ) → Report
@@ -57,9 +56,8 @@ unfoldable pub bytes_after_writing : (out bytes : List ℕ) → List ℕ
 bytes_after_writing out bytes = after (room_test out bytes) out (sets out 0 bytes)
 
 -- what the writer's answers report
-abbrev pub written_report : Written → Report
-written_report (Length k) = accepted (pos k ∷ [])
-written_report (Refused w) = refused w.number w.offset
+abbrev pub written_report : Result ℕ Refusal → Report
+written_report r = answer_report (λ k. pos k ∷ []) r
 
 -- a matrix that can be stored: n from 1 to 8, and n² factors, row by row, that are accepted
 pub record Storable (n : ℕ) (L : List Number) : Type 0 where

@@ -2,8 +2,5 @@
 use Rattle.lines.proofs.Text.{puts-behind}
 use Rattle.answers.proofs.put_performed.Goals as goal
 
-pub returns-in-Done : goal.returns-in-Done
-returns-in-Done c = rw c.in-Done.is (puts-behind c.put_count-behind.ensures c.put_count.ensures)
-
-pub returns-in-Refused : goal.returns-in-Refused
-returns-in-Refused c = rw c.in-Refused.is c.put_refusal.ensures
+pub returns-in-Ok : goal.returns-in-Ok
+returns-in-Ok c = rw c.in-Ok.is (puts-behind (rw c.from.ensures at c.put_count-behind.ensures) c.put_count.ensures)

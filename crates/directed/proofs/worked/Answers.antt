@@ -1,32 +1,27 @@
 -- `worked` meets its contract, by the operation.
-use mathlib.Core.Path.{sym, ◌∙◌}
+use mathlib.Core.Path.{sym, ap, ◌∙◌}
 use native.Mathlib.Omega.{arith}
-use Rattle.directed.proofs.Workable.{workable-ranged, added, multiplied, divided, not-divided, unknown}
+use Rattle.directed.specs.Directed.{number_of}
+use Rattle.directed.proofs.Workable.{workable-ranged, added, multiplied, divided, not-divided}
 use Rattle.directed.proofs.worked.Goals as goal
 
 pub add-requires : goal.add-requires
 add-requires c = (workable-ranged _ c.requires.0, workable-ranged _ c.requires.1)
 
-pub returns-then-operation-eq0 : goal.returns-then-operation-eq0
-returns-then-operation-eq0 c = c.add.ensures.value ∙ sym (added _ _ _ _ c.if-operation-eq0.true)
+pub returns-in-Add : goal.returns-in-Add
+returns-in-Add c = c.add.ensures.value ∙ sym (added _ _ _ _ (ap number_of c.in-Add.is))
 
 pub mul-requires : goal.mul-requires
 mul-requires c = (workable-ranged _ c.requires.0, workable-ranged _ c.requires.1)
 
-pub returns-then-operation-eq1 : goal.returns-then-operation-eq1
-returns-then-operation-eq1 c = c.mul.ensures.value ∙ sym (multiplied _ _ _ _ c.if-operation-eq1.true)
+pub returns-in-Multiply : goal.returns-in-Multiply
+returns-in-Multiply c = c.mul.ensures.value ∙ sym (multiplied _ _ _ _ (ap number_of c.in-Multiply.is))
 
-pub returns-then-operation-ne2 : goal.returns-then-operation-ne2
-returns-then-operation-ne2 c = let a = c.args in
-    c.nothing.ensures ∙ sym (unknown a.operation a.direction a.a a.b (omega arith))
-
-pub returns-then-b-eq0 : goal.returns-then-b-eq0
-returns-then-b-eq0 c = let a = c.args in
-    c.nothing-then-b-eq0.ensures ∙ sym (not-divided a.operation a.direction a.a a.b (omega arith) (omega arith))
+pub returns-in-Divide : goal.returns-in-Divide
+returns-in-Divide c = sym (not-divided _ _ _ _ (ap number_of c.in-Divide.is) c.if-b-eq0.true)
 
 pub div-requires : goal.div-requires
 div-requires c = (workable-ranged _ c.requires.0, workable-ranged _ c.requires.1, omega arith)
 
-pub returns : goal.returns
-returns c = let a = c.args in
-    c.div.ensures.value ∙ sym (divided a.operation a.direction a.a a.b (omega arith) (omega arith))
+pub returns-in-Divide-2 : goal.returns-in-Divide-2
+returns-in-Divide-2 c = c.div.ensures.value ∙ sym (divided _ _ _ _ (ap number_of c.in-Divide.is) (omega arith))

@@ -7,4 +7,4 @@ abbrev pub invariant-loop-rest : goal.invariant-loop-rest
 invariant-loop-rest l = Written l.initial.out l.v l.out l.rest l.i
 
 abbrev pub decreases-loop-rest : goal.decreases-loop-rest
-decreases-loop-rest l = 10 - l.i
+decreases-loop-rest l = l.rest - 127

@@ -4,7 +4,7 @@ use Rattle.group.proofs.Writing.{Counted}
 use Rattle.group.proofs.width.Given as goal
 
 abbrev pub invariant-loop-rest : goal.invariant-loop-rest
-invariant-loop-rest l = Counted l.v l.rest l.i
+invariant-loop-rest l = Counted l.v l.rest l.passed
 
 abbrev pub decreases-loop-rest : goal.decreases-loop-rest
-decreases-loop-rest l = 10 - l.i
+decreases-loop-rest l = l.rest - 127

@@ -1,14 +1,11 @@
 -- The invariant of the loop of `write`: all items written at the start are the rest of them written behind the k that stand there.
 use mathlib.Core.Path.{◌≡◌}
-use Prim.Native.Nat.{◌-◌, ◌*◌, ◌≤◌}
+use Prim.Native.Nat.{◌*◌}
 use lib.ListN.{length, drop, take}
 use lib.Seq.{sets}
 use Rattle.items.specs.Items.{list_numbers}
 use Rattle.items.proofs.write.Given as goal
 
 abbrev pub invariant-loop-k : goal.invariant-loop-k
-invariant-loop-k l = (l.k ≤ l.n) × (length l.out ≡ length l.initial.out) ×
-    (sets l.initial.out 0 (list_numbers (take l.n l.v)) ≡ sets l.out (3 * l.k) (list_numbers (drop l.k (take l.n l.v))))
-
-abbrev pub decreases-loop-k : goal.decreases-loop-k
-decreases-loop-k l = l.n - l.k
+invariant-loop-k l = (length l.out ≡ length l.initial.out) ×
+    (sets l.initial.out 0 (list_numbers (take l.n l.fn.v)) ≡ sets l.out (3 * l.k) (list_numbers (drop l.k (take l.n l.fn.v))))

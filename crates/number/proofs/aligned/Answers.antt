@@ -1,30 +1,19 @@
 -- `aligned` meets its contract: what is shifted is not larger, and all fits.
-use mathlib.Core.Path.{ap, ◌∙◌}
-use Prim.Native.Nat.{ℕ, ◌+◌, ◌*◌, ◌/◌, ◌^◌}
+use mathlib.Core.Path.{◌≡◌, ap, ◌∙◌}
+use Prim.Native.Nat.{ℕ, ◌+◌, ◌*◌, ◌/◌, ◌^◌, ◌≤◌}
 use native.Mathlib.Nat.{div-le_self}
 use native.Mathlib.Omega.{arith}
-use lib.Pow as Pow
 use Rattle.number.proofs.Sums.{unlike-le}
 use Rattle.number.specs.Digits.{aligned_of, unlike_of}
 use Rattle.number.proofs.aligned.Goals as goal
 
-pub overflow_mul-whole : goal.overflow_mul-whole
-overflow_mul-whole c = let a = c.args in
-    rw c.power.ensures (omega (arith, Pow.split (a.b * 2 ^ 30) a.k))
-
-pub overflow_add-result : goal.overflow_add-result
-overflow_add-result c = let a = c.args in
-    omega (arith, div-le_self (a.b * 2 ^ 30) (2 ^ a.k))
-
-pub overflow_mul-result-2 : goal.overflow_mul-result-2
-overflow_mul-result-2 c = let a = c.args in
-    omega (arith, div-le_self (a.b * 2 ^ 30) (2 ^ a.k))
+-- the digit for what is dropped
+one : (r m n : ℕ) → r ≡ unlike_of m n → r ≤ 1
+one r m n e = omega (arith, e, unlike-le m n)
 
 pub overflow_add-result-2 : goal.overflow_add-result-2
 overflow_add-result-2 c = let a = c.args in
-    let z = a.b * 2 ^ 30 in
-    let s = unlike-le (z / 2 ^ a.k * c.power.result) z in
-    omega (arith, div-le_self z (2 ^ a.k), c.unlike.ensures, s)
+    omega (arith, div-le_self (a.b * 2 ^ 30) (2 ^ a.k), one _ _ _ c.unlike.ensures)
 
 pub returns : goal.returns
 unfolding aligned_of

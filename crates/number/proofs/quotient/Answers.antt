@@ -1,20 +1,16 @@
 -- `quotient` meets its contract: the select is the shift, the shifted dividend is a word, one division leaves the remainder, and the
 -- multiplier of the direction takes the whole number.
 use mathlib.Core.Path.{◌≡◌, sym, ap, ap₂, ◌∙◌, subst}
-use Prim.Native.Nat.{ℕ, ◌+◌, ◌-◌, ◌*◌, ◌/◌, ◌%◌, ◌^◌, ◌≤◌, ◌<◌}
+use Prim.Native.Nat.{ℕ, ◌+◌, ◌-◌, ◌*◌, ◌/◌, ◌%◌, ◌^◌, ◌<◌}
 use native.Mathlib.Nat.{mod-eq_of_lt, mod-lt, div-add-mod'}
 use native.Mathlib.Omega.{arith}
 use Rattle.number.proofs.Digits.{compared, multiplier-fits}
-use Rattle.number.proofs.Division.{shift-range, shifted-high, quotient-full}
+use Rattle.number.proofs.Division.{shifted-high, quotient-full}
 use Rattle.number.specs.Digits.{whole_of}
 use Rattle.number.specs.Division.{shifted, whole_quotient, remainder}
 use Rattle.number.specs.declared.Direction.TheVariants.{Down}
 use Rattle.number.proofs.quotient.Goals as goal
 use Rattle.number.proofs.quotient.Goals.{After-either-s}
-
--- the select is the shift
-chosen : (c : After-either-s) → (31 ≤ c.either-s.result) × (c.either-s.result ≤ 32)
-chosen c = rw c.either-s.ensures (shift-range c.args.a c.args.b)
 
 -- the shifted dividend is a word
 fits : (c : After-either-s) → shifted c.args.a c.args.b < 2 ^ 64
@@ -37,18 +33,6 @@ product-fits : (c : After-either-s) → remainder c.args.a c.args.b * c.multipli
 product-fits c = let r = remainder c.args.a c.args.b in
     subst (λ (k : ℕ). r * k < 2 ^ 64 - 1) (sym c.multiplier-k.ensures)
     (multiplier-fits c.args.direction r c.args.b (left c) c.requires.1.high)
-
-pub overflow_sub-y : goal.overflow_sub-y
-overflow_sub-y c = omega (arith, chosen c)
-
-pub overflow_shl-n : goal.overflow_shl-n
-overflow_shl-n c = omega (arith, chosen c)
-
-pub overflow_mul-q : goal.overflow_mul-q
-overflow_mul-q c = rw (word c) (omega (arith, parts c, fits c))
-
-pub overflow_sub-n : goal.overflow_sub-n
-overflow_sub-n c = rw (word c) (omega (arith, parts c))
 
 pub whole-m-requires : goal.whole-m-requires
 whole-m-requires c = let q = quotient-full c.args.a c.args.b c.requires.0 c.requires.1 Down in

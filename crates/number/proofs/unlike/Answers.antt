@@ -1,12 +1,15 @@
 -- `unlike` meets its contract: by its one test.
-use borrow.Author.Tests.{eq-eqb, ne_eqb}
+use mathlib.Core.Path.{◌≡◌, refl, ◌∙◌}
+use mathlib.Core.Bool.{Bool, true, false, not, cond}
+use lib.Dec.{eqb}
+use mir.Val.{bool_byte}
 use Rattle.number.specs.Digits.{unlike_of}
 use Rattle.number.proofs.unlike.Goals as goal
 
-pub returns-then-a-b : goal.returns-then-a-b
-unfolding unlike_of
-returns-then-a-b c = simp (eq-eqb _ _ c.if-a-b.true)
+counted : (t : Bool) → bool_byte (not t) ≡ cond t 0 1
+counted true = refl
+counted false = refl
 
-pub returns-else-a-b : goal.returns-else-a-b
+pub returns : goal.returns
 unfolding unlike_of
-returns-else-a-b c = simp (ne_eqb _ _ c.if-a-b.false)
+returns c = c.from.ensures ∙ counted (eqb c.args.a c.args.b)

@@ -1,22 +1,13 @@
 -- The converse is worked as steps joined and kept; the outcome is that of the definition, and demand 3 holds (`operation-done`).
-use native.Mathlib.Omega.{arith}
 use Rattle.walk.specs.declared.Way.TheVariants.{Conversed}
 use Rattle.operations.proofs.Results.{operation-done}
 use Rattle.operations.proofs.Recipes.{whole_ready}
 use Rattle.operations.proofs.converse.Goals as goal
 
-pub joined-requires : goal.joined-requires
-joined-requires c = rw c.one-steps.ensures (c.requires, omega arith, omega arith)
-
-pub keep-requires : goal.keep-requires
-keep-requires c = (c.requires, c.joined.ensures.keepable)
-
 pub returns : goal.returns
-returns c = let a = c.args in record {
-  result_value = (operation-done _ a.target _ _ (whole_ready a.shelf c.requires Conversed a.source a.target) a.shelf c.requires _ _
-      (rw c.one-steps.ensures at c.joined.ensures.value) (c.keep.ensures.value, c.keep.ensures.good)).0;
-  good = (operation-done _ a.target _ _ (whole_ready a.shelf c.requires Conversed a.source a.target) a.shelf c.requires _ _
-      (rw c.one-steps.ensures at c.joined.ensures.value) (c.keep.ensures.value, c.keep.ensures.good)).1.0;
-  promised = (operation-done _ a.target _ _ (whole_ready a.shelf c.requires Conversed a.source a.target) a.shelf c.requires _ _
-      (rw c.one-steps.ensures at c.joined.ensures.value) (c.keep.ensures.value, c.keep.ensures.good)).1.1;
-}
+returns c =
+    let a = c.args in
+    let met =
+    operation-done _ a.target _ _ (whole_ready a.shelf c.requires Conversed a.source a.target) a.shelf c.requires _ _
+    (rw c.one-steps.ensures at c.joined.ensures.value) (c.keep.ensures.value, c.keep.ensures.good) in
+    record { result_value = met.0; good = met.1.0; promised = met.1.1 }

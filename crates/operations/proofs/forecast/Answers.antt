@@ -1,11 +1,8 @@
 -- A forecast, by the operation that is asked of; what it tells follows from what it is (`forecast-tells`).
-use mathlib.Core.Path.{◌≡◌, sym, ap, ap₂, ◌∙◌}
-use Prim.Native.Nat.{ℕ}
-use native.Mathlib.Omega.{arith}
+use mathlib.Core.Path.{◌≡◌, sym, ap, ◌∙◌}
 use Rattle.verdict.specs.Report.{Report}
 use Rattle.operations.specs.Forecast.{forecast_call, task_call, Found, Foretelling}
 use Rattle.operations.proofs.Forecasts.{forecast-tells}
-use Rattle.operations.specs.declared.Task.TheVariants.{Submatrix}
 use Rattle.operations.proofs.forecast.Goals as goal
 use Rattle.operations.proofs.forecast.Goals.{Start}
 
@@ -13,15 +10,6 @@ use Rattle.operations.proofs.forecast.Goals.{Start}
 told : (b : Start) (f : Report) → f ≡ forecast_call b.args.shelf b.args.task
     → (f ≡ forecast_call b.args.shelf b.args.task) × Foretelling b.args.shelf (Found b.args.task) (task_call b.args.shelf b.args.task) f
 told b f e = (e, forecast-tells b.args.shelf b.requires b.args.task f e)
-
-pub joined-requires : goal.joined-requires
-joined-requires c = rw c.two.ensures (c.requires, omega arith, omega arith)
-
-pub joined-requires-in-Inverse : goal.joined-requires-in-Inverse
-joined-requires-in-Inverse c = rw c.one.ensures (c.requires, omega arith, omega arith)
-
-pub joined-requires-in-Converse : goal.joined-requires-in-Converse
-joined-requires-in-Converse c = rw c.one-in-Converse.ensures (c.requires, omega arith, omega arith)
 
 pub returns-in-Product : goal.returns-in-Product
 unfolding forecast_call
@@ -50,16 +38,10 @@ returns-in-Transpose c =
 
 pub returns-in-Submatrix : goal.returns-in-Submatrix
 unfolding forecast_call
-returns-in-Submatrix c = record {
-  result_value = (told (goal.at.returns-in-Submatrix c).Start _
-      (c.submatrix.ensures
-      ∙ ap₂ (λ (I J : ℕ). forecast_call c.args.shelf (Submatrix c.in-Submatrix.source I J)) c.wide.ensures.value c.wide-in-Submatrix.ensures.value
-      ∙ sym (ap (forecast_call _) c.in-Submatrix.is))).0;
-  foretelling = (told (goal.at.returns-in-Submatrix c).Start _
-      (c.submatrix.ensures
-      ∙ ap₂ (λ (I J : ℕ). forecast_call c.args.shelf (Submatrix c.in-Submatrix.source I J)) c.wide.ensures.value c.wide-in-Submatrix.ensures.value
-      ∙ sym (ap (forecast_call _) c.in-Submatrix.is))).1;
-}
+returns-in-Submatrix c =
+    let met =
+    told (goal.at.returns-in-Submatrix c).Start _ (c.submatrix.ensures ∙ sym (ap (forecast_call _) c.in-Submatrix.is)) in
+    record { result_value = met.0; foretelling = met.1 }
 
 pub returns-in-Schur : goal.returns-in-Schur
 unfolding forecast_call

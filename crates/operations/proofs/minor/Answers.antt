@@ -2,91 +2,75 @@
 use mir.Syntax.{w64}
 use mir.Val.{SFits}
 use mir.Facts.{to_z-of_z}
-use mathlib.Core.Path.{◌≡◌, sym, ap, ap₂, ◌∙◌}
-use mathlib.Core.Bool.{true}
-use Prim.Native.Nat.{ℕ}
+use mathlib.Core.Path.{◌≡◌, refl, sym, ap, ap₂, ◌∙◌}
 use lib.IntN.{ℤ}
+use borrow.Author.Tests.{not-false}
 use Rattle.number.specs.declared.Number.{Number}
-use Rattle.number.specs.Number.{in_range, exponent_of}
-use Rattle.verdict.specs.declared.Verdict.TheVariants.{Accepted}
+use Rattle.number.specs.Number.{exponent_of}
+use borrow.Author.Rules.{rules}
+use Rattle.std.specs.Prelude.{Ok, Err}
+use Rattle.verdict.specs.declared.Reason.TheVariants.{ExponentOutOfRange}
 use Rattle.verdict.specs.Verdict.{first_of}
 use Rattle.verdict.specs.Report.{Report}
-use Rattle.conditions.proofs.Passed.{choice-verdict}
-use Rattle.places.specs.Shelf.{rows_at}
-use Rattle.places.specs.Tests.{unfit, source_tests}
-use Rattle.places.proofs.Verdicts.{rows_few}
-use Rattle.operations.specs.declared.Valued.TheVariants.{Value}
+use Rattle.verdict.proofs.Verdicts.{when-passed}
 use Rattle.operations.specs.Operations.{minor_at, set_tests}
 use Rattle.operations.specs.Reports.{valued_report}
-use Rattle.operations.proofs.MinorCalls.{sets-passed, minor-turned, minor-outside, minor-done, minor-is, minor-workable, in-range-small}
-use borrow.Author.Tests.{not-true, not-false}
-use mathlib.Core.Bool.{not}
-use mathlib.Core.Path.{ap}
+use Rattle.operations.proofs.MinorCalls.{range, sets-passed, minor-turned, minor-ranged, minor-outside, minor-done, minor-is, minor-workable, in-range-small}
 use Rattle.operations.proofs.minor.Goals as goal
-use Rattle.operations.proofs.minor.Goals.{After-minor-a, After-test-v, Else-beyond, In_default}
+use Rattle.operations.proofs.minor.Goals.{After-minor-a, After-refuse_if, In_ok-sets}
 
-tested : (c : After-test-v) → (let a = c.args in c.test-v.result ≡ first_of (set_tests a.shelf a.place a.rows a.columns))
-tested c = let a = c.args in
-    choice-verdict (source_tests a.shelf a.place) c.source-v.ensures
-    (c.unfit.ensures
-    ∙ ap (λ (n : ℕ). unfit n c.wide-i.result c.wide-j.result) c.rows_at-n.ensures
-    ∙ ap₂ (unfit (rows_at a.shelf a.place)) c.wide-i.ensures.value c.wide-j.ensures.value) c.test-v.ensures
+passed : (c : In_ok-sets) → (let a = c.args in first_of (set_tests a.shelf a.place a.rows a.columns) ≡ Ok tt)
+passed c = let a = c.args in sym c.sets.ensures ∙ c.in_ok-sets.was
 
-tested_at_In_default : (c : In_default) → (let a = c.args in c.test-v.result ≡ first_of (set_tests a.shelf a.place a.rows a.columns))
-tested_at_In_default c = let a = c.args in
-    choice-verdict (source_tests a.shelf a.place) c.source-v.ensures
-    (c.unfit.ensures
-    ∙ ap (λ (n : ℕ). unfit n c.wide-i.result c.wide-j.result) c.rows_at-n.ensures
-    ∙ ap₂ (unfit (rows_at a.shelf a.place)) c.wide-i.ensures.value c.wide-j.ensures.value) c.test-v.ensures
+value : (c : After-minor-a) → (let a = c.args in c.minor-a.result ≡ minor_at a.shelf a.place a.rows a.columns)
+value c =
+    let a = c.args in
+    minor-is a.shelf a.place a.rows a.columns _ _ _ _ _ c.rows_at-n.ensures c.table_at.ensures refl refl c.minor-a.ensures
 
-passed : (c : In_default) → (let a = c.args in first_of (set_tests a.shelf a.place a.rows a.columns) ≡ Accepted)
-passed c = sym (tested_at_In_default c) ∙ c.in_default.is
+ranged : (c : After-refuse_if) → (let a = c.args in range a.shelf a.place a.rows a.columns ≡ c.refuse_if.result)
+ranged c =
+    let a = c.args in
+    minor-ranged a.shelf a.place a.rows a.columns _ _ _ (value (goal.at.After-refuse_if c).After-minor-a) c.in_range-beyond.ensures c.refuse_if.ensures
 
-value : (c : After-minor-a)
-    → (let a = c.args in c.minor-a.result ≡ minor_at a.shelf a.place a.rows a.columns)
-value c = let a = c.args in
-    minor-is a.shelf a.place a.rows a.columns _ _ _ _ _ c.rows_at-n.ensures c.table_at.ensures
-    c.wide-i.ensures.value c.wide-j.ensures.value c.minor-a.ensures
-
-ranged : (c : Else-beyond) → in_range c.minor-a.result ≡ true
-ranged c = sym c.in_range-beyond.ensures ∙ not-false _ (ap not c.if-beyond.false)
-
-pub unfit-requires : goal.unfit-requires
-unfit-requires c = (
-  rw c.rows_at-n.ensures (rows_few _ c.requires c.args.place),
-  c.wide-i.ensures.upper_bound,
-  c.wide-j.ensures.upper_bound,
-)
-
-pub returns-in-Refused : goal.returns-in-Refused
-returns-in-Refused c = let a = c.args in
-    minor-turned a.shelf a.place a.rows a.columns _ (sym (tested (goal.at.returns-in-Refused c).After-test-v) ∙ c.in-Refused.is)
+pub returns-in_err-sets : goal.returns-in_err-sets
+returns-in_err-sets c =
+    let a = c.args in
+    let e : c.from_residual.result ≡ Err c.in_err-sets.field-0.0 = search rules in
+    ap valued_report e
+    ∙ minor-turned a.shelf a.place a.rows a.columns _ (sym c.sets.ensures ∙ c.in_err-sets.was)
 
 pub table_at-requires : goal.table_at-requires
-table_at-requires c = let a = c.args in
-    (sets-passed a.shelf a.place a.rows a.columns (passed c)).0.small
+table_at-requires c =
+    let a = c.args in
+    (sets-passed a.shelf a.place a.rows a.columns (passed (goal.at.table_at-requires c).In_ok-sets)).0.small
 
 pub minor-a-requires : goal.minor-a-requires
-minor-a-requires c = let a = c.args in let p = sets-passed a.shelf a.place a.rows a.columns (passed (goal.at.minor-a-requires c).In_default) in record {
-  le_n = (minor-workable a.shelf a.place a.rows a.columns _ _ _ _ c.rows_at-n.ensures c.wide-i.ensures.value
-      c.wide-j.ensures.value c.table_at.ensures c.requires p.0 p.1).0;
-  i_bound = (minor-workable a.shelf a.place a.rows a.columns _ _ _ _ c.rows_at-n.ensures c.wide-i.ensures.value
-      c.wide-j.ensures.value c.table_at.ensures c.requires p.0 p.1).1;
-}
+minor-a-requires c =
+    let a = c.args in
+    let p = sets-passed a.shelf a.place a.rows a.columns (passed (goal.at.minor-a-requires c).In_ok-sets) in
+    let met =
+    minor-workable a.shelf a.place a.rows a.columns _ _ _ _ c.rows_at-n.ensures refl refl c.table_at.ensures c.requires p.0 p.1 in
+    record { le_n = met.0; sets = met.1 }
 
-pub returns-then-beyond : goal.returns-then-beyond
-returns-then-beyond c = let a = c.args in
-    minor-outside a.shelf a.place a.rows a.columns (passed (goal.at.returns-then-beyond c).In_default)
-    (sym (ap in_range (value (goal.at.returns-then-beyond c).After-minor-a)) ∙ sym c.in_range-beyond.ensures ∙ not-true _ (ap not c.if-beyond.true))
+pub returns-in_err-refuse_if : goal.returns-in_err-refuse_if
+returns-in_err-refuse_if c =
+    let a = c.args in
+    let e : c.from_residual-in_err-refuse_if.result ≡ Err c.in_err-refuse_if.field-0.0 = search rules in
+    ap valued_report e
+    ∙ minor-outside a.shelf a.place a.rows a.columns (passed (goal.at.returns-in_err-refuse_if c).In_ok-sets) _
+    (ranged (goal.at.returns-in_err-refuse_if c).After-refuse_if ∙ c.in_err-refuse_if.was)
 
 pub exponent-requires : goal.exponent-requires
-exponent-requires c = in-range-small _ (ranged c)
+exponent-requires c =
+    in-range-small _
+    (sym c.in_range-beyond.ensures ∙ not-false _ (when-passed _ ExponentOutOfRange (sym c.refuse_if.ensures ∙ c.in_ok-refuse_if.was)))
 
 pub returns : goal.returns
 returns c =
     let a = c.args in
+    let e = value (goal.at.returns c).After-minor-a in
     let f : SFits w64 c.exponent.result = record { sfits = c.exponent.type_inv } in
-    ap₂ (λ (x : Number) (e' : ℤ). let r : Report = valued_report (Value x.m e') in r) (value (goal.at.returns c).After-minor-a)
-    (to_z-of_z f ∙ c.exponent.ensures ∙ ap exponent_of (value (goal.at.returns c).After-minor-a))
-    ∙ minor-done a.shelf a.place a.rows a.columns (passed (goal.at.returns c).In_default)
-    (sym (ap in_range (value (goal.at.returns c).After-minor-a)) ∙ ranged (goal.at.returns c).Else-beyond)
+    ap₂ (λ (x : Number) (y : ℤ). let r : Report = valued_report (Ok (record { mantissa = x.m; exponent = y })) in r) e
+    (to_z-of_z f ∙ c.exponent.ensures ∙ ap exponent_of e)
+    ∙ minor-done a.shelf a.place a.rows a.columns (passed (goal.at.returns c).In_ok-sets)
+    (ranged (goal.at.returns c).After-refuse_if ∙ c.in_ok-refuse_if.was)

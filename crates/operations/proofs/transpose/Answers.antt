@@ -2,9 +2,6 @@
 use Rattle.operations.proofs.Proposals.{transpose-kept}
 use Rattle.operations.proofs.transpose.Goals as goal
 
-pub keep-requires : goal.keep-requires
-keep-requires c = (c.requires, c.transposed.ensures.keepable)
-
 pub returns : goal.returns
 returns c =
     let a = c.args in

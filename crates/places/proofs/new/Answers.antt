@@ -14,4 +14,4 @@ filled z = record { numbers = replicate 512 z; sizes = replicate 8 0 }
 
 pub returns : goal.returns
 unfolding empty_shelf
-returns c = let e = ap filled c.zero-zero.ensures in record { value = e; good = subst Good (sym e) good-empty }
+returns c = let e = ap filled c.zero.ensures in record { value = e; good = subst Good (sym e) good-empty }

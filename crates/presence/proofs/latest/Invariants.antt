@@ -6,7 +6,4 @@ use Rattle.presence.proofs.Search.{passes}
 use Rattle.presence.proofs.latest.Given as goal
 
 abbrev pub invariant-loop-s : goal.invariant-loop-s
-invariant-loop-s l = (l.s ≤ 2 ^ (l.i - 1)) × ((x : ℕ) → l.s ≤ x → x < 2 ^ (l.i - 1) → passes l.v l.p l.k l.c x ≡ false)
-
-abbrev pub decreases-loop-s : goal.decreases-loop-s
-decreases-loop-s l = l.s
+invariant-loop-s l = (x : ℕ) → l.s ≤ x → x < 2 ^ (l.i - 1) → passes l.v l.p l.k l.c x ≡ false

@@ -1,10 +1,10 @@
--- `difference` meets its contract: by which is larger.
-use mathlib.Core.Path.{sym, ◌∙◌}
-use Rattle.rests.proofs.Parts.{rest-above, rest-not-above}
+-- `difference` meets its contract: the distance, negative where the second is larger.
+use mathlib.Core.Path.{ap, ◌∙◌}
+use Prim.Native.Nat.{ℕ}
+use lib.Dec.{ltb}
+use Rattle.rests.specs.Rest.{odd_part}
+use Rattle.rests.proofs.Parts.{rest-apart}
 use Rattle.rests.proofs.difference.Goals as goal
 
-pub returns-then-p-q : goal.returns-then-p-q
-returns-then-p-q c = c.odd_part.ensures ∙ sym (rest-above _ _ _ c.if-p-q.true)
-
 pub returns : goal.returns
-returns c = c.odd_part-2.ensures ∙ sym (rest-not-above _ _ _ c.if-p-q.false)
+returns c = let a = c.args in c.odd_part.ensures ∙ ap (λ (n : ℕ). odd_part (ltb a.p a.q) n a.x) c.abs_diff.ensures ∙ rest-apart a.p a.q a.x

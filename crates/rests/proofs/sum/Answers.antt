@@ -18,7 +18,7 @@ units c = ap (λ (u : ℕ). c.add-number.result.m * u) c.power.ensures ∙ ap (�
 
 pub returns-then-k-gt32 : goal.returns-then-k-gt32
 returns-then-k-gt32 c = ap₂ (λ (n : Number) (t' : Rest). record { number = n; rest = t' }) c.add-number.ensures.value
-    (c.odd_part.ensures ∙ sym (far-rest _ _ c.requires.0 c.requires.1 c.if-k-gt32.true))
+    (c.odd_part-rest.ensures ∙ sym (far-rest _ _ c.requires.0 c.requires.1 c.if-k-gt32.true))
 
 pub overflow_sub-number : goal.overflow_sub-number
 overflow_sub-number c = rw c.add-number.ensures.value (sum-start _ _ c.requires.0 c.requires.1)
@@ -32,12 +32,13 @@ overflow_mul-more c = omega (arith, units (goal.at.overflow_mul-more c).After-po
 pub overflow_sub-more : goal.overflow_sub-more
 overflow_sub-more c = omega (arith, units (goal.at.overflow_sub-more c).After-power, more-fits _ _ c.requires.0 c.requires.1)
 
-pub overflow_mul-more-2 : goal.overflow_mul-more-2
-overflow_mul-more-2 c = let e = ap₂ (λ (u v : ℕ). (u - c.args.a.m) * v) (units (goal.at.overflow_mul-more-2 c).After-power) c.power-2.ensures in
+pub overflow_mul-more-else-k-gt32 : goal.overflow_mul-more-else-k-gt32
+overflow_mul-more-else-k-gt32 c = let e =
+    ap₂ (λ (u v : ℕ). (u - c.args.a.m) * v) (units (goal.at.overflow_mul-more-else-k-gt32 c).After-power) c.power-else-k-gt32.ensures in
     omega (arith, e, more-small _ _ c.requires.0 c.requires.1, c.requires.0.second.high)
 
-pub returns : goal.returns
-returns c = ap₂ (λ (n : Number) (t' : Rest). record { number = n; rest = t' }) c.add-number.ensures.value
-    (c.difference.ensures
-    ∙ ap₂ (λ (u v : ℕ). rest_of c.args.b.m ((u - c.args.a.m) * v) c.args.b.x) (units (goal.at.returns c).After-power) c.power-2.ensures
+pub returns-else-k-gt32 : goal.returns-else-k-gt32
+returns-else-k-gt32 c = ap₂ (λ (n : Number) (t' : Rest). record { number = n; rest = t' }) c.add-number.ensures.value
+    (c.difference-rest.ensures
+    ∙ ap₂ (λ (u v : ℕ). rest_of c.args.b.m ((u - c.args.a.m) * v) c.args.b.x) (units (goal.at.returns-else-k-gt32 c).After-power) c.power-else-k-gt32.ensures
     ∙ sym (sum-rest c.args.a c.args.b c.requires.0 c.requires.1))

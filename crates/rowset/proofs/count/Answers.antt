@@ -5,9 +5,9 @@ use Rattle.rowset.proofs.Counts.{count_to-le}
 use Rattle.rowset.proofs.Shifts.{ones-count}
 use Rattle.rowset.proofs.count.Goals as goal
 
-pub overflow_cast-result-2 : goal.overflow_cast-result-2
+pub overflow_cast-result : goal.overflow_cast-result
 unfolding mask_count
-overflow_cast-result-2 c = omega (arith, ones-count c.args.s c.requires, count_to-le 8 c.args.s)
+overflow_cast-result c = omega (arith, ones-count c.args.s c.requires, count_to-le 8 c.args.s)
 
 pub returns : goal.returns
 unfolding mask_count

@@ -7,4 +7,4 @@ use Rattle.sentences.proofs.put_sentence.Goals as goal
 pub returns : goal.returns
 unfolding sentence_of
 returns c = puts-behind c.put_front-space.ensures
-    (puts-behind {a = ascii " "} c.put-reason.ensures (puts-behind c.put-end.ensures c.put_places.ensures))
+    (puts-behind {a = ascii " "} c.put-reason.ensures (puts-behind (rw c.reason_of.ensures at c.put-end.ensures) c.put_places.ensures))

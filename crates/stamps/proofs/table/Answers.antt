@@ -1,20 +1,16 @@
--- `table` meets its contract. The invariant: the first k cells are those of the table.
-use mathlib.Core.Path.{refl}
-use Rattle.number.specs.Number.{zero_number}
-use Rattle.arrays.proofs.Filled.{filled_none, filled_more}
-use Rattle.table.proofs.Table.{table_filled}
+-- `table` meets its contract: the stamps have passed the test (`timed`), and each cell is that of the table.
+use lib.ListN.{length}
+use Rattle.table.specs.Table.{absent, cell_at}
+use Rattle.table.proofs.Made.{made}
+use Rattle.table.proofs.Table.{table-cells}
+use Rattle.stamps.specs.Stamps.{built_factors}
 use Rattle.stamps.proofs.Timed.{timed}
 use borrow.Author.Rules.{rules}
 use Rattle.stamps.proofs.table.Goals as goal
 
-pub loop-k-init : goal.loop-k-init
-loop-k-init c = filled_none zero_number _ 64 _ refl
-
-pub cell-requires : goal.cell-requires
-cell-requires c = (timed _ c.requires, search rules)
-
-pub loop-k-preserved : goal.loop-k-preserved
-loop-k-preserved c = filled_more zero_number _ 64 c.loop-k.invariant c.loop-k-test.true _ c.cell.ensures
+pub invariant_of-stamps : goal.invariant_of-stamps
+invariant_of-stamps c = record { timed = timed _ c.requires }
 
 pub returns : goal.returns
-returns c = table_filled _ _ c.loop-k.invariant c.loop-k-test.false
+returns c = let L = c.args.stamps.now in let b = built_factors L in let w = c.from_fn.ensures.items in
+    table-cells (length L) b absent c.from_fn.result w.long (made (cell_at (length L) b) (λ x r q e. (search rules, search rules)) _ absent w)

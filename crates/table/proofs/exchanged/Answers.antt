@@ -1,16 +1,16 @@
--- `exchanged` meets its contract. The invariant: the first k cells are those of the exchange.
-use mathlib.Core.Path.{refl}
-use Rattle.number.specs.Number.{zero_number}
-use Rattle.arrays.proofs.Filled.{filled_none, filled_more}
-use Rattle.table.proofs.Table.{table_filled, exchanged-cell}
+-- `exchanged` meets its contract: each cell is that of the exchange.
+use mathlib.Core.Path.{◌∙◌}
+use Prim.Native.Nat.{ℕ, ◌+◌, ◌*◌, ◌/◌, ◌%◌}
+use lib.ListN.{get_or}
+use Rattle.words.specs.Word.{exchanged}
+use Rattle.table.specs.Table.{absent, factors_of}
+use Rattle.table.proofs.Made.{made}
+use Rattle.table.proofs.Table.{table-cells, exchanged-cell}
 use borrow.Author.Rules.{rules}
 use Rattle.table.proofs.exchanged.Goals as goal
 
-pub loop-k-init : goal.loop-k-init
-loop-k-init c = filled_none zero_number _ 64 _ refl
-
-pub loop-k-preserved : goal.loop-k-preserved
-loop-k-preserved c = filled_more zero_number _ 64 c.loop-k.invariant c.loop-k-test.true _ (exchanged-cell _ _ (search rules) c.loop-k-test.true)
-
 pub returns : goal.returns
-returns c = table_filled 8 _ c.loop-k.invariant c.loop-k-test.false
+returns c = let t = c.args.t in let w = c.from_fn.ensures.items in
+    table-cells 8 (exchanged (factors_of t)) absent c.from_fn.result w.long
+    (λ k l. made (λ (i : ℕ). get_or t (i % 8 * 8 + i / 8) absent) (λ x r q e. (search rules, search rules)) _ absent w k l
+    ∙ exchanged-cell t k (search rules) l)

@@ -1,30 +1,24 @@
--- `outside` meets its contract. The invariant: the first k numbers are in range.
-use native.Mathlib.Decide.{ℕ_discrete}
-use native.Mathlib.Omega.{arith}
-use mathlib.Core.Path.{sym, ◌∙◌}
-use borrow.Author.Tests.{not-true, not-false}
-use Rattle.table.specs.Table.{absent}
-use Rattle.table.proofs.Ranges.{outside-all, outside-some}
+-- `outside` meets its contract: `any` asks each number in turn, as the definition does.
+use mathlib.Core.Path.{refl, ◌∙◌}
+use mathlib.Core.Bool.{not, ◌||◌}
+use mathlib.Core.Path.{◌≡◌}
+use mathlib.Core.List.{List}
 use borrow.Author.Rules.{rules}
-use mathlib.Core.Bool.{not}
-use mathlib.Core.Path.{ap}
+use Rattle.std.proofs.Common.{tests}
+use Rattle.std.specs.List.{list_any}
+use Rattle.std.proofs.lemmas.Iterator.{YieldsList-from_slice}
+use Rattle.std.proofs.lemmas.Iterator.Search.{any_from_yields_List}
+use Rattle.std.proofs.lemmas.List.Recursion.{same_from_clauses}
+use Rattle.number.specs.Number.{in_range}
+use Rattle.number.specs.declared.Number.{Number}
+use Rattle.table.specs.Table.{outside}
 use Rattle.table.proofs.outside.Goals as goal
 
-pub loop-k-init : goal.loop-k-init
-loop-k-init c = (search rules, λ i h. absurd (omega arith))
-
-pub returns-then-not-in_range : goal.returns-then-not-in_range
-returns-then-not-in_range c = sym (outside-some absent c.args.t _ (search rules) (sym c.in_range.ensures ∙ not-true _ (ap not c.if-not-in_range.true)))
-
-pub loop-k-preserved : goal.loop-k-preserved
-loop-k-preserved c = (
-  omega arith,
-  λ i h.
-      elim (ℕ_discrete i c.loop-k.k) [
-        | yes e ↦ rw e (sym c.in_range.ensures ∙ not-false _ (ap not c.if-not-in_range.false))
-        | no e ↦ c.loop-k.invariant.1 i (omega arith)
-      ],
-)
+asked : (L : List Number) → list_any (λ a. not (in_range a)) L ≡ outside L
+unfolding outside
+asked = same_from_clauses (list_any (λ a. not (in_range a))) outside (λ a t. not (in_range a) || t) refl (λ a L. refl) (λ a L. refl)
 
 pub returns : goal.returns
-returns c = sym (outside-all absent c.args.t (λ i h. c.loop-k.invariant.1 i (omega (arith, c.loop-k-test.false))))
+returns c =
+    any_from_yields_List (λ a. not (in_range a)) _ _ _ c.any.ensures.ran (YieldsList-from_slice c.args.t cc) (λ x b q k. search (rules, tests))
+    ∙ asked c.args.t

@@ -16,7 +16,7 @@ returns-then-is_good c =
     let a = c.args in
     let passed = c.if-is_good.true in
     let good = c.is_good.ensures.good passed in
-    let own = c.filled.ensures ∙ ap answer_of c.build.ensures.result_value in
+    let own = c.into.ensures ∙ ap answer_of c.build.ensures.result_value in
     let ran = answered a.shelf (build a.target a.stamps.now) answer_of c.is_good.ensures.value passed own in
     let met = with-promise (λ s k e. Built s a.target a.stamps.now k) _ _ ran (build-answered a.shelf good a.target a.stamps.now) in
     record { value = met.0; built_answer = met.1 }

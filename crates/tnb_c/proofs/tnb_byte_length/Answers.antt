@@ -17,10 +17,10 @@ length-requires c = c.is_good.ensures.good c.if-is_good.true
 pub returns-then-is_good : goal.returns-then-is_good
 unfolding run
 returns-then-is_good c =
-    let is = answered _ (byte_length _) answer c.is_good.ensures.value c.if-is_good.true (c.written.ensures ∙ ap length_of c.length.ensures.result_value) in
+    let is = answered _ (byte_length _) answer c.is_good.ensures.value c.if-is_good.true (c.into.ensures ∙ ap length_of c.length.ensures.result_value) in
     record { value = is; measured_answer = measured-answered _ (c.is_good.ensures.good c.if-is_good.true) _ _ is }
 
 pub returns : goal.returns
 returns c =
-    let is = turned-away _ (byte_length _) answer c.is_good.ensures.value c.if-is_good.false c.no_length.ensures in
+    let is = turned-away _ (byte_length _) answer c.is_good.ensures.value c.if-is_good.false c.foreign.ensures in
     record { value = is; measured_answer = away-measured _ (sym c.is_good.ensures.value ∙ c.if-is_good.false) _ _ is }

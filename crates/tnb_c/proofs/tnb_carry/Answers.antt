@@ -22,7 +22,7 @@ returns-then-is_good c =
     let good = c.if-is_good.true in
     let e =
     with-steady a.shelf a.place a.items.now a.out.now _ _ (carry-answered a.shelf a.place a.items.now a.out.now (c.is_good.ensures.good good))
-    (answered _ (carry a.place a.items.now a.out.now) answer tested good (c.carried.ensures ∙ ap status_of c.carry.ensures.result_value))
+    (answered _ (carry a.place a.items.now a.out.now) answer tested good (c.into.ensures ∙ ap status_of c.carry.ensures.result_value))
     (answered _ (carry a.place a.items.now a.out.now) (λ (x : Outcome). x.items) tested good c.carry.ensures.out_after)
     in
     record { value = e.0; out_after = e.1.0; steady_status = e.1.1 }
@@ -34,7 +34,7 @@ returns c =
     let away = c.if-is_good.false in
     let e =
     with-steady a.shelf a.place a.items.now a.out.now _ _ (carry-away a.shelf a.place a.items.now a.out.now (sym tested ∙ away))
-    (turned-away _ (carry a.place a.items.now a.out.now) answer tested away refl)
+    (turned-away _ (carry a.place a.items.now a.out.now) answer tested away c.foreign.ensures)
     (turned-away _ (carry a.place a.items.now a.out.now) (λ (x : Outcome). x.items) tested away refl)
     in
     record { value = e.0; out_after = e.1.0; steady_status = e.1.1 }

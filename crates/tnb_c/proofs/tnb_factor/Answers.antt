@@ -15,7 +15,7 @@ factor_at-requires c = c.is_good.ensures.good c.if-is_good.true
 
 pub returns-then-is_good : goal.returns-then-is_good
 unfolding run
-returns-then-is_good c = answered _ (factor _ _ _) answer c.is_good.ensures.value c.if-is_good.true (c.factor.ensures ∙ ap value_of c.factor_at.ensures)
+returns-then-is_good c = answered _ (factor _ _ _) answer c.is_good.ensures.value c.if-is_good.true (c.into.ensures ∙ ap value_of c.factor_at.ensures)
 
 pub returns : goal.returns
-returns c = turned-away _ (factor _ _ _) answer c.is_good.ensures.value c.if-is_good.false c.no_value.ensures
+returns c = turned-away _ (factor _ _ _) answer c.is_good.ensures.value c.if-is_good.false c.foreign.ensures

@@ -15,7 +15,7 @@ returns-then-is_good c =
     let a = c.args in
     let passed = c.if-is_good.true in
     let good = c.is_good.ensures.good passed in
-    let own = c.operated.ensures ∙ ap answer_of c.inverse.ensures.result_value in
+    let own = c.into.ensures ∙ ap answer_of c.inverse.ensures.result_value in
     let ran = answered a.shelf (inverse a.source a.target) answer_of c.is_good.ensures.value passed own in
     let met = with-demand _ a.target _ _ _ ran (inverse-answered a.shelf good a.source a.target) in
     record { value = met.0; answered = met.1 }

@@ -15,7 +15,7 @@ minor-requires c = c.is_good.ensures.good c.if-is_good.true
 
 pub returns-then-is_good : goal.returns-then-is_good
 unfolding run
-returns-then-is_good c = answered _ (minor _ _ _) answer c.is_good.ensures.value c.if-is_good.true (c.valued.ensures ∙ ap value_of c.minor.ensures)
+returns-then-is_good c = answered _ (minor _ _ _) answer c.is_good.ensures.value c.if-is_good.true (c.into.ensures ∙ ap value_of c.minor.ensures)
 
 pub returns : goal.returns
-returns c = turned-away _ (minor _ _ _) answer c.is_good.ensures.value c.if-is_good.false c.no_value.ensures
+returns c = turned-away _ (minor _ _ _) answer c.is_good.ensures.value c.if-is_good.false c.foreign.ensures

@@ -17,7 +17,7 @@ answer x = length_of x.report
 pub returns-then-is_good : goal.returns-then-is_good
 unfolding run
 returns-then-is_good c = let read = ap (λ (k : ℕ). length_of (accepted (pos k ∷ []))) c.rows_at.ensures in
-    answered _ (rows _) answer c.is_good.ensures.value c.if-is_good.true (c.length.ensures ∙ read)
+    answered _ (rows _) answer c.is_good.ensures.value c.if-is_good.true (c.of.ensures ∙ read)
 
 pub returns : goal.returns
-returns c = turned-away _ (rows _) answer c.is_good.ensures.value c.if-is_good.false c.no_length.ensures
+returns c = turned-away _ (rows _) answer c.is_good.ensures.value c.if-is_good.false c.foreign.ensures

@@ -10,7 +10,7 @@ pub returns : goal.returns
 returns c =
     let handed = notice c.args.number c.args.offset c.args.places.now in
     let bits : Bits64 handed = record { number = c.ranges.number.fits; offset = c.ranges.offset.fits; places = λ i. (c.type_inv.places i).fits } in
-    let report = c.written.ensures ∙ ap length_of c.sentence.ensures.result_value in
+    let report = c.into.ensures ∙ ap length_of c.sentence.ensures.result_value in
     record {
       value = report;
       out_after = c.sentence.ensures.out_after;

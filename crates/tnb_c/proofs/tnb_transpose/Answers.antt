@@ -11,7 +11,7 @@ transpose-requires c = c.is_good.ensures.good c.if-is_good.true
 pub returns-then-is_good : goal.returns-then-is_good
 unfolding run
 returns-then-is_good c =
-    answered _ (transpose _ _) answer_of c.is_good.ensures.value c.if-is_good.true (c.operated.ensures ∙ ap answer_of c.transpose.ensures.result_value)
+    answered _ (transpose _ _) answer_of c.is_good.ensures.value c.if-is_good.true (c.into.ensures ∙ ap answer_of c.transpose.ensures.result_value)
 
 pub returns : goal.returns
 returns c = turned-away _ (transpose _ _) answer_of c.is_good.ensures.value c.if-is_good.false c.foreign.ensures

@@ -17,13 +17,13 @@ pub returns-then-is_good : goal.returns-then-is_good
 unfolding run
 returns-then-is_good c =
     record {
-      value = answered _ (write _ _) answer c.is_good.ensures.value c.if-is_good.true (c.written.ensures ∙ ap length_of c.write.ensures.result_value);
+      value = answered _ (write _ _) answer c.is_good.ensures.value c.if-is_good.true (c.into.ensures ∙ ap length_of c.write.ensures.result_value);
       out_after = answered _ (write _ _) (λ (x : Outcome). x.bytes) c.is_good.ensures.value c.if-is_good.true c.write.ensures.out_after;
     }
 
 pub returns : goal.returns
 returns c =
     record {
-      value = turned-away _ (write _ _) answer c.is_good.ensures.value c.if-is_good.false c.no_length.ensures;
+      value = turned-away _ (write _ _) answer c.is_good.ensures.value c.if-is_good.false c.foreign.ensures;
       out_after = turned-away _ (write _ _) (λ (x : Outcome). x.bytes) c.is_good.ensures.value c.if-is_good.false refl;
     }

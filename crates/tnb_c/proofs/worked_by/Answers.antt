@@ -4,5 +4,5 @@ use Rattle.tnb_c.proofs.worked_by.Goals as goal
 
 pub returns : goal.returns
 returns c =
-    let met = logged-answer _ _ _ c.arithmetic.result c.arithmetic.ensures.result_value c.arithmetic.ensures.logged c.worked.ensures in
+    let met = logged-answer _ _ _ c.arithmetic.result c.arithmetic.ensures.result_value c.arithmetic.ensures.logged c.into.ensures in
     record { value = met.0; logged_answer = met.1 }

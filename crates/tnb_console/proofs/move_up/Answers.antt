@@ -1,13 +1,16 @@
--- `tnb_console::move_up` meets its contract: the first k bytes are moved, and those from `start` + k on not yet reached (`Moved`).
-use Rattle.tnb_console.proofs.Moves.{moved_none, moved_more, moved-end}
-use borrow.Author.Rules.{rules}
+-- `tnb_console::move_up` meets its contract: what was moved stands in front.
+use Prim.Native.Nat.{◌-◌}
+use native.Mathlib.Omega.{arith}
+use mathlib.Core.Path.{◌≡◌, ◌∙◌}
+use lib.ListN.{length, take, drop, length-drop}
+use lib.Seq.{length-take-le, take_at}
+use Rattle.tnb_console.proofs.Moves.{take-drop}
 use Rattle.tnb_console.proofs.move_up.Goals as goal
 
-pub loop-k-init : goal.loop-k-init
-loop-k-init c = (moved_none _ _, search rules)
-
-pub loop-k-preserved : goal.loop-k-preserved
-loop-k-preserved c = (moved_more c.loop-k.invariant.0 (search rules), search rules)
-
-pub returns : goal.returns
-returns c = record { input_after = moved-end _ c.loop-k.invariant.0 (search rules); upper_bound = search rules }
+pub returns-clause-input_after : goal.returns-clause-input_after
+returns-clause-input_after c =
+    let old = c.args.input.now in
+    let moved = take (c.args.n - c.args.start) (drop c.args.start old) in
+    let l : length moved ≡ c.args.n - c.args.start =
+    length-take-le (c.args.n - c.args.start) (drop c.args.start old) (omega (arith, length-drop c.args.start old, c.requires.n_in_bounds)) in
+    rw c.copy_within.ensures.after (take_at moved _ (c.args.n - c.args.start) l ∙ take-drop c.args.start c.args.n old)

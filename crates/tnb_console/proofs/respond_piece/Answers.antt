@@ -1,7 +1,5 @@
 -- `tnb_console::respond_piece` meets its contract: the text is answered, and what goes on moved to the front (`piece-answered`).
-use Prim.Native.Nat.{◌-◌}
 use native.Mathlib.Omega.{arith}
-use mathlib.Core.Path.{◌≡◌}
 use lib.ListN.{length-take}
 use Rattle.tnb_console.proofs.Going.{piece-answered}
 use Rattle.tnb_console.proofs.respond_piece.Goals as goal
@@ -12,9 +10,7 @@ hold-held-requires c =
 
 pub returns : goal.returns
 returns c =
-    let all : c.args.n - 0 ≡ c.args.n = omega arith in
-    let done = rw all at c.respond_text-state.ensures.text_answered in
     record {
       orderly_2 = c.respond_text-state.ensures.orderly_2;
-      piece_answered = piece-answered done c.hold-held.result _ c.hold-held.ensures.input_after c.hold-held.ensures.upper_bound;
+      piece_answered = piece-answered c.respond_text-state.ensures.text_answered c.hold-held.result _ c.hold-held.ensures.input_after c.hold-held.ensures.upper_bound;
     }

@@ -1,11 +1,12 @@
--- The invariant and the measure in `answers::listed::put_more`: the items before index k are put.
-use Prim.Native.Nat.{◌-◌}
-use lib.ListN.{length}
-use Rattle.answers.proofs.Lists.{Listed}
+-- The invariant in `answers::listed::put_more`: the items in front of those that are left are put.
+use mathlib.Core.Path.{◌≡◌}
+use Rattle.std.specs.Slice.Iter.{chunks_exact_size, chunks_exact_rest}
+use Rattle.lines.proofs.Text.{Left}
+use Rattle.answers.specs.Items.{more_items}
 use Rattle.answers.proofs.listed.put_more.Given as goal
 
-abbrev pub invariant-loop-k : goal.invariant-loop-k
-invariant-loop-k l = Listed l.list l.initial.out l.at l.out l.to l.k
-
-abbrev pub decreases-loop-k : goal.decreases-loop-k
-decreases-loop-k l = length l.list - l.k
+abbrev pub invariant-loop-item : goal.invariant-loop-item
+invariant-loop-item l = record {
+  size : chunks_exact_size l.item-iterator ≡ 3;
+  left : Left l.initial.out l.at (more_items l.list) l.out l.to (more_items (chunks_exact_rest l.item-iterator));
+}

@@ -1,21 +1,18 @@
--- `answers::put_row` meets its contract. The loop's invariant: j of the n factors are put.
+-- `answers::put_row` meets its contract. The loop's invariant: the factors before column j are put.
 use mathlib.Core.List.{[]}
 use native.Mathlib.Omega.{arith}
 use Rattle.answers.specs.Matrix.{row_text}
 use Rattle.answers.proofs.Reports.{puts-report}
-use Rattle.answers.proofs.Turns.{turns-none, turns_more, turns-end}
+use Rattle.answers.proofs.Turns.{turns_more, turns-end}
 use Rattle.answers.proofs.matrix.put_row.Goals as goal
 
-pub loop-j-init : goal.loop-j-init
-loop-j-init c = turns-none _ _ _ _
-
 pub loop-j-preserved : goal.loop-j-preserved
-loop-j-preserved c = let factor = puts-report [] c.factor_at.ensures c.put_factor-to.ensures in
-    turns_more c.loop-j.invariant (omega arith) factor
-
-pub shape_of-out : goal.shape_of-out
-shape_of-out c = c.loop-j.invariant.left.kept
+loop-j-preserved c = turns_more c.loop-j.invariant (omega arith) (puts-report [] c.factor_at.ensures c.put_factor-to.ensures)
 
 pub returns : goal.returns
 unfolding row_text
-returns c = turns-end c.loop-j.invariant c.loop-j-test.false
+returns c = turns-end c.loop-j.invariant (omega arith)
+
+pub returns-2 : goal.returns-2
+unfolding row_text
+returns-2 c = turns-end (turns_more c.loop-j.invariant (omega arith) (puts-report [] c.factor_at.ensures c.put_factor-to.ensures)) (omega arith)

@@ -1,19 +1,15 @@
--- `lines::before` meets its contract. The loop's invariant: none of the bytes passed is the one looked for.
-use native.Mathlib.Omega.{arith}
-use Rattle.lines.proofs.Words.{searched-none, searched-end, searched-stop, searched-more}
+-- `lines::before` meets its contract: what `position` answers is how many bytes stand before the first stop.
+use mathlib.Core.Path.{◌≡◌, sym, ◌∙◌}
+use borrow.Author.Tests.{tests}
+use Rattle.std.proofs.Common.{rules}
+use Rattle.std.proofs.lemmas.Iterator.{IsFirst-from_position, YieldsList-from_slice}
+use Rattle.lines.proofs.Words.{before-first}
 use Rattle.lines.proofs.reading.before.Goals as goal
 
-pub loop-i-init : goal.loop-i-init
-loop-i-init c = searched-none _ _
-
-pub returns-then-s-i : goal.returns-then-s-i
-returns-then-s-i c = record { value = searched-stop c.loop-i.invariant (omega arith) c.if-s-i.true; upper_bound = omega arith }
-
-pub loop-i-smaller : goal.loop-i-smaller
-loop-i-smaller c = omega arith
-
-pub loop-i-preserved : goal.loop-i-preserved
-loop-i-preserved c = searched-more c.loop-i.invariant (omega arith) c.if-s-i.false
-
-pub returns : goal.returns
-returns c = record { value = searched-end c.loop-i.invariant c.loop-i-test.false; upper_bound = c.loop-i.invariant.within }
+pub returns-clause-value : goal.returns-clause-value
+returns-clause-value c =
+    let s = c.args.s.now in
+    let stop = c.args.stop in
+    c.unwrap_or.ensures ∙ sym (before-first stop s c.position.result
+    (IsFirst-from_position _ _ _ (λ b. b ≡ stop) (λ b. b ≡ stop → ⊥) c.position.ensures.ran (YieldsList-from_slice s cc)
+    (λ x q k. search (rules, tests)) (λ x q k. search (rules, tests))))

@@ -3,17 +3,11 @@ use native.Mathlib.Omega.{arith}
 use Rattle.lines.proofs.Text.{spelt-none, spelt-end, spelt-more}
 use Rattle.lines.proofs.writing.put_pairs.Goals as goal
 
-pub loop-i-init : goal.loop-i-init
-loop-i-init c = spelt-none _ _ _ _
+pub loop-b-init : goal.loop-b-init
+loop-b-init c = spelt-none _ _ _ _
 
-pub loop-i-smaller : goal.loop-i-smaller
-loop-i-smaller c = omega arith
-
-pub loop-i-preserved : goal.loop-i-preserved
-loop-i-preserved c = spelt-more _ c.loop-i.invariant 0 (omega arith) c.put_pair-to.ensures
-
-pub shape_of-out : goal.shape_of-out
-shape_of-out c = c.loop-i.invariant.left.kept
+pub loop-b-preserved : goal.loop-b-preserved
+loop-b-preserved c = spelt-more _ c.loop-b.invariant 0 (omega arith) c.put_pair-to.ensures
 
 pub returns : goal.returns
-returns c = spelt-end _ c.loop-i.invariant c.loop-i-test.false
+returns c = spelt-end _ c.loop-b.invariant (omega arith)

@@ -38,10 +38,10 @@ held c =
     (carries-ranged a.n (signed_word a.n (factors_of a.b)) (ranged-letters a.n (factors_of a.b) p.3)
     c.loop-t.t 1000 (omega arith) p.2 c.loop-t.invariant.1)
 
-pub letter-x-requires : goal.letter-x-requires
-letter-x-requires c = record {
+pub letter-requires : goal.letter-requires
+letter-requires c = record {
   le_n = (c.requires.0, c.requires.1, omega (arith, c.loop-t.invariant.0, c.loop-t-test.true));
-  items_ranged = (items-ranged-more (omega arith) (held (goal.at.letter-x-requires c).At-loop-t), c.requires.3);
+  items_ranged = (items-ranged-more (omega arith) (held (goal.at.letter-requires c).At-loop-t), c.requires.3);
 }
 
 pub loop-t-preserved : goal.loop-t-preserved
@@ -55,7 +55,7 @@ loop-t-preserved c =
       carries-letter a.n (signed_word a.n (factors_of a.b)) (ranged-letters a.n (factors_of a.b) p.3) (c.loop-t.t - 1) (D (λ i. zero_signed))
           (omega (arith, signed-length a.b a.n p.0 p.1, c.loop-t.invariant.0))
           (subst (λ (k : ℕ). Carries a.n (drop k (signed_word a.n (factors_of a.b))) a.v c.loop-t.u) e c.loop-t.invariant.1)
-          c.letter-x.ensures,
+          c.letter.ensures,
     )
 
 pub returns : goal.returns

@@ -9,6 +9,3 @@ use Rattle.lists.proofs.carrying.through.Given as goal
 
 abbrev pub invariant-loop-t : goal.invariant-loop-t
 invariant-loop-t l = (l.t ≤ 2 * middle l.n + 1) × Carries l.n (drop l.t (signed_word l.n (factors_of l.b))) l.initial.u l.u
-
-abbrev pub decreases-loop-t : goal.decreases-loop-t
-decreases-loop-t l = l.t

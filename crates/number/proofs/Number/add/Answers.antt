@@ -3,13 +3,13 @@ use mathlib.Core.Path.{◌≡◌, refl, sym, ◌∙◌, subst}
 use Prim.Native.Nat.{◌+◌, ◌-◌, ◌*◌, ◌^◌, ◌≤◌, ◌<◌}
 use native.Mathlib.Omega.{arith}
 use Rattle.fraction.specs.Fraction.{fraction_sum}
-use Rattle.number.specs.Number.{value, reach, round_by, sum_by}
+use Rattle.number.specs.Number.{value, reach, round_by, sum_by, FullDigits}
 use Rattle.number.specs.Toward.{Directed}
 use Rattle.number.specs.declared.Number.{Number}
 use Rattle.number.proofs.Toward.{lawful}
 use Rattle.number.proofs.Zero.{sum-zero-left, sum-zero-right, sum-ordered}
 use Rattle.number.proofs.Number.add.Goals as goal
-use Rattle.number.proofs.Number.add.Goals.{After-either-4, Start}
+use Rattle.number.proofs.Number.add.Goals.{After-either_number-2, Start}
 
 -- the sum keeps the laws of its direction
 promised : (s : Start) (r : Number) → let a = s.args in r ≡ sum_by a.direction a.self a.other
@@ -33,17 +33,13 @@ returns-then-other-eq0 c =
     record { value = met.0; directed = met.1 }
 
 -- the operands as they were chosen
-chosen : (c : After-either-4) → ((2 ^ 31 ≤ c.either.result) × (c.either.result < 2 ^ 32) × (c.either-3.result < 2 ^ 32) ×
-    (c.either-4.result ≤ c.either-2.result) × (32 ≤ c.either-4.result) × (c.either-2.result < 2 ^ 61))
-    × (round_by c.args.direction (c.either.result * 2 ^ (c.either-2.result - c.either-4.result) + c.either-3.result) 1 c.either-4.result
-    ≡ sum_by c.args.direction c.args.self c.args.other)
+chosen : (c : After-either_number-2) → let h = c.either_number.result in let l = c.either_number-2.result in
+    (FullDigits h.m × (l.m < 2 ^ 32) × (l.x ≤ h.x) × (32 ≤ l.x) × (h.x < 2 ^ 61))
+    × (round_by c.args.direction (h.m * 2 ^ (h.x - l.x) + l.m) 1 l.x ≡ sum_by c.args.direction c.args.self c.args.other)
 chosen c = sum-ordered c.args.direction c.args.self c.args.other c.requires.0 c.requires.1 (omega arith) (omega arith) _ refl
-    c.either.ensures c.either-2.ensures c.either-3.ensures c.either-4.ensures
-
-pub sum-requires : goal.sum-requires
-sum-requires c = (chosen c).0
+    c.either_number.ensures c.either_number-2.ensures
 
 pub returns : goal.returns
 returns c =
-    let met = promised (goal.at.returns c).Start _ (c.sum.ensures ∙ (chosen (goal.at.returns c).After-either-4).1) in
+    let met = promised (goal.at.returns c).Start _ (c.sum.ensures ∙ (chosen (goal.at.returns c).After-either_number-2).1) in
     record { value = met.0; directed = met.1 }

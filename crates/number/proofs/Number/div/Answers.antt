@@ -4,7 +4,7 @@ use mathlib.Core.Path.{◌≡◌, sym, ◌∙◌, subst}
 use Prim.Native.Nat.{◌+◌, ◌<◌}
 use native.Mathlib.Omega.{arith}
 use Rattle.fraction.specs.Fraction.{fraction_quotient}
-use Rattle.number.proofs.Division.{mantissa-full, quotient-at, quotient-divided}
+use Rattle.number.proofs.Division.{quotient-at, quotient-divided}
 use Rattle.number.proofs.Zero.{zero_is, quotient-zero-left}
 use Rattle.number.proofs.Toward.{lawful}
 use Rattle.number.specs.Division.{Divided}
@@ -34,9 +34,6 @@ returns-then-self-eq0 c =
     let met = promised (goal.at.returns-then-self-eq0 c).Start _
     (zero_is c.args.self c.requires.0 c.if-self-eq0.true ∙ sym (quotient-zero-left c.args.direction c.args.self c.args.other c.if-self-eq0.true)) in
     record { value = met.0; directed = met.1.0; divided = met.1.1 }
-
-pub quotient-requires : goal.quotient-requires
-quotient-requires c = (mantissa-full c.requires.0 (omega arith), mantissa-full c.requires.1 c.requires.2, omega arith, omega arith)
 
 pub returns : goal.returns
 returns c =

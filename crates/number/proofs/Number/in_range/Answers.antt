@@ -7,8 +7,8 @@ use Rattle.number.proofs.Number.in_range.Goals as goal
 
 pub returns-then-self : goal.returns-then-self
 unfolding in_range
-returns-then-self c = let h = lt-leb 4194304 (c.args.self.x + 1000) (omega arith) in simp h
+returns-then-self c = let h = le-leb 4194304 (c.args.self.x + 1000) (omega arith) in simp h
 
-pub returns : goal.returns
+pub returns-else-self : goal.returns-else-self
 unfolding in_range
-returns c = let h = le-leb 4194304 (c.args.self.x + 1000) (omega arith) in simp h
+returns-else-self c = let h = lt-leb 4194304 (c.args.self.x + 1000) (omega arith) in let g = lt-leb 4193304 c.args.self.x (omega arith) in simp (h, g)

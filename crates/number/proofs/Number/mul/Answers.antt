@@ -3,7 +3,6 @@ use mathlib.Core.Path.{◌≡◌, sym, ◌∙◌, subst}
 use Prim.Native.Nat.{◌+◌}
 use native.Mathlib.Omega.{arith}
 use Rattle.fraction.specs.Fraction.{fraction_product}
-use Rattle.number.proofs.Digits.{product-low, product_high}
 use Rattle.number.proofs.Zero.{zero_is, product-zero-left, product-zero-right}
 use Rattle.number.proofs.Toward.{lawful}
 use Rattle.number.specs.Number.{value, reach, product_by}
@@ -33,16 +32,6 @@ returns-then-other-eq0 c =
     let met = promised (goal.at.returns-then-other-eq0 c).Start _
     (zero_is c.args.other c.requires.1 c.if-other-eq0.true ∙ sym (product-zero-right c.args.direction c.args.self c.args.other c.if-other-eq0.true)) in
     record { value = met.0; directed = met.1 }
-
-pub overflow_mul-self : goal.overflow_mul-self
-overflow_mul-self c = omega (arith, product_high c.args.self.m c.args.other.m c.requires.0.high c.requires.1.high)
-
-pub kept-requires : goal.kept-requires
-kept-requires c = (
-  product-low c.args.self.m c.args.other.m (c.requires.0.low (omega arith)) (c.requires.1.low (omega arith)),
-  product_high c.args.self.m c.args.other.m c.requires.0.high c.requires.1.high,
-  omega (arith, c.requires.0.stop, c.requires.1.stop),
-)
 
 pub returns : goal.returns
 unfolding product_by

@@ -1,30 +1,41 @@
 -- The matrix of powers before it is kept: turned down, or the factors of the stamps (laws in Building).
-use mathlib.Core.Path.{◌≡◌, sym, ◌∙◌, ap₂}
-use Rattle.verdict.specs.Verdict.{first_behind, first_of, or_else, when}
+use mathlib.Core.Path.{◌≡◌, refl, sym, ◌∙◌}
+use borrow.Author.Rules.{rules}
+use Rattle.std.specs.Prelude.{Ok, Err}
+use Rattle.verdict.specs.Verdict.{first_of}
 use Rattle.operations.specs.Operations.{build_tests}
-use Rattle.operations.proofs.Building.{build-accepted, build-turned, build-worked}
+use Rattle.operations.proofs.Building.{build-tested, build-accepted, build-turned, build-worked}
 use Rattle.operations.proofs.work.built.Goals as goal
-use Rattle.operations.proofs.work.built.Goals.{After-test-v}
+use Rattle.operations.proofs.work.built.Goals.{In_ok-refuse_if}
 
--- the tests have the verdict of the definition
-judged : (c : After-test-v)
-    → (let a = c.args in c.test-v.result ≡ first_of (build_tests a.shelf a.target a.stamps.now))
-unfolding first_behind
-judged c = c.test-v.ensures ∙ ap₂ (λ v b. or_else v (when b 15)) c.target-v.ensures c.mistimed.ensures
-
-pub returns-in-Refused : goal.returns-in-Refused
-returns-in-Refused c =
+-- the tests passed
+accepted : (c : In_ok-refuse_if) → (let a = c.args in first_of (build_tests a.shelf a.target a.stamps.now) ≡ Ok tt)
+accepted c =
     let a = c.args in
-    let met =
-    build-turned a.shelf a.target a.stamps.now _ _ (sym (judged (goal.at.returns-in-Refused c).After-test-v) ∙ c.in-Refused.is) c.turned_down.ensures in
-    record { value = met.0; keepable = met.1 }
+    build-tested a.shelf a.target a.stamps.now (sym c.target.ensures ∙ c.in_ok-target.was)
+    (rw c.mistimed.ensures at (sym c.refuse_if.ensures ∙ c.in_ok-refuse_if.was))
 
-pub table-factors-requires : goal.table-factors-requires
-table-factors-requires c = let a = c.args in
-    (build-accepted a.shelf a.target a.stamps.now (sym (judged (goal.at.table-factors-requires c).After-test-v) ∙ c.in_default.is)).1
+pub returns-in_err-target-clause-value : goal.returns-in_err-target-clause-value
+returns-in_err-target-clause-value c =
+    let a = c.args in
+    let e : c.from_residual.result ≡ Err c.in_err-target.field-0.0 = search rules in
+    e ∙ build-turned a.shelf a.target a.stamps.now _ (build-tested a.shelf a.target a.stamps.now (sym c.target.ensures ∙ c.in_err-target.was) refl)
+
+pub returns-in_err-refuse_if-clause-value : goal.returns-in_err-refuse_if-clause-value
+returns-in_err-refuse_if-clause-value c =
+    let a = c.args in
+    let e : c.from_residual-in_err-refuse_if.result ≡ Err c.in_err-refuse_if.field-0.0 = search rules in
+    e
+    ∙ build-turned a.shelf a.target a.stamps.now _ (build-tested a.shelf a.target a.stamps.now (sym c.target.ensures ∙ c.in_ok-target.was)
+    (rw c.mistimed.ensures at (sym c.refuse_if.ensures ∙ c.in_err-refuse_if.was)))
+
+pub table-requires : goal.table-requires
+table-requires c =
+    let a = c.args in
+    (build-accepted a.shelf a.target a.stamps.now (accepted (goal.at.table-requires c).In_ok-refuse_if)).1
 
 pub returns : goal.returns
 returns c =
     let a = c.args in
-    let met = build-worked a.shelf a.target a.stamps.now _ (sym (judged (goal.at.returns c).After-test-v) ∙ c.in_default.is) c.table-factors.ensures in
+    let met = build-worked a.shelf a.target a.stamps.now _ (accepted (goal.at.returns c).In_ok-refuse_if) c.table.ensures in
     record { value = met.0; keepable = met.1 }

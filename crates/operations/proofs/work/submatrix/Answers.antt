@@ -1,81 +1,58 @@
--- `work::submatrix` meets its contract: the tests, then the word of one plain step, then the rule at the chosen rows and columns.
-use Prim.Native.Nat.{◌≤◌}
-use native.Mathlib.Omega.{arith}
-use mathlib.Core.Path.{◌≡◌, sym, ◌∙◌}
-use Rattle.verdict.specs.declared.Verdict.TheVariants.{Accepted}
+-- `work::submatrix` meets its contract: the tests, then the word of its source, then the rule at the chosen rows and columns.
+use mathlib.Core.Path.{◌≡◌, refl, sym, ◌∙◌}
+use borrow.Author.Rules.{rules}
+use Rattle.std.specs.Prelude.{Ok, Err}
 use Rattle.verdict.specs.Verdict.{first_of}
-use Rattle.conditions.proofs.Passed.{Source}
-use Rattle.places.proofs.Verdicts.{Fit}
 use Rattle.places.specs.Shelf.{rows_at}
 use Rattle.operations.specs.Operations.{submatrix_tests, submatrix_at}
-use Rattle.walk.specs.Steps.{step_of}
-use Rattle.walk.specs.declared.Way.TheVariants.{Plain}
-use Rattle.operations.proofs.Results.{Ready, submatrix-ready, submatrix-fit, answered-turned, answered-ranged}
-use Rattle.operations.proofs.Made.{made_none, made-ready, made-next}
+use Rattle.operations.proofs.Results.{Ready, submatrix-ready, submatrix-fit, proposed-turned, answered-ranged}
 use Rattle.operations.proofs.Worked.{Sets, chosen-sets, run-proper, run-result}
 use Rattle.operations.proofs.work.submatrix.Goals as goal
-use Rattle.operations.proofs.work.submatrix.Goals.{After-rows_at-n, In_default}
+use Rattle.operations.proofs.work.submatrix.Goals.{In_ok-submatrix, After-from-column_set}
 
-accepted : (c : In_default) → (let a = c.args in first_of (submatrix_tests a.shelf a.source a.rows a.columns a.target) ≡ Accepted)
-accepted c = sym c.submatrix_tests-first.ensures ∙ c.in_default.is
+accepted : (c : In_ok-submatrix) → (let a = c.args in first_of (submatrix_tests a.shelf a.source a.rows a.columns a.target) ≡ Ok tt)
+accepted c = sym c.submatrix.ensures ∙ c.in_ok-submatrix.was
 
-accepted_at_After_rows_at_n : (c : After-rows_at-n) → (let a = c.args in first_of (submatrix_tests a.shelf a.source a.rows a.columns a.target) ≡ Accepted)
-accepted_at_After_rows_at_n c = sym c.submatrix_tests-first.ensures ∙ c.in_default.is
+ready : (c : In_ok-submatrix) → (let a = c.args in Ready a.target (rows_at a.shelf a.source) (submatrix_at a.shelf a.source a.rows a.columns))
+ready c = let a = c.args in submatrix-ready a.shelf c.requires a.source a.rows a.columns a.target (accepted c)
 
-fit : (c : In_default) → (let a = c.args in Source (rows_at a.shelf) a.source × Fit (rows_at a.shelf a.source) a.rows a.columns)
-fit c = let a = c.args in submatrix-fit a.shelf a.source a.rows a.columns a.target (accepted c)
+-- the masks, as they are widened
+sets : (c : After-from-column_set)
+    → (let a = c.args in Sets (rows_at a.shelf a.source) (submatrix_at a.shelf a.source a.rows a.columns) c.from-row_set.result c.from-column_set.result 0)
+sets c =
+    let a = c.args in
+    let b = (goal.at.After-from-column_set c).In_ok-submatrix in
+    let f = (submatrix-fit a.shelf a.source a.rows a.columns a.target (accepted b)).1 in
+    rw (c.from-row_set.ensures, c.from-column_set.ensures) (chosen-sets _ _ _ _ (ready b).few f.rows f.columns f.counts)
 
-ready : (c : In_default)
-    → (let a = c.args in Ready a.target (rows_at a.shelf a.source) (submatrix_at a.shelf a.source a.rows a.columns))
-ready c = let a = c.args in submatrix-ready a.shelf c.requires.0 a.source a.rows a.columns a.target (accepted c)
+pub returns-in_err-submatrix-clause-value : goal.returns-in_err-submatrix-clause-value
+returns-in_err-submatrix-clause-value c =
+    let e : c.from_residual.result ≡ Err c.in_err-submatrix.field-0.0 = search rules in
+    e ∙ proposed-turned _ _ _ _ (sym c.submatrix.ensures ∙ c.in_err-submatrix.was)
 
-ready_at_After_rows_at_n : (c : After-rows_at-n)
-    → (let a = c.args in Ready a.target (rows_at a.shelf a.source) (submatrix_at a.shelf a.source a.rows a.columns))
-ready_at_After_rows_at_n c = let a = c.args in submatrix-ready a.shelf c.requires.0 a.source a.rows a.columns a.target (accepted_at_After_rows_at_n c)
+pub table_at-factors-requires : goal.table_at-factors-requires
+table_at-factors-requires c =
+    let a = c.args in
+    (submatrix-fit a.shelf a.source a.rows a.columns a.target (accepted (goal.at.table_at-factors-requires c).In_ok-submatrix)).0.small
 
-pub submatrix_tests-first-requires : goal.submatrix_tests-first-requires
-submatrix_tests-first-requires c = c.requires
-
-pub returns-in-Refused : goal.returns-in-Refused
-returns-in-Refused c = let a = c.args in record {
-  value = (answered-turned _ a.target _ _ (submatrix-ready a.shelf c.requires.0 a.source a.rows a.columns a.target) _ _
-      (sym c.submatrix_tests-first.ensures ∙ c.in-Refused.is) c.turned_down.ensures).0;
-  keepable = (answered-turned _ a.target _ _ (submatrix-ready a.shelf c.requires.0 a.source a.rows a.columns a.target) _ _
-      (sym c.submatrix_tests-first.ensures ∙ c.in-Refused.is) c.turned_down.ensures).1;
-}
-
-pub table_at-b-requires : goal.table_at-b-requires
-table_at-b-requires c = (fit (goal.at.table_at-b-requires c).In_default).0.small
-
--- the source's rows
-size : (c : After-rows_at-n) → (1 ≤ c.rows_at-n.result) × (c.rows_at-n.result ≤ 8)
-size c = let r = ready_at_After_rows_at_n c in rw c.rows_at-n.ensures (r.some, r.few)
-
-pub put_step-word-requires : goal.put_step-word-requires
-put_step-word-requires c = let z = size (goal.at.put_step-word-requires c).After-rows_at-n in
-    made-ready (made_none c.no_steps-none.ensures) z.0 z.1 (omega arith)
-
--- the masks
-sets : (c : In_default)
-    → (let a = c.args in Sets (rows_at a.shelf a.source) (submatrix_at a.shelf a.source a.rows a.columns) a.rows a.columns 0)
-sets c = let f = (fit c).1 in chosen-sets _ _ _ _ (ready c).few f.rows f.columns f.counts
+pub of_source-word-requires : goal.of_source-word-requires
+of_source-word-requires c =
+    let r = ready (goal.at.of_source-word-requires c).In_ok-submatrix in
+    record { le_n = rw c.rows_at-n.ensures (r.some, r.few); lent = (refl, refl) }
 
 pub work-requires : goal.work-requires
 work-requires c =
-    let a = c.args in
-    let made =
-    made-next (step_of Plain c.table_at-b.result) (made_none c.no_steps-none.ensures) (c.put_step-word.ensures.prepared, c.put_step-word.ensures.b_after) in
-    run-proper a.target (rows_at a.shelf a.source) (submatrix_at a.shelf a.source a.rows a.columns) (rw (c.rows_at-n.ensures, c.table_at-b.ensures) at made)
-    (sets (goal.at.work-requires c).In_default) (ready (goal.at.work-requires c).In_default)
+    run-proper c.args.target _ _ (rw (c.rows_at-n.ensures, c.table_at-factors.ensures) at c.of_source-word.ensures)
+    (sets (goal.at.work-requires c).After-from-column_set) (ready (goal.at.work-requires c).In_ok-submatrix)
 
 pub returns : goal.returns
 returns c =
     let a = c.args in
+    let b = (goal.at.returns c).In_ok-submatrix in
     let made =
-    made-next (step_of Plain c.table_at-b.result) (made_none c.no_steps-none.ensures) (c.put_step-word.ensures.prepared, c.put_step-word.ensures.b_after) in
+    run-result a.target (rows_at a.shelf a.source) (submatrix_at a.shelf a.source a.rows a.columns)
+    (rw (c.rows_at-n.ensures, c.table_at-factors.ensures) at c.of_source-word.ensures) (sets (goal.at.returns c).After-from-column_set) (ready b) in
     let met =
-    answered-ranged _ a.target _ _ (submatrix-ready a.shelf c.requires.0 a.source a.rows a.columns a.target) _ _ (accepted (goal.at.returns c).In_default)
-    (c.work.ensures
-    ∙ run-result a.target (rows_at a.shelf a.source) (submatrix_at a.shelf a.source a.rows a.columns) (rw (c.rows_at-n.ensures, c.table_at-b.ensures) at made)
-    (sets (goal.at.returns c).In_default) (ready (goal.at.returns c).In_default)) c.ranged.ensures in
+    answered-ranged _ a.target _ _ (submatrix-ready a.shelf c.requires a.source a.rows a.columns a.target) _ _ (accepted b) (c.work.ensures ∙ made)
+    c.ranged.ensures in
     record { value = met.0; keepable = met.1 }

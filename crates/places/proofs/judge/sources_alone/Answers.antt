@@ -1,9 +1,11 @@
--- The tests of a recipe's sources: each line adds one verdict behind those before it, by what any of its places has (`alone-any`).
-use lib.ListN.{length}
+-- The tests of a recipe's sources, by what any of its places has (`recipe-alone`): the first line that refuses decides, and behind the others the last.
+use native.Mathlib.Omega.{arith}
 use mathlib.Core.Path.{◌≡◌}
+use lib.ListN.{length}
+use borrow.Author.Rules.{rules}
+use Rattle.std.proofs.lemmas.Grind.{common_steps}
 use Rattle.arrays.proofs.Structs.{length-mapped}
 use Rattle.places.proofs.Recipes.{recipe-alone}
-use borrow.Author.Rules.{rules}
 use Rattle.places.proofs.judge.sources_alone.Goals as goal
 use Rattle.places.proofs.judge.sources_alone.Goals.{Start}
 
@@ -11,6 +13,14 @@ use Rattle.places.proofs.judge.sources_alone.Goals.{Start}
 long : (c : Start) → length c.args.recipe.steps ≡ 6
 long c = search (rules, length-mapped)
 
+pub returns-in_err-refuse_if : goal.returns-in_err-refuse_if
+returns-in_err-refuse_if c =
+    rw (← (recipe-alone c.args.shelf c.args.recipe (long (goal.at.returns-in_err-refuse_if c).Start) c.requires.0 c.requires.1)) (grind (arith, common_steps))
+
+pub returns-in_err-refuse_if-2 : goal.returns-in_err-refuse_if-2
+returns-in_err-refuse_if-2 c =
+    rw (← (recipe-alone c.args.shelf c.args.recipe (long (goal.at.returns-in_err-refuse_if-2 c).Start) c.requires.0 c.requires.1)) (grind (arith, common_steps))
+
 pub returns : goal.returns
-returns c = rw (c.test-v-3.ensures, c.test-v-2.ensures, c.test-v.ensures, c.faults_of-any.ensures)
-    (recipe-alone c.args.shelf c.args.recipe (long (goal.at.returns c).Start) c.requires.0 c.requires.1)
+returns c =
+    rw (← (recipe-alone c.args.shelf c.args.recipe (long (goal.at.returns c).Start) c.requires.0 c.requires.1)) (grind (arith, common_steps))

@@ -1,38 +1,25 @@
--- `full` meets its contract. The loop's invariant: no step before number c has a factor zero.
-use mathlib.Core.Path.{sym, ◌∙◌}
-use native.Mathlib.Omega.{arith}
-use mathlib.Core.Bool.{false≢true}
-use borrow.Author.Count.{below_more}
+-- `full` meets its contract: a step, and none with a factor zero.
 use borrow.Author.Rules.{rules}
-use borrow.Author.Tests.{ltb-true, lt-ltb, not-true, not-false}
+use borrow.Author.Tests.{tests}
+use mathlib.Core.Path.{refl}
+use Prim.Native.Nat.{ℕ}
+use native.Mathlib.Omega.{arith}
+use Rattle.table.specs.Table.{factors_of}
+use Rattle.walk.specs.Lent.{table_in}
 use Rattle.walk.proofs.Minors.{joined_length}
-use Rattle.presence.proofs.NoZeros.{no-zeros, no-zero-at}
-use mathlib.Core.Bool.{not}
-use mathlib.Core.Path.{ap}
+use Rattle.std.proofs.lemmas.Iterator.{cases_from_all, YieldsList-from_range}
+use Rattle.presence.specs.Full.{NoZero}
+use Rattle.presence.proofs.NoZeros.{all-decides, no-zeros, no-zero-at}
 use Rattle.presence.proofs.full.full.Goals as goal
 
-pub loop-c-init : goal.loop-c-init
-loop-c-init c = (search rules, λ k l. absurd (omega arith))
-
-pub returns-then-not-no_zero : goal.returns-then-not-no_zero
-returns-then-not-no_zero c = (
-  λ e. absurd (false≢true e),
-  λ f.
-      let a = c.args in
-      absurd (false≢true (sym (not-true _ (ap not c.if-not-no_zero.true)) ∙ c.no_zero.ensures.1
-      (no-zero-at a.word a.factors.now (search rules) f.factors c.loop-c.c (search rules)))),
-)
-
-pub loop-c-preserved : goal.loop-c-preserved
-loop-c-preserved c = (search rules, below_more _ _ c.loop-c.invariant.1 (c.no_zero.ensures.0 (not-false _ (ap not c.if-not-no_zero.false))))
-
-pub returns : goal.returns
-returns c =
-    let a = c.args in
-    let many = joined_length a.word a.factors.now (search rules) in (
-      λ e. record {
-        some = omega (arith, ltb-true 0 a.word.count e, many);
-        factors = no-zeros a.word a.factors.now (search rules) (λ k l. c.loop-c.invariant.1 k (omega arith));
-      },
-      λ f. lt-ltb 0 a.word.count (omega (arith, f.some, many)),
-    )
+pub returns-then-word-gt0 : goal.returns-then-word-gt0
+returns-then-word-gt0 c =
+    let w = c.args.word in
+    let b = c.args.factors.now in
+    let Yes : ℕ → Type 0 = λ i. NoZero w.n (factors_of (table_in b i)) in
+    let No : ℕ → Type 0 = λ i. Yes i → ⊥ in
+    all-decides c.all.result Yes No w.count
+    (cases_from_all _ _ _ Yes No c.all.ensures.ran (YieldsList-from_range 0 w.count w.count refl (search rules)) (λ x q k. search (rules, tests))
+    (λ x q k. search (rules, tests)))
+    (λ h. record { some = omega (arith, joined_length w b (search rules)); factors = no-zeros w b (search rules) h })
+    (λ i l z f. z (no-zero-at w b (search rules) f.factors i l))

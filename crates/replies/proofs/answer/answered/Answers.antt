@@ -6,7 +6,7 @@ use Rattle.replies.proofs.answer.answered.Goals as goal
 pub returns-then-is_long : goal.returns-then-is_long
 returns-then-is_long c =
     let a = c.args in
-    let put = c.bad.ensures in
+    let put = c.put_bad.ensures in
     let long = sym c.is_long.ensures ∙ c.if-is_long.true in
     record { good = c.after.ensures.good; replied = rw (answer-overlong a.shelf a.long a.line.now long) (replied refl c.after.ensures.shelf_value put) }
 

@@ -5,7 +5,7 @@ use Rattle.replies.proofs.calls.put_shown.Goals as goal
 
 pub returns-then-place-gt7 : goal.returns-then-place-gt7
 unfolding show_text
-returns-then-place-gt7 c = rw (lt-ltb 7 _ c.if-place-gt7.true) c.put_refusal.ensures
+returns-then-place-gt7 c = rw (lt-ltb 7 _ c.if-place-gt7.true) (rw c.into.ensures at c.put_refusal.ensures)
 
 pub returns : goal.returns
 unfolding show_text

@@ -13,16 +13,15 @@ loop-next-init c = passed_none c.requires
 pub returns-then-count-ge-LONGEST : goal.returns-then-count-ge-LONGEST
 returns-then-count-ge-LONGEST c = passed-many c.loop-next.invariant (omega arith) c.if-count-ge-LONGEST.true
 
-pub returns-in-Malformed : goal.returns-in-Malformed
-returns-in-Malformed c = passed-other c.loop-next.invariant (omega arith) (omega arith)
-    (ap single_number (sym (rw c.word.ensures at c.spelled_member-number.ensures) ∙ c.in-Malformed.is))
+pub returns-in_err-list : goal.returns-in_err-list
+returns-in_err-list c = rw c.from_residual.ensures
+    (passed-other c.loop-next.invariant (omega arith) (omega arith)
+    (ap single_number (sym (rw c.word.ensures at c.spelled_member.ensures) ∙ c.in_err-list.was)))
 
 pub loop-next-preserved : goal.loop-next-preserved
-loop-next-preserved c = let is = sym (rw c.word.ensures at c.spelled_member-number.ensures)
-    ∙ c.in-Value.is in
-    rw c.next_word-next.ensures
+loop-next-preserved c = rw c.next_word-next.ensures
     (passed-more c.loop-next.invariant (omega arith) (omega arith) (_ ∷ [])
-    (ap single_number is) refl (rw mul-one))
+    (ap single_number (sym (rw c.word.ensures at c.spelled_member.ensures) ∙ c.in_ok-list.was)) refl (rw mul-one))
 
 pub returns : goal.returns
 returns c = passed-end c.loop-next.invariant (omega arith)

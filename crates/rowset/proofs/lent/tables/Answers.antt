@@ -11,7 +11,7 @@ loop-l-init c = (omega arith, filled_none _ 64 _ (omega arith) c.joined-t.ensure
 
 pub loop-l-preserved : goal.loop-l-preserved
 loop-l-preserved c = let e : (c.loop-l.l + 1) * 64 ≡ c.loop-l.l * 64 + 64 = omega arith in
-    (omega arith, rw e c.filled-u.ensures)
+    (omega arith, rw e c.fill.ensures)
 
 pub returns : goal.returns
 returns c = filled-all c.loop-l.invariant.1 (search rules) (omega arith)

@@ -1,21 +1,14 @@
--- `of_steps` meets its contract: one step and two by the tables, more by the sum.
+-- `of_steps` meets its contract: one step by the table, more by the sum.
 use mathlib.Core.Path.{sym, ap, ◌∙◌, subst}
 use Prim.Native.Nat.{ℕ, ◌+◌, ◌-◌, ◌*◌, ◌≤◌}
 use native.Mathlib.Omega.{arith}
-use Rattle.words.specs.Operation.{bound_of}
 use Rattle.rule.proofs.StepBounds.{steps-bound, steps-small}
 use Rattle.rule.proofs.bounds.of_steps.Goals as goal
-use Rattle.rule.proofs.bounds.of_steps.Goals.{After-one_source-2}
-
-pub returns-then-m-eq1 : goal.returns-then-m-eq1
-returns-then-m-eq1 c = c.one_source.ensures ∙ ap (λ (m : ℕ). bound_of m c.args.n) (sym c.if-m-eq1.true)
-
-pub returns-then-m-eq2 : goal.returns-then-m-eq2
-returns-then-m-eq2 c = c.product.ensures ∙ ap (λ (m : ℕ). bound_of m c.args.n) (sym c.if-m-eq2.true)
+use Rattle.rule.proofs.bounds.of_steps.Goals.{After-one_source}
 
 -- six steps of eight rows
-few : (c : After-one_source-2) → let a = c.args in a.m * (c.one_source-2.result - 3) ≤ 2880
-few c = subst (λ (e : ℕ). c.args.m * (e - 3) ≤ 2880) (sym c.one_source-2.ensures) (steps-small c.args.m c.args.n c.requires.0 c.requires.2)
+few : (c : After-one_source) → let a = c.args in a.m * (c.one_source.result - 3) ≤ 2880
+few c = subst (λ (e : ℕ). c.args.m * (e - 3) ≤ 2880) (sym c.one_source.ensures) (steps-small c.args.m c.args.n c.requires.0 c.requires.2)
 
 pub overflow_mul-result : goal.overflow_mul-result
 overflow_mul-result c = omega (arith, few c)
@@ -26,4 +19,4 @@ overflow_add-result c = omega (arith, few c)
 pub returns : goal.returns
 returns c =
     let a = c.args in
-    ap (λ (e : ℕ). a.m * (e - 3) + 3) c.one_source-2.ensures ∙ steps-bound a.m a.n
+    ap (λ (e : ℕ). a.m * (e - 3) + 3) c.one_source.ensures ∙ steps-bound a.m a.n

@@ -24,12 +24,12 @@ returns-then-is_good c =
     let passed = c.if-is_good.true in
     let is =
     answered a.shelf (forecast_recipe r) answer c.is_good.ensures.value passed
-    (c.foretold.ensures ∙ ap steps_of (c.forecast_recipe.ensures.result_value ∙ ap (recipe_forecast a.shelf) c.recipe-made.ensures)) in
+    (c.into.ensures ∙ ap steps_of (c.forecast_recipe.ensures.result_value ∙ ap (recipe_forecast a.shelf) c.recipe-made.ensures)) in
     record { value = is; foretold_answer = recipe-foretold a.shelf (c.is_good.ensures.good passed) r refl _ is }
 
 pub returns : goal.returns
 returns c =
     let a = c.args in
     let r = recipe_by a.steps.now in
-    let met = away-foretold a.shelf (sym c.is_good.ensures.value ∙ c.if-is_good.false) (forecast_recipe r) (recipe r) refl (λ t. refl) in
+    let met = away-foretold a.shelf (sym c.is_good.ensures.value ∙ c.if-is_good.false) (forecast_recipe r) (recipe r) _ c.foreign.ensures refl (λ t. refl) in
     record { value = met.0; foretold_answer = met.1 }

@@ -20,7 +20,7 @@ returns-then-is_good c =
     let passed = c.if-is_good.true in
     let good = c.is_good.ensures.good passed in
     let own =
-    c.operated.ensures ∙ ap answer_of (c.perform_recipe.ensures.result_value ∙ ap (λ (x : Recipe). recipe_call a.shelf x a.target) c.recipe-made.ensures) in
+    c.into.ensures ∙ ap answer_of (c.perform_recipe.ensures.result_value ∙ ap (λ (x : Recipe). recipe_call a.shelf x a.target) c.recipe-made.ensures) in
     let ran = answered a.shelf (recipe r a.target) answer_of c.is_good.ensures.value passed own in
     let met = with-demand _ a.target _ _ _ ran (recipe-answered a.shelf good r a.target refl) in
     record { value = met.0; answered = met.1 }

@@ -1,7 +1,7 @@
 -- `Joined::minor` meets its contract. The invariant: the words of the steps from number c on are walked, and their steps counted.
 -- The points on the way have names: `begin` is the function's entry, `rows` where the rows are counted.
 use borrow.Author.Rules.{rules}
-use mathlib.Core.Path.{◌≡◌, sym, ap, ◌∙◌}
+use mathlib.Core.Path.{◌≡◌, sym, ap, ◌∙◌, subst}
 use mathlib.Core.List.{List, ◌∷◌}
 use Prim.Native.Nat.{ℕ, ◌+◌, ◌-◌, ◌≤◌}
 use native.Mathlib.Omega.{arith}
@@ -9,15 +9,16 @@ use lib.ListN.{length, drop}
 use Rattle.number.specs.Number.{rounded}
 use Rattle.number.specs.declared.Number.{Number}
 use Rattle.words.specs.RowSet.{RowSet, of_mask}
-use Rattle.words.specs.Walk.{one_at}
-use Rattle.words.specs.Operation.{Step, joined_word}
+use Rattle.words.specs.Walk.{walk, one_at}
+use Rattle.words.specs.Operation.{Step, step_word, joined_word}
 use Rattle.words.specs.Sources.{Walkable}
 use Rattle.words.specs.Effort.{walk_steps}
 use Rattle.words.proofs.Steps.{sources-at}
 use Rattle.rowset.specs.Mask.{mask_count}
-use Rattle.walk.specs.Lent.{way_at, step_at, steps_of}
-use Rattle.walk.specs.Held.{state_of}
-use Rattle.walk.specs.Packed.{numbers_of}
+use Rattle.walk.specs.Lent.{way_at, step_in, step_at, steps_of}
+use Rattle.walk.specs.Held.{state_of, Agree}
+use Rattle.walk.specs.Packed.{numbers_of, held_by}
+use Rattle.walk.specs.declared.Way.{Way}
 use Rattle.walk.proofs.Held.{working-agree}
 use Rattle.walk.proofs.Packed.{number_at, start-words}
 use Rattle.walk.proofs.Sweep.{below-256}
@@ -49,6 +50,11 @@ next-step : (c : In-loop-c) → let i = c.loop-c.c - 1 in
     drop i (steps_at_In_loop_c c) ≡ step_at c.args.self c.args.factors.now i ∷ drop (i + 1) (steps_at_In_loop_c c)
 next-step c = let a = c.args in joined_step a.self a.factors.now (search rules) (c.loop-c.c - 1) (omega arith)
 
+-- a fact about the numbers of a walk is one about those that it was made of
+along : (P : ℕ → ℕ → List ℕ → Type 0) {n m k l : ℕ} {b d : List ℕ} → n ≡ m → k ≡ l → b ≡ d → P n k b → P m l d
+along P {n} {m} {k} {l} {b} {d} e f g h =
+    subst (λ (x : List ℕ). P m l x) g (subst (λ (x : ℕ). P m x b) f (subst (λ (x : ℕ). P x k b) e h))
+
 pub returns-then-j-eq0 : goal.returns-then-j-eq0
 returns-then-j-eq0 c =
     let a = c.args in
@@ -60,20 +66,8 @@ returns-then-j-eq0 c =
 pub count-k-requires : goal.count-k-requires
 count-k-requires c = below-256 c.args.self.n c.args.j (search rules) (search rules)
 
-pub overflow_sub-k : goal.overflow_sub-k
-overflow_sub-k c = omega (arith, some c)
-
-pub begin-begin-requires : goal.begin-begin-requires
-begin-begin-requires c = omega (arith, some c, few c)
-
-pub changes-many-requires : goal.changes-many-requires
-changes-many-requires c = omega (arith, some (goal.at.changes-many-requires c).After-count-k, few (goal.at.changes-many-requires c).After-count-k)
-
-pub pack-zero-requires : goal.pack-zero-requires
-pack-zero-requires c = rw c.zero.ensures (omega arith)
-
-pub pack-requires : goal.pack-requires
-pack-requires c = rw c.one-2.ensures (omega arith)
+pub new-walk-requires : goal.new-walk-requires
+new-walk-requires c = (some c, few c, search rules, c.requires.tables.0)
 
 pub position_in-requires : goal.position_in-requires
 position_in-requires c = (below-256 c.args.self.n c.args.j (search rules) (search rules), c.requires.tables.0.placed)
@@ -91,9 +85,6 @@ loop-c-init c =
       omega (arith, c.requires.le_n.2),
     )
 
-pub bounds-self-c : goal.bounds-self-c
-bounds-self-c c = omega arith
-
 pub walked-steps-requires : goal.walked-steps-requires
 unfolding way_at
 walked-steps-requires c =
@@ -102,32 +93,35 @@ walked-steps-requires c =
     let six : length (steps (goal.at.walked-steps-requires c).Start) ≤ 6 = omega (arith, joined_length a.self a.factors.now (search rules)) in
     let W = joined-working a.self.n c.count-k.result (steps (goal.at.walked-steps-requires c).Start) (columns (goal.at.walked-steps-requires c).Start)
     c.requires.sources (search rules) (search rules) six c.loop-c.c in
+    let w = c.new-walk.ensures in
     record {
-      le_k = (some (goal.at.walked-steps-requires c).After-count-k, few (goal.at.walked-steps-requires c).After-count-k, search rules, omega arith);
-      begin_value = (c.begin-begin.ensures, c.changes-many.ensures.value, c.changes-many.ensures.upper_bound);
-      working = (
-        working-agree c.loop-c.invariant.1 W,
-        sources-at (Walkable a.self.n) (steps (goal.at.walked-steps-requires c).Start) _ i _
-            c.requires.sources (next-step (goal.at.walked-steps-requires c).In-loop-c),
+      working = rw (w.rows.0, w.rows.1) (working-agree c.loop-c.invariant.1 W);
+      source = (
+        omega arith,
+        rw (w.rows.0, w.lent.1) (sources-at (Walkable a.self.n) (steps (goal.at.walked-steps-requires c).Start) _ i _
+            c.requires.sources (next-step (goal.at.walked-steps-requires c).In-loop-c)),
+        rw (w.rows.0, w.lent.0) (c.requires.tables.1.step i (omega arith)),
       );
-      u_len = (c.loop-c.invariant.2, c.requires.tables.0, c.requires.tables.1.step i (omega arith));
     }
-
-pub overflow_add-steps : goal.overflow_add-steps
-overflow_add-steps c = omega (arith, c.walked-steps.ensures.value.1, c.loop-c.invariant.4)
 
 pub loop-c-preserved : goal.loop-c-preserved
 unfolding way_at
 loop-c-preserved c =
-    let e : c.loop-c.c - 1 + 1 ≡ c.loop-c.c = omega arith in (
+    let e : c.loop-c.c - 1 + 1 ≡ c.loop-c.c = omega arith in
+    let w = c.new-walk.ensures in
+    let i : ℕ = c.loop-c.c - 1 in
+    let way : Way = way_at c.args.self i in
+    let agree = along (λ (n k : ℕ) (b : List ℕ). Agree n k (held_by c.walked-steps.new.u)
+    (walk rounded (step_word n (step_in way b i)) (held_by c.loop-c.v))) w.rows.0 w.rows.1 w.lent.1 c.walked-steps.ensures.agree in
+    let count = along (λ (n k : ℕ) (b : List ℕ). c.walked-steps.result ≡ walk_steps n k (step_word n (step_in way b i)))
+    w.rows.0 w.rows.1 w.lent.1 c.walked-steps.ensures.value.0 in (
       omega arith,
       joined-next (steps (goal.at.loop-c-preserved c).Start) _ (c.loop-c.c - 1) (one_at rounded (columns (goal.at.loop-c-preserved c).Start))
           (state_of (numbers_of c.loop-c.v)) _ (search rules)
-          (next-step (goal.at.loop-c-preserved c).In-loop-c) (rw e c.loop-c.invariant.1) c.walked-steps.ensures.agree,
-      c.walked-steps.ensures.u_len_2,
+          (next-step (goal.at.loop-c-preserved c).In-loop-c) (rw e c.loop-c.invariant.1) agree,
+      search rules,
       joined-counted c.args.self.n c.count-k.result (steps (goal.at.loop-c-preserved c).Start) _ (c.loop-c.c - 1)
-          (next-step (goal.at.loop-c-preserved c).In-loop-c) _ _ (rw e c.loop-c.invariant.3)
-          c.walked-steps.ensures.value.0,
+          (next-step (goal.at.loop-c-preserved c).In-loop-c) _ _ (rw e c.loop-c.invariant.3) count,
       omega (arith, c.walked-steps.ensures.value.1, c.loop-c.invariant.4),
     )
 

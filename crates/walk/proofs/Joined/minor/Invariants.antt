@@ -13,9 +13,6 @@ use Rattle.walk.specs.Packed.{numbers_of}
 use Rattle.walk.proofs.Joined.minor.Given as goal
 
 abbrev pub invariant-loop-c : goal.invariant-loop-c
-invariant-loop-c l = (l.c ≤ l.self.count) × Agree l.n l.k (state_of (numbers_of l.v))
-    (walk rounded (joined_word l.n (drop l.c (steps_of l.self l.factors))) (one_at rounded (of_mask l.n l.j)))
-    × (length l.v ≡ 70) × (l.steps ≡ walk_steps l.n l.k (joined_word l.n (drop l.c (steps_of l.self l.factors)))) × (l.steps + 4000 * l.c ≤ 24000)
-
-abbrev pub decreases-loop-c : goal.decreases-loop-c
-decreases-loop-c l = l.c
+invariant-loop-c l = (l.c ≤ l.self.count) × Agree l.self.n l.k (state_of (numbers_of l.v))
+    (walk rounded (joined_word l.self.n (drop l.c (steps_of l.self l.factors))) (one_at rounded (of_mask l.self.n l.j)))
+    × (length l.v ≡ 70) × (l.steps ≡ walk_steps l.self.n l.k (joined_word l.self.n (drop l.c (steps_of l.self l.factors)))) × (l.steps + 4000 * l.c ≤ 24000)

@@ -7,14 +7,14 @@ use Rattle.walk.proofs.Spelling.{staged, stage_of, column_of, row_of, lower_move
 use Rattle.walk.proofs.Stages.{Stage, stage_at, lower-at, upper-at}
 use borrow.Author.Rules.{rules}
 use Rattle.walk.proofs.letters.cell_at.Goals as goal
-use Rattle.walk.proofs.letters.cell_at.Goals.{After-wide-i}
+use Rattle.walk.proofs.letters.cell_at.Goals.{After-from-i}
 
 -- the stage of letter t
-is-stage : (c : After-wide-i) → c.wide-i.result ≡ stage_of c.args.t
+is-stage : (c : After-from-i) → c.from-i.result ≡ stage_of c.args.t
 unfolding staged
-is-stage c = c.wide-i.ensures.value
+is-stage c = c.from-i.ensures
 
-stage : (c : After-wide-i) → Stage c.args.n c.args.t c.wide-i.result
+stage : (c : After-from-i) → Stage c.args.n c.args.t c.from-i.result
 stage c = subst (Stage c.args.n c.args.t) (sym (is-stage c))
     (stage_at c.args.n c.args.t (search rules) (search rules) (search rules) (omega (arith, middle-few c.args.n (search rules))))
 
@@ -24,7 +24,7 @@ overflow_sub-c c = let s = stage c in omega arith
 pub overflow_mul-c : goal.overflow_mul-c
 overflow_mul-c c =
     let s = stage c in
-    let h : c.wide-i.result - 1 ≤ 6 = omega arith in
+    let h : c.from-i.result - 1 ≤ 6 = omega arith in
     omega (arith, mul-le-mul s.high h)
 
 pub overflow_sub-c-2 : goal.overflow_sub-c-2

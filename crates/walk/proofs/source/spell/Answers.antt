@@ -23,12 +23,6 @@ bounded : (c : After-code) → let a = c.args in
     a.c * 57 + c.loop-t.t < 342
 bounded c = omega (arith, middle-few c.args.n c.requires.1, c.middle-d.ensures.value)
 
-pub overflow_add-l : goal.overflow_add-l
-overflow_add-l c = omega (arith, bounded c)
-
-pub offset_bounds-l-c : goal.offset_bounds-l-c
-offset_bounds-l-c c = omega (arith, bounded c)
-
 pub bounds-l-c : goal.bounds-l-c
 bounds-l-c c = omega (arith, bounded (goal.at.bounds-l-c c).After-code)
 

@@ -1,14 +1,14 @@
 -- `Signed::times` meets its contract: a zero product is not negative.
-use mathlib.Core.Path.{sym, ap, ◌∙◌}
-use Rattle.number.proofs.Signs.{signed-product-zero, signed-product-sign}
-use Rattle.number.specs.Signed.{plain}
+use mathlib.Core.Bool.{Bool, ◌&&◌, not}
+use mathlib.Core.Path.{sym, ap₂, ◌∙◌}
+use lib.Dec.{eqb}
+use Rattle.number.proofs.Signs.{signed-product-plain}
 use Rattle.number.specs.declared.Number.{Number}
 use Rattle.number.proofs.signed.Signed.times.Goals as goal
 
-pub returns-then-p-eq0 : goal.returns-then-p-eq0
-returns-then-p-eq0 c = ap plain c.mul-p.ensures.value
-    ∙ sym (signed-product-zero c.args.self c.args.w (ap (λ (n : Number). n.m) (sym c.mul-p.ensures.value) ∙ c.if-p-eq0.true))
+pub returns-then-self : goal.returns-then-self
+returns-then-self c = ap₂ (λ (s : Bool) (n : Number). record { negative = s && not (eqb n.m 0); size = n }) (sym c.if-self.true) c.mul-size.ensures.value
+    ∙ sym (signed-product-plain c.args.self c.args.w)
 
-pub returns : goal.returns
-returns c = ap (λ (n : Number). record { negative = c.args.self.negative; size = n }) c.mul-p.ensures.value
-    ∙ sym (signed-product-sign c.args.self c.args.w (λ f. c.if-p-eq0.false (ap (λ (n : Number). n.m) c.mul-p.ensures.value ∙ f)))
+pub returns-else-self : goal.returns-else-self
+returns-else-self c = rw (c.mul-size.ensures.value, signed-product-plain c.args.self c.args.w, c.if-self.false)
