@@ -84,7 +84,11 @@ for path, name, head, body in functions():
     shape = tuple(t if not re.match(r"\w", t) or t in words else "_" for t in tokens)
     shapes[shape].append(f"{path}: {name}")
 told("2  functions of one shape", [" = ".join(v) for v in shapes.values() if len(v) > 1])
-told("4a conversions of words by a function", lines(r"fn (wide|lower|unlike|minus|is_numeral|is_letter|positive|negative|as_unsigned|way_code|direction_of|filled|changed|operated|foretold|written|valued|counted|worked|carried)\("))
+by_function = (
+    r"fn (wide|lower|unlike|minus|is_numeral|is_letter|positive|negative|as_unsigned|way_code|direction_of"
+    r"|filled|changed|operated|foretold|written|valued|counted|worked|carried)\("
+)
+told("4a conversions of words by a function", lines(by_function))
 told("4b types without PartialEq", lines(r"derive\(Clone, Copy\)\]"))
 facts = collections.Counter()
 for path, name, head, body in functions():
@@ -101,6 +105,7 @@ for path, name, head, body in functions():
     for i in range(len(params)):
         for j in range(i + 1, len(params)):
             together[(path.split("/")[0], params[i], params[j])] += 1
-told("5b parameters that travel together, in five functions or more of a crate", [f"{n} times in {c}: {a}, {b}" for (c, a, b), n in sorted(together.items(), key=lambda x: -x[1]) if n >= 5])
+often = [(pair, n) for pair, n in sorted(together.items(), key=lambda x: -x[1]) if n >= 5]
+told("5b parameters that travel together, in five functions or more of a crate", [f"{n} times in {c}: {a}, {b}" for (c, a, b), n in often])
 told("6  a length beside a buffer", lines(r"^\s*(pub )?(count|bytes|items|wholes|waiting|held): usize,"))
 told("7  switches on a flag or a step", lines(r"(inverse|back|turned|long): bool"))

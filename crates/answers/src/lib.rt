@@ -116,7 +116,7 @@ pub fn put_bounded(out: &mut [u8], at: usize, answer: Result<u32, Refusal>) -> u
     put_counted(out, at, b"bound", answer.map(u64::from))
 }
 
-// `wrote N` or `length N`, by the word.
+// `wrote N`, `length N` or `steps N`, by the word.
 pub fn put_written(out: &mut [u8], at: usize, word: &[u8], answer: Result<usize, Refusal>) -> usize
     ensures { Puts out.old at (report_text word.now (written_report answer)) out.new result }
 {

@@ -30,7 +30,7 @@ fn is_workable(a: Number) -> bool
     0x8000_0000 <= a.m && a.m < 0x1_0000_0000 && BIAS - REACH <= a.x && a.x <= BIAS + REACH
 }
 
-// 0 is nearest, 1 is down, 2 is up.
+// 0 is nearest, 1 is down, 2 is up. No `TryFrom`: `Direction` is another crate's, and `u8` std's.
 fn direction_of(number: u8) -> Option<Direction>
     ensures { MatchOption result (3 ≤ number) (λ w. (number < 3) × (w ≡ direction_of number)) }
 {

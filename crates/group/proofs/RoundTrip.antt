@@ -6,13 +6,13 @@ use native.Mathlib.Omega.{arith}
 use mathlib.Core.Path.{◌≡◌, refl, sym, ap, ◌∙◌}
 use mathlib.Core.Bool.{Bool, true, false, cond}
 use mathlib.Core.List.{List, [], ◌∷◌, ◌++◌}
-use lib.ListN.{length, take, length-take}
+use lib.ListN.{length, take}
 use lib.Dec.{ltb, eqb}
 use borrow.Author.Tests.{ltb-true, ltb-false, lt-ltb, le-ltb, eqb-false, ne_eqb}
 use Rattle.std.specs.Prelude.{Ok, Err}
 use Rattle.group.specs.declared.Group.{Group}
 use Rattle.group.specs.declared.GroupFault.TheVariants.{Faulty}
-use Rattle.group.specs.Group.{Found, number, continued, group_in, limited, group_of, bytes_in, bytes_of, Bytes, Inside}
+use Rattle.group.specs.Group.{Found, number, continued, group_in, limited, group_of, bytes_in, bytes_of, Bytes}
 
 -- a group number says which one it is
 pub number-same : (v n w m : ℕ) → number v n ≡ number w m → (v ≡ w) × (n ≡ m)
@@ -143,11 +143,3 @@ group-read s v n bs e =
     let b = limited-value (group_in 5 s) v n e in
     let m = read-in 5 10 (omega arith) s bs v n b.0 in
     (b.1, m.count, m.bytes)
-
--- a group number that is read lies within the bytes
-pub group-inside : (s : List ℕ) (r : Found) → Bytes s → group_of s ≡ r → Inside (length s) r
-group-inside s (Ok g) bs e =
-    let m = group-read s g.value g.bytes bs e in
-    let t : length (take g.bytes s) ≡ g.bytes = ap length m.2 ∙ sym m.1 in
-    (omega (arith, length-take g.bytes s), m.0)
-group-inside s (Err f) bs e = tt

@@ -78,6 +78,7 @@ pub fn put(out: &mut [u8], v: u64) -> usize
     let mut rest = v;
     let mut i: usize = 0;
     while 128 <= rest {
+        // `as`, proved to lose nothing: no form of std is plainer.
         out[i] = (128 + rest % 128) as u8;
         rest /= 128;
         i += 1;

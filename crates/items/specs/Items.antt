@@ -1,7 +1,8 @@
 -- List items (document 01, "Shelf calls"): a sign (-1, 0, 1), a mantissa and an exponent in the stored ranges; zero is 0, 0, 0.
 -- A list is lent as one row of whole numbers, three to an item: `signed_item`, `list_of` and `items_of` read it, `proper` and `listed_within` judge it,
 -- `item_numbers` and `list_numbers` give the numbers back. The items as a vector (`vector_of`), and how far their exponents may be (`ItemsRanged`).
-use Rattle.std.specs.Prelude.{◌≡◌, Bool, false, not, cond, ◌&&◌, List, [], ◌∷◌, ◌++◌, ℕ, ◌+◌, ◌-◌, ◌*◌, ◌^◌, eqb, leb, ltb, ℤ, pos, negsuc, nat_abs, length, get_or, replicate}
+use Rattle.std.specs.Prelude.{◌≡◌, Bool, false, not, cond, ◌&&◌, ℕ, ◌+◌, ◌-◌, ◌*◌, ◌^◌, eqb, leb, ltb, ℤ, pos, negsuc, nat_abs}
+use Rattle.std.specs.Prelude.{List, [], ◌∷◌, ◌++◌, length, get_or, replicate}
 use Rattle.std.specs.Prelude.{Option, Some, None, unwrap_or}
 use Rattle.std.proofs.lemmas.List.Edits.{sets}
 use Rattle.number.specs.Integer.{is_negative, biased}

@@ -11,7 +11,7 @@ ghost use Rattle.items.specs.Items.{signed_item, list_of, listed_within, sign_of
 use number::signed::Signed;
 use number::{BIAS, Number};
 
-// The items of a proper list, at the start of eight.
+// The items of a proper list, at the start of eight: no call allocates memory.
 #[derive(Clone, Copy)]
 pub struct ItemList {
     pub count: usize,

@@ -1,9 +1,8 @@
 -- WHAT THE CALL DOES, by its first test. Where that passed, the number has a reason and the places are few (`sayable`), and the rest is to write the sentence
--- (`sayable-done`); else it is refused (`unsayable-done`). With 220 lent bytes only that test is left (`sentence-roomy`). What an answer promises, from what it
--- reports and leaves (`worded`).
+-- (`sayable-done`). With 220 lent bytes only that test is left (`sentence-roomy`). What an answer promises, from what it reports and leaves (`worded`).
 use Prim.Native.Nat.{ℕ, ◌≤◌}
 use native.Mathlib.Omega.{arith}
-use mathlib.Core.Path.{◌≡◌, refl, sym, ap, ◌∙◌}
+use mathlib.Core.Path.{◌≡◌, refl, sym, ◌∙◌}
 use mathlib.Core.Bool.{Bool, true, false, not, ◌&&◌}
 use mathlib.Core.List.{List, [], ◌∷◌}
 use lib.Dec.{leb, ltb}
@@ -16,8 +15,8 @@ use Rattle.number.proofs.Tests.{both, neither}
 use Rattle.std.specs.Prelude.{Result, Ok, Err}
 use Rattle.verdict.specs.declared.Refusal.{Refusal}
 use Rattle.verdict.specs.declared.Reason.TheVariants.{WrongList}
-use Rattle.verdict.specs.Verdict.{Verdict, number_of, when, or_else, first_behind, first_of, after}
-use Rattle.verdict.specs.Report.{accepted, refused, report_of}
+use Rattle.verdict.specs.Verdict.{Verdict, when, or_else, first_behind, first_of, after}
+use Rattle.verdict.specs.Report.{accepted, report_of}
 use Rattle.verdict.proofs.Verdicts.{first-passed}
 use Rattle.writer.specs.Encoding.{room_test, writing_report, bytes_after_writing, written_report}
 use Rattle.writer.proofs.Writing.{writing-room}
@@ -45,14 +44,6 @@ module _ (a : Notice) (out : List ℕ) where
   unfolding sentence_report bytes_after_sentence writing_report bytes_after_writing first_behind
   sayable-done e = (rw e, rw e)
 
-  -- else it is that of the first test
-  pub unsayable-done : (w : Refusal) → when (is_unsayable a) WrongList ≡ Err w
-      → (refused (number_of w.reason) w.offset ≡ sentence_report a out) × (out ≡ bytes_after_sentence a out)
-  unfolding sentence_report bytes_after_sentence first_behind
-  unsayable-done w e =
-      let t = room_test out (sentence_of a) in
-      (sym (ap (λ v. report_of (or_else v t) (pos (length (sentence_of a)) ∷ [])) e), sym (ap (λ v. after (or_else v t) out (sets out 0 (sentence_of a))) e))
-
   -- THE PROMISES
   module _ (f : Bits64 a) where
     -- of an accepted call
@@ -69,7 +60,8 @@ module _ (a : Notice) (out : List ℕ) where
     unfolding sentence_report first_behind
     sentence-roomy r = go (is_unsayable a) refl
       where
-        go : (t : Bool) → is_unsayable a ≡ t → report_of (or_else (when (is_unsayable a) WrongList) (room_test out (sentence_of a))) (pos (length (sentence_of a)) ∷ [])
+        go : (t : Bool) → is_unsayable a ≡ t
+            → report_of (or_else (when (is_unsayable a) WrongList) (room_test out (sentence_of a))) (pos (length (sentence_of a)) ∷ [])
             ≡ report_of (when (is_unsayable a) WrongList) (pos (length (sentence_of a)) ∷ [])
         go true e = rw e
         go false e =

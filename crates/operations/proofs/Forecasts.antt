@@ -172,7 +172,8 @@ module _ (s : Shelf) (g : Good s) (r : Recipe) (long : length r.steps ≡ 6) whe
   unfolding operation_call
   recipe-target t x h a =
       to-target (rows_at s) (places_in r) t
-      (when-accepted (miscounted r.count) WrongStepCount (sources_to (rows_at s) (places_in r) t) (first-passed (recipe_tests s r t) _ (passed _ _ _ x h a)).0).1
+      (when-accepted (miscounted r.count) WrongStepCount (sources_to (rows_at s) (places_in r) t)
+      (first-passed (recipe_tests s r t) _ (passed _ _ _ x h a)).0).1
 
   pub recipe-made : (t b e : ℕ) → (recipe_call s r t).report ≡ accepted (done b e) → recipe_forecast s r ≡ accepted (pos e ∷ [])
   recipe-made t b e h = let a = recipe-target t _ h refl in made_by (recipe-to-empty t a.small a.none) b e h

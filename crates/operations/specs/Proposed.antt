@@ -56,12 +56,12 @@ kept s t (Ok x) = record { shelf = with_table s t x.rows x.factors; answer = Ok 
 kept s t (Err w) = record { shelf = s; answer = Err w }
 
 -- a build's answer, which has no steps
-abbrev pub bound_of : Result Performed Refusal → Result ℕ Refusal
-bound_of (Ok p) = Ok p.bound
-bound_of (Err w) = Err w
+abbrev pub built_answer : Result Performed Refusal → Result ℕ Refusal
+built_answer (Ok p) = Ok p.bound
+built_answer (Err w) = Err w
 
 abbrev pub filled_by : Operated → Filled
-filled_by x = record { shelf = x.shelf; answer = bound_of x.answer }
+filled_by x = record { shelf = x.shelf; answer = built_answer x.answer }
 
 -- what can be kept: a result fits a place of the shelf
 abbrev pub Keepable : ℕ → Proposal → Type 0

@@ -1,4 +1,5 @@
-// The tests of rows chosen from a place, a line each: those of the places first, and then the choice.
+// The tests of rows chosen from a place, a line each: those of the places first, and then the choice: row and column sets, given as masks, or k rows clamped.
+// Where a name ends in `_to`, there is a target.
 ghost use Rattle.std.specs.Prelude.{◌≡◌};
 ghost use Rattle.verdict.specs.Verdict.{first_of};
 ghost use Rattle.places.specs.Shelf.{rows_at, Good};
@@ -10,7 +11,6 @@ use crate::word;
 use places::{Shelf, judge, rows_at};
 use verdict::{Reason, Verdict, refuse_if};
 
-// Row and column sets, given as masks.
 #[tactic(auto, unfolding(verdict::specs::Verdict::first_behind))]
 pub fn sets(shelf: Shelf, source: usize, rows: u8, columns: u8) -> Verdict
     requires { Good shelf }
@@ -20,7 +20,6 @@ pub fn sets(shelf: Shelf, source: usize, rows: u8, columns: u8) -> Verdict
     refuse_if(unfit(shelf, source, rows, columns), Reason::WrongChoice)
 }
 
-// Row and column sets, and a target.
 #[tactic(auto, unfolding(verdict::specs::Verdict::first_behind))]
 fn sets_to(shelf: Shelf, source: usize, rows: u8, columns: u8, target: usize) -> Verdict
     requires { Good shelf }
@@ -50,7 +49,6 @@ pub fn submatrix(shelf: Shelf, source: usize, rows: u8, columns: u8, target: usi
     refuse_if(word::is_zero(factors, n, rows, columns), Reason::Singular)
 }
 
-// Clamped rows.
 #[tactic(auto, unfolding(verdict::specs::Verdict::first_behind))]
 pub fn clamped(shelf: Shelf, source: usize, k: usize) -> Verdict
     ensures { result ≡ first_of (clamped_alone shelf source k) }
@@ -62,7 +60,6 @@ pub fn clamped(shelf: Shelf, source: usize, k: usize) -> Verdict
     )
 }
 
-// Clamped rows, and a target.
 #[tactic(auto, unfolding(verdict::specs::Verdict::first_behind))]
 pub fn clamped_to(shelf: Shelf, source: usize, k: usize, target: usize) -> Verdict
     ensures { result ≡ first_of (clamped_tests shelf source k target) }

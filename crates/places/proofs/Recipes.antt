@@ -39,7 +39,10 @@ module _ (s : Shelf) (r : Recipe) (long : length r.steps ≡ 6) (some : 1 ≤ r.
   recipe-alone = alone-any (rows_at s) (place_of (slot_at r 0)) (places_in r) places-some (place_at r 0 some)
 
   pub recipe-to : (t : ℕ)
-      → or_else (or_else (or_else (or_else (when (any above) NoSuchPlace) (when (above t) NoSuchPlace)) (when (any (empty (rows_at s))) SourceEmpty)) (when (full (rows_at s) t) TargetFull))
+      → or_else
+      (or_else
+      (or_else (or_else (when (any above) NoSuchPlace) (when (above t) NoSuchPlace)) (when (any (empty (rows_at s))) SourceEmpty))
+      (when (full (rows_at s) t) TargetFull))
       (when unlike SizesDiffer)
       ≡ first_of (sources_to (rows_at s) (places_in r) t)
   recipe-to t = to-any (rows_at s) (place_of (slot_at r 0)) (places_in r) t places-some (place_at r 0 some)

@@ -70,6 +70,7 @@ pub fn is_good(shelf: Shelf) -> bool
     ensures good { result ≡ true → Good shelf }
 {
     let sizes = shelf.sizes;
+    // Loops by the index, which is meant: what a number may be is told by its place.
     for p in 0..8usize {
         let n = sizes[p] as usize;
         if 8 < n {

@@ -30,7 +30,7 @@ use Rattle.words.proofs.Steps.{joined-rows}
 use Rattle.words.proofs.Related.{Matched, Letters}
 use Rattle.words.proofs.Alike.{letters-joined}
 use Rattle.walk.proofs.Held.{mask_lt, mask-set, mask-rows}
-use Rattle.presence.specs.Presence.{presence, nonzero, word_if, exchanged_if}
+use Rattle.presence.specs.Presence.{presence, nonzero, word_if, turned_by}
 use Rattle.presence.specs.Held.{held_at, state_of, Agree, Starts, leading, Tells}
 use Rattle.presence.specs.Full.{Full}
 use Rattle.presence.proofs.Nonzero.{nonzero-yes, WeightTold, EntryTold, told-steps, minor-presence}
@@ -158,7 +158,7 @@ module _ (n p : ℕ) (ln : n ≤ 8) (lp : p < 2 ^ n) (v : List Bool) (st : Start
     }
 
     pub tells-if : (b : Bool) → Agree n (state_of u) (walk presence (word_if b (present_steps n L)) (state_of v))
-        → Tells n (exchanged_if b (minor rounded (joined_word n L))) (of_mask n p) u
+        → Tells n (turned_by b (minor rounded (joined_word n L))) (of_mask n p) u
     tells-if true = tells-turned
     tells-if false = tells
 
@@ -199,6 +199,6 @@ tells-all-turned n p L ln lp walkable full = record {
 }
 
 pub tells-all-if : (b : Bool) (n p : ℕ) (L : List (words.Step Number)) → n ≤ 8 → p < 2 ^ n → Sources (Walkable n) L → Full n L
-    → Tells n (exchanged_if b (minor rounded (joined_word n L))) (of_mask n p) (replicate 256 true)
+    → Tells n (turned_by b (minor rounded (joined_word n L))) (of_mask n p) (replicate 256 true)
 tells-all-if true = tells-all-turned
 tells-all-if false = tells_all

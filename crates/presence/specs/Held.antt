@@ -1,5 +1,5 @@
--- Presence as the code holds it: 256 Bools, each at the mask of its set (state_of). What the walks start from (Starts) and tell in the end (Tells), and what the
--- search finds in that (latest_held).
+-- Presence as the code holds it: 256 Bools, each at the mask of its set (state_of). What the walks start from (Starts) and tell in the end (Tells), and what
+-- the search finds in that (latest_held).
 use Rattle.std.specs.Prelude.{◌≡◌, Bool, true, false, ◌&&◌, List, ℕ, ◌-◌, ◌≤◌, ◌<◌, eqb, get_or, length}
 use Rattle.number.specs.declared.Number.{Number}
 use Rattle.rowset.specs.Mask.{mask_of, mask_count, mask_run, mask_among, mask_with_first}

@@ -1,4 +1,4 @@
--- Which minors are not zero: the walk in the arithmetic of Bools (presence), of the word or of its transpose (letter_if, word_if, exchanged_if, place_if).
+-- Which minors are not zero: the walk in the arithmetic of Bools (presence), of the word or of its transpose (letter_if, word_if, turned_by, place_if).
 use Rattle.std.specs.Prelude.{Bool, true, false, not, ◌&&◌, ◌||◌, ℕ, ◌-◌}
 use Rattle.fraction.specs.Arithmetic.{Arithmetic}
 use Rattle.number.specs.declared.Number.{Number}
@@ -25,9 +25,9 @@ word_if true W = transposed_word W
 word_if false W = W
 
 -- minors, or those with their two sets exchanged
-abbrev pub exchanged_if : {A : Type 0} → Bool → (RowSet → RowSet → A) → RowSet → RowSet → A
-exchanged_if true M = λ I J. M J I
-exchanged_if false M = M
+abbrev pub turned_by : {A : Type 0} → Bool → (RowSet → RowSet → A) → RowSet → RowSet → A
+turned_by true M = λ I J. M J I
+turned_by false M = M
 
 -- which of m, counted from 0, comes after k others: a word is walked from its last letter on, its transpose from its first
 abbrev pub place_if : Bool → ℕ → ℕ → ℕ

@@ -11,7 +11,7 @@ ghost use Rattle.words.specs.Operation.{joined_word};
 ghost use Rattle.words.specs.Sources.{Walkable, Source, Sources};
 ghost use Rattle.walk.specs.Letters.{middle};
 ghost use Rattle.walk.specs.Lent.{table_in, step_in, Spelled, AllSpelled, steps_of};
-ghost use Rattle.presence.specs.Presence.{presence, letter_if, word_if, exchanged_if, place_if};
+ghost use Rattle.presence.specs.Presence.{presence, letter_if, word_if, turned_by, place_if};
 ghost use Rattle.presence.specs.Held.{state_of, Agree, present_word, present_letter, Starts, Tells, latest_held};
 
 use walk::{Joined, Way, letters, source};
@@ -120,7 +120,7 @@ fn told<'a>(
 ) -> [bool; 256]
     requires le_n { (1 ≤ word.n) × (word.n ≤ 8) × (word.count ≤ 6) × (p < 2 ^ word.n) }
     requires sources { Sources (Walkable word.n) (steps_of word factors.now) × AllSpelled word letters.now }
-    ensures { Tells word.n (exchanged_if turned (minor rounded (joined_word word.n (steps_of word factors.now)))) (of_mask word.n p) result }
+    ensures { Tells word.n (turned_by turned (minor rounded (joined_word word.n (steps_of word factors.now)))) (of_mask word.n p) result }
 {
     if full::full(word, factors) {
         return [true; 256];

@@ -91,8 +91,8 @@ All [] = Unit {0}
 All (r ∷ rs) = Holds r × All rs
 
 examples : All taken × All faults × All old
-unfolding All taken faults old ones banded matrix_of factors_from old_reading old_factors_from factor_at mantissa_at judged_code square_of item_at group_in encoding
-    factors_bytes factor_bytes bytes_in
+unfolding All taken faults old ones banded matrix_of factors_from old_reading old_factors_from factor_at mantissa_at judged_code square_of item_at group_in
+    encoding factors_bytes factor_bytes bytes_in
 examples = (
   (refl, (refl, (refl, (refl, (refl, (refl, (refl, tt))))))),
   (refl, (refl, (refl, (refl, (refl, (refl, (refl, (refl, (refl, (refl, (refl, (refl, (refl, (refl, (refl, (refl, (refl, tt))))))))))))))))),

@@ -124,6 +124,7 @@ module _ (b : Factors Number) where
     pub taken-zero : Taken 0 → Follows i j zero_number
     taken-zero t = record { decided = zero refl; on = λ e. absurd (t.on e refl); off = λ e z. refl }
 
-pub follows_same : (b c : Factors Number) (i j : ℕ) (a : Number) → ((i ≡ j → ⊥) → before_in_line b i j ≡ before_in_line c i j) → Follows b i j a → Follows c i j a
+pub follows_same : (b c : Factors Number) (i j : ℕ) (a : Number) → ((i ≡ j → ⊥) → before_in_line b i j ≡ before_in_line c i j) → Follows b i j a
+    → Follows c i j a
 follows_same b c i j a same f =
     record { decided = f.decided; on = f.on; off = λ e z. f.off e (ap (λ (x : Number). x.m) (same e) ∙ z) }

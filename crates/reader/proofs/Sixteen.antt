@@ -125,7 +125,8 @@ column-before n k c h =
     let e : suc (k / n) - 1 ≡ k / n = omega arith in
     rw e (omega (arith, div-add-mod' k n))
 
-code-six : (n : ℕ) (front : List Number) (code : ℕ) → (judged_code n front code ≡ Err reason.FactorZero) ↔ ((next_row n front ≡ next_column n front) × (code ≡ 0))
+code-six : (n : ℕ) (front : List Number) (code : ℕ)
+    → (judged_code n front code ≡ Err reason.FactorZero) ↔ ((next_row n front ≡ next_column n front) × (code ≡ 0))
 unfolding judged_code
 code-six n front code = judged-six (square_of n front) (next_row n front) (next_column n front) code
 
@@ -140,7 +141,8 @@ module _ (n : ℕ) (front : List Number) (some : 0 < n) (taken : Continued n [] 
   column-in : In n (next_column n front)
   column-in = (omega arith, mod-lt k some)
 
-  above : (r : ℕ) → next_column n front ≤ r → r < next_row n front → Follows (square_of n front) r (next_column n front) (square_of n front r (next_column n front))
+  above : (r : ℕ) → next_column n front ≤ r → r < next_row n front
+      → Follows (square_of n front) r (next_column n front) (square_of n front r (next_column n front))
   above r l h =
       continued-follows n some front taken r (next_column n front) (omega arith) column-in
       (row_before n k (r - 1) (next_column n front - 1) (omega arith) (omega (arith, mod-lt k some)))

@@ -1,8 +1,8 @@
 -- A STEP BY ITS NUMBER is the step that it was made from (`step-coded`), its place told by 8 where that is above 7 (`above-coded`): no step is taken for
 -- another. What is left zero is a step of no place (`zero-coded`).
-use Prim.Native.Nat.{ℕ, zero, suc, ◌≤◌, ◌<◌, ◌+◌, ◌-◌, ◌*◌, ◌/◌, ◌%◌}
+use Prim.Native.Nat.{ℕ, suc, ◌≤◌, ◌<◌, ◌+◌, ◌*◌, ◌/◌, ◌%◌}
 use native.Mathlib.Omega.{arith}
-use mathlib.Core.Path.{◌≡◌, refl, sym, ap, ap₂, ◌∙◌}
+use mathlib.Core.Path.{◌≡◌, refl, ap, ap₂, ◌∙◌}
 use mathlib.Core.Bool.{Bool, cond}
 use borrow.Author.Tests.{lt-ltb, le-ltb}
 use Rattle.walk.specs.declared.Way.{Way}
@@ -21,15 +21,6 @@ way-few Plain = omega arith
 way-few Inverted = omega arith
 way-few Conversed = omega arith
 way-few Transposed = omega arith
-
--- the place of a number, by its quarter
-pub place-far : (q : ℕ) → 8 < q → place_by q ≡ 8
-place-far zero h = refl
-place-far (suc p) h = ap (λ (b : Bool). cond b p 8) (le-ltb p 8 (omega arith))
-
-pub place-near : (q : ℕ) → (q ≡ 0 → ⊥) → q ≤ 8 → place_by q ≡ q - 1
-place-near zero n h = absurd (n refl)
-place-near (suc p) n h = let e : suc p - 1 ≡ p = omega arith in ap (λ (b : Bool). cond b p 8) (lt-ltb p 8 (omega arith)) ∙ sym e
 
 by_number : (w : Way) (p : ℕ) → step_by (4 * (p + 1) + way_code w) ≡ taken w (up_to_eight p)
 unfolding step_by

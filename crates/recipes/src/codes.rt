@@ -5,6 +5,7 @@ ghost use Rattle.recipes.specs.Codes.{way_code, way_by, place_by, step_code, ste
 
 use crate::{Recipe, RecipeStep, Way};
 
+// No `From`: `Way` is another crate's, and `u64` std's.
 fn way_code(way: Way) -> u64
     ensures { result ≡ way_code way }
 {

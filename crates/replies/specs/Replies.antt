@@ -1,5 +1,5 @@
--- What the console does with a line (`reply_to_line`), by what it asks (`reply_to`): the shelf after it, and the text of its answer. A word of the console is one
--- row (`reply_by`): the call that it asks for, the word of the answer, and whether the bytes or items that the call left follow that.
+-- What the console does with a line (`reply_to_line`), by what it asks (`reply_to`): the shelf after it, and the text of its answer. A word of the console is
+-- one row (`reply_by`): the call that it asks for, the word of the answer, and whether the bytes or items that the call left follow that.
 use Rattle.std.specs.Prelude.{ℕ, ◌≡◌, Bool, cond, ◌||◌, List, ◌++◌, ltb, ℤ, length, get_or, Option, Some, None}
 use Rattle.lines.specs.Ascii.{ascii}
 use Rattle.lines.specs.Text.{Puts}

@@ -101,6 +101,7 @@ fn form_in(table: &[Entry], word: &[u8]) -> Option<Form>
     })
 }
 
+// An operation's command. Written out in the table, each would take four lines.
 fn operation(mode: Mode, kind: Kind) -> Command
     ensures { result ≡ Command.Operation mode kind }
 {
@@ -161,8 +162,7 @@ const OTHERS: [Entry; 14] = [
 fn other_form(word: &[u8]) -> Option<Form>
     ensures { result ≡ form_from word.now second_forms (form_from word.now first_forms no_form) }
 {
-    let table = OTHERS;
-    form_in(&table, word)
+    form_in(&OTHERS, word)
 }
 
 // How an operation is asked for, by the first word of a line.

@@ -46,6 +46,7 @@ pub fn read(line: &[u8], at: usize, list: &mut [i64]) -> Option<usize>
     requires { 48 ≤ length list.old }
     ensures { list_read 3 list.new result ≡ spelled_items 16 (words_at line.now at) }
 {
+    // No `for`: where a word starts is known only behind the one before it.
     let mut next = at;
     let mut count: usize = 0;
     while next <= line.len() {

@@ -15,7 +15,7 @@ pub struct Numbers {
     pub next: usize,
 }
 
-// A command, its numbers, and how many bytes, items and whole numbers follow.
+// A command, its numbers, and how many bytes, items and whole numbers stand for it at the start of the buffers that a caller lends.
 #[derive(Clone, Copy)]
 pub struct Request {
     pub command: Command,
@@ -151,7 +151,7 @@ fn start(line: &[u8], mode: Mode) -> usize
     }
 }
 
-// What a line asks; nothing where it is no request. Its bytes, items or whole numbers go to the start of the buffers.
+// What a line asks; nothing where it is no request. Its bytes, items or whole numbers go to the start of the buffers, three of the caller's.
 pub fn of_line(
     line: &[u8],
     bytes: &mut [u8; 2048],

@@ -29,6 +29,7 @@ pub fn read(line: &[u8], at: usize, member: Member, list: &mut [u64]) -> Option<
     requires { 16 ≤ length list.old }
     ensures { list_read 1 list.new result ≡ spelled_wholes member 16 (words_at line.now at) }
 {
+    // No `for`: where a word starts is known only behind the one before it.
     let mut next = at;
     let mut count: usize = 0;
     while next <= line.len() {

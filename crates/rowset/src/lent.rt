@@ -8,7 +8,7 @@ use crate::set_table::{FIRST, SETS};
 use crate::table::POSITION;
 use crate::{replaced, sets, wide};
 
-// The sets and their positions, as they stand in the constants.
+// The sets and their positions, as they stand in the constants: one computed comparison proves each.
 fn all_sets() -> [u8; 256]
     ensures { Listed result }
 {

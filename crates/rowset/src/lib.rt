@@ -67,7 +67,7 @@ pub fn among(p: usize, s: usize) -> usize
     ensures upper_bound { result < 256 }
 {
     let mut r = 0;
-    // k chosen rows are below row i + 1. Counted by hand: numbering the chosen rows by `filter` and `enumerate` is no plainer, and s >> k needs k below 8.
+    // k chosen rows are below row i + 1. Counted by hand: numbering them by `filter` and `enumerate` is no plainer, and k < 64 is to be shown.
     let mut k: usize = 0;
     for i in 0..8usize {
         if (p >> i) & 1 == 1 {

@@ -1,5 +1,6 @@
 -- A joined word with chosen rows and columns, the first of them clamped, as the code holds it: the minors that the formulas ask for (chosen_minor), their steps
--- (chosen_steps), and the new factors (chosen_factors). When the rule can be run (Workable): no divisor of the formulas is zero. What a run of it is lent (Lent).
+-- (chosen_steps), and the new factors (chosen_factors). When the rule can be run (Workable): no divisor of the formulas is zero. What a run of it is lent
+-- (Lent).
 use Rattle.std.specs.Prelude.{◌≡◌, Bool, List, ℕ, ◌+◌, ◌-◌, ◌^◌, ◌≤◌, ◌<◌}
 use Rattle.number.specs.Number.{rounded}
 use Rattle.number.specs.declared.Number.{Number}
@@ -14,7 +15,7 @@ use Rattle.words.specs.Effort.{walk_steps}
 use Rattle.rowset.specs.Sets.{Tables}
 use Rattle.walk.specs.declared.Joined.{Joined}
 use Rattle.walk.specs.Lent.{steps_of, AllSpelled}
-use Rattle.presence.specs.Presence.{exchanged_if}
+pub use Rattle.presence.specs.Presence.{turned_by}
 use Rattle.rule.specs.declared.Chosen.{Chosen}
 
 abbrev pub chosen_of : Joined → ℕ → ℕ → ℕ → Chosen
@@ -42,10 +43,6 @@ chosen_steps c f p = walk_steps c.word.n (c.clamped + p) (joined_word c.word.n (
 -- the new factors
 abbrev pub chosen_factors : Chosen → List ℕ → Factors Number
 chosen_factors c f = new_factor rounded (size_of c) (chosen_minor c f)
-
--- with row sets and column sets exchanged
-abbrev pub turned_by : {A : Type 0} → Bool → (RowSet → RowSet → A) → RowSet → RowSet → A
-turned_by = exchanged_if
 
 pub record Workable (c : Chosen) (f : List ℕ) : Type 0 where
   pub some : 1 ≤ c.word.n

@@ -10,7 +10,7 @@ use Rattle.walk.specs.Lent.{steps_of}
 use Rattle.rule.specs.declared.Chosen.{Chosen}
 use Rattle.rule.specs.Chosen.{Workable}
 
--- that the factors of steps can be walked is
+-- of the factors of steps that they can be walked: likewise
 sources-single : (n : ℕ) (L : List (Step Number)) → IsProp (Sources (Walkable n) L)
 sources-single n [] = Unit-prop
 sources-single n (step w b ∷ L) = ×_prop (hlevel props) (sources-single n L)

@@ -86,7 +86,8 @@ impl<'a, 'b> Run<'a, 'b> {
         }
     }
 
-    // R: the latest set of j - 1 rows, all before row i, whose minor with the columns 1..j-1 is not zero; turned, of columns.
+    // R: the latest set of j - 1 rows, all before row i, whose minor with the columns 1..j-1 is not zero; turned, of columns: two calls, since
+    // the sets and the Bools of a side belong together, and nothing is exchanged.
     fn latest(&self, i: usize, j: usize, turned: bool) -> usize
         requires { (1 ≤ j) × (j ≤ i) × (i ≤ run_size self.now) }
         ensures { LatestMask (run_size self.now) (run_minors self.now turned) i j result }

@@ -76,7 +76,7 @@ fn unsayable(number: u64, count: usize) -> bool
     !matches!(number, 1..=22) || 7 < count
 }
 
-// Writes the sentence of a refusal to lent bytes, and answers its length.
+// Writes the sentence of a refusal to lent bytes, and answers its length. The number is no `Reason`: C lends it, and it may be that of none.
 #[tactic(auto, unfolding(notices::specs::Sentence::sentence_report, notices::specs::Sentence::bytes_after_sentence, verdict::specs::Verdict::first_behind))]
 pub fn sentence(number: u64, offset: u64, places: &[u64], out: &mut [u8]) -> Result<usize, Refusal>
     ensures result_value { written_report result ≡ sentence_report (notice number offset places.now) out.old }

@@ -75,7 +75,8 @@ length-tells s p f e out =
     (subst (λ (u : Verdict). Measures (length out) (report_of v (pos k ∷ [])) (report_of u (pos k ∷ []))) (sym q) (by v (ltb (length out) k) refl))
   where
     by : (v : Verdict) (b : Bool) → ltb (length out) (length (bytes_at s p)) ≡ b
-        → Measures (length out) (report_of v (pos (length (bytes_at s p)) ∷ [])) (report_of (or_else v (when b OutputTooShort)) (pos (length (bytes_at s p)) ∷ []))
+        → Measures (length out) (report_of v (pos (length (bytes_at s p)) ∷ []))
+        (report_of (or_else v (when b OutputTooShort)) (pos (length (bytes_at s p)) ∷ []))
     by (Err w) b h = calls.turned_down (number_of w.reason) w.offset refl refl
     by (Ok tt) true h = calls.no_room _ refl (ltb-true (length out) (length (bytes_at s p)) h) refl
     by (Ok tt) false h = calls.done-in _ refl (ltb-false (length out) (length (bytes_at s p)) h) refl

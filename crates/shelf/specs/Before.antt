@@ -1,5 +1,5 @@
--- EVERYTHING ACCEPTED BEFORE zeros were GIVES ITS OLD RESULT (document 02, (e)), for the calls that read bytes: document 01's load (`old_load`), and that a load
--- and the bundle call do what they did (`LoadsBefore`), refused ones included, unless document 01 met a zero off the diagonal (`LoadedAsBefore`). The
+-- EVERYTHING ACCEPTED BEFORE zeros were GIVES ITS OLD RESULT (document 02, (e)), for the calls that read bytes: document 01's load (`old_load`), and that a
+-- load and the bundle call do what they did (`LoadsBefore`), refused ones included, unless document 01 met a zero off the diagonal (`LoadedAsBefore`). The
 -- operations: crate operations, `CallsBefore`.
 use Rattle.std.specs.Prelude.{ℕ, ◌≡◌, List, [], ◌∷◌, ◌++◌}
 use Rattle.verdict.specs.declared.Reason.TheVariants.{FactorZero}

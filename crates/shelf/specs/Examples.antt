@@ -1,5 +1,5 @@
--- Document 01's marked examples, P1 to P12, as rows of one table (`marked_table`): P1 to P4 of the arithmetic beneath the calls, the others as calls on a shelf,
--- with what is returned and what is then held. Worked examples of places with zeros (`banded_table`), of recipes (`recipe_table`),
+-- Document 01's marked examples, P1 to P12, as rows of one table (`marked_table`): P1 to P4 of the arithmetic beneath the calls, the others as calls on a
+-- shelf, with what is returned and what is then held. Worked examples of places with zeros (`banded_table`), of recipes (`recipe_table`),
 -- and of clamped rows (`schur_table`).
 use Rattle.std.specs.Prelude.{ℕ, ◌+◌, ◌-◌, ◌^◌, true, cond, ◌&&◌, List, [], ◌∷◌, ◌++◌, ltb, eqb, pos, negsuc, length}
 use Rattle.number.specs.declared.Number.{Number}

@@ -32,6 +32,7 @@ module _ (o : Operator) (z : List ℤ) where
       absurd (omega arith)
 
   -- WHAT A CALL ANSWERED a is known to equal: the contract's two clauses
-  pub logged-answer : (a : Worked) (x : Result arithmetic.Worked Refusal) → worked_report x ≡ arithmetic_call o z → Logged o z x → a ≡ worked_of (worked_report x)
+  pub logged-answer : (a : Worked) (x : Result arithmetic.Worked Refusal) → worked_report x ≡ arithmetic_call o z → Logged o z x
+      → a ≡ worked_of (worked_report x)
       → (a ≡ worked_of (arithmetic_call o z)) × LoggedAnswer o a z
   logged-answer a x told log e = (e ∙ ap worked_of told, rw e (by-answer x told log))

@@ -97,6 +97,7 @@ fn respond_text(rt: &HostRuntime, was: State, text: &[u8], output: &mut [u8]) ->
     ensures text_answered { TextAnswered was text.now output.old result output.new }
 {
     let now = respond_all(rt, was, text, output);
+    // No `||`: behind it the value would have no equation where the struct is made.
     let long = now.long | (LONGEST < text.len() - now.start);
     State { long, ..now }
 }

@@ -1,5 +1,5 @@
--- Steps as the code holds them: ways (way_of), a step by its way and its 64 factors (step_of), the letters of its word (letter_at), the entries of D (entries_of),
--- and D on a state (diagonal_of).
+-- Steps as the code holds them: ways (way_of), a step by its way and its 64 factors (step_of), the letters of its word (letter_at), the entries of D
+-- (entries_of), and D on a state (diagonal_of).
 use Rattle.std.specs.Prelude.{Bool, true, false, List, ℕ, ◌+◌, ◌-◌, ◌≤◌, get_or}
 use Rattle.number.specs.Number.{rounded, zero_number, product_of, quotient_of, Stored}
 use Rattle.number.specs.declared.Number.{Number}

@@ -54,7 +54,7 @@ pub struct Step {
     pub way: Way,
 }
 
-// The first `count` of six steps, each of n rows: their words are joined in this order.
+// The first `count` of six steps, each of n rows: their words are joined in this order. No call allocates memory, so there is room for the longest.
 #[derive(Clone, Copy)]
 pub struct Joined {
     pub steps: [Step; 6],
@@ -71,7 +71,8 @@ pub struct Counted {
 }
 
 // The walk of one minor: its sets have k of n rows. A letter changes `many` of them, as many as there are sets of k - 1 of the other rows; in the tables the
-// sets of k - 1 rows begin at `begin`. The tables, the letters and the factors are lent.
+// sets of k - 1 rows begin at `begin`. The tables, the letters and the factors are lent. Which step is walked, and which way, is told to each method: a walk
+// is of the minor.
 #[derive(Clone, Copy)]
 struct Walk<'a> {
     tables: &'a [u8; 1408],
@@ -143,6 +144,7 @@ impl<'a> Walk<'a> {
     {
         let mut y = x;
         for i in 0..self.n {
+            // A name of its own, by which an edit turns the order.
             let row = i + 1;
             if rowset::has(s, row) {
                 let e = source::factor_in(

@@ -49,6 +49,7 @@ pub fn spell(l: &mut [u16; 342], n: usize, way: Way, c: usize)
 {
     let d = letters::middle(n);
     for t in 0..2 * d + 1 {
+        // D has no number; one branch for all that follows is no plainer.
         if t == d {
             continue;
         }

@@ -1,5 +1,5 @@
 -- Writing a matrix a factor at a time: `Counted` is what holds when k factors are counted, `WrittenSoFar` when they are written. And the answer, by whether
--- the bytes fit (`writing-room`, `writing-done`, `writing-refused`).
+-- the bytes fit (`writing-room`, `writing-done`).
 use Prim.Native.Nat.{ℕ, ◌+◌, ◌-◌, ◌*◌, ◌<◌, ◌≤◌}
 use native.Mathlib.Nat.{mul-le-mul, add_assoc}
 use native.Mathlib.Numerals.{add-one}
@@ -11,11 +11,10 @@ use lib.ListN.{length, take, drop, get_or, length-append, drop_of_length-le}
 use lib.Seq.{sets, drop-cons, length-sets}
 use borrow.Author.Tests.{eq-eqb, ne_eqb, ltb-false}
 use lib.Dec.{ltb}
-use Rattle.std.specs.Prelude.{Ok, Err}
+use Rattle.std.specs.Prelude.{Ok}
 use Rattle.verdict.specs.declared.Reason.TheVariants.{OutputTooShort}
-use Rattle.verdict.specs.declared.Refusal.{Refusal}
-use Rattle.verdict.specs.Verdict.{Verdict, number_of, after}
-use Rattle.verdict.specs.Report.{accepted, refused, report_of}
+use Rattle.verdict.specs.Verdict.{Verdict, after}
+use Rattle.verdict.specs.Report.{accepted, report_of}
 use Rattle.verdict.proofs.Verdicts.{when-passed}
 use Rattle.group.specs.Group.{bytes_of}
 use Rattle.number.specs.declared.Number.{Number}
@@ -125,8 +124,3 @@ module _ (out bytes : List ℕ) where
       (accepted (pos (length bytes) ∷ []) ≡ writing_report out bytes) × (sets out 0 bytes ≡ bytes_after_writing out bytes)
   unfolding writing_report bytes_after_writing
   writing-done h = (sym (ap (λ (v : Verdict). report_of v (pos (length bytes) ∷ [])) h), sym (ap (λ (v : Verdict). after v out (sets out 0 bytes)) h))
-
-  pub writing-refused : (w : Refusal) → room_test out bytes ≡ Err w →
-      (refused (number_of w.reason) w.offset ≡ writing_report out bytes) × (out ≡ bytes_after_writing out bytes)
-  unfolding writing_report bytes_after_writing
-  writing-refused w h = (sym (ap (λ (v : Verdict). report_of v (pos (length bytes) ∷ [])) h), sym (ap (λ (v : Verdict). after v out (sets out 0 bytes)) h))

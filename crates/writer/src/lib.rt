@@ -34,6 +34,7 @@ fn factor_length(a: Number) -> usize
 pub fn matrix_length(numbers: [Number; 64], n: usize) -> usize
     ensures { result ≡ encoded_length n (square_factors n numbers) }
 {
+    // std has no `From` of a `usize`.
     let mut total = group::width(n as u64);
     for &a in factors(&numbers, n) {
         total += factor_length(a);

@@ -32,5 +32,6 @@ returns c =
     let k : a.place * 64 + 64 - a.place * 64 ≡ length a.t = omega (arith, l) in
     let h : a.place * 64 + length a.t ≤ length a.shelf.numbers = omega (arith, l, p.0.numbers) in
     let same : _ ≡ with_table a.shelf a.place a.n a.t =
-    ap (λ (x : List Number). let r : Shelf = record { numbers = x; sizes = set a.shelf.sizes a.place a.n } in r) (copied a.shelf.numbers _ a.t _ _ c.copy_from_slice.ensures.after k h) in
+    ap (λ (x : List Number). let r : Shelf = record { numbers = x; sizes = set a.shelf.sizes a.place a.n } in r)
+    (copied a.shelf.numbers _ a.t _ _ c.copy_from_slice.ensures.after k h) in
     record { value = same; good = subst Good (sym same) (good-put a.shelf p.0 a.place a.n a.t p.1 p.2) }

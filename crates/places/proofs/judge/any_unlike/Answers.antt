@@ -11,5 +11,6 @@ use Rattle.places.proofs.judge.any_unlike.Goals as goal
 
 pub returns : goal.returns
 returns c =
-    any_from_yields_List (λ x. differ (rows_at c.args.shelf) c.args.first (place_of x)) _ _ _ c.any.ensures.ran (YieldsList-from_slice c.args.steps.now cc) (λ x b q k. search (rules, tests))
+    any_from_yields_List (λ x. differ (rows_at c.args.shelf) c.args.first (place_of x)) _ _ _ c.any.ensures.ran (YieldsList-from_slice c.args.steps.now cc)
+    (λ x b q k. search (rules, tests))
     ∙ any_steps (differ (rows_at c.args.shelf) c.args.first) c.args.steps.now
