@@ -11,7 +11,6 @@ use crate::word;
 use places::{Shelf, judge, rows_at};
 use verdict::{Reason, Verdict, refuse_if};
 
-#[tactic(auto, unfolding(verdict::specs::Verdict::first_behind))]
 pub fn sets(shelf: Shelf, source: usize, rows: u8, columns: u8) -> Verdict
     requires { Good shelf }
     ensures { result ≡ first_of (set_tests shelf source rows columns) }
@@ -20,7 +19,6 @@ pub fn sets(shelf: Shelf, source: usize, rows: u8, columns: u8) -> Verdict
     refuse_if(unfit(shelf, source, rows, columns), Reason::WrongChoice)
 }
 
-#[tactic(auto, unfolding(verdict::specs::Verdict::first_behind))]
 fn sets_to(shelf: Shelf, source: usize, rows: u8, columns: u8, target: usize) -> Verdict
     requires { Good shelf }
     ensures { result ≡ first_of (chosen_tests shelf source rows columns target) }
@@ -49,7 +47,6 @@ pub fn submatrix(shelf: Shelf, source: usize, rows: u8, columns: u8, target: usi
     refuse_if(word::is_zero(factors, n, rows, columns), Reason::Singular)
 }
 
-#[tactic(auto, unfolding(verdict::specs::Verdict::first_behind))]
 pub fn clamped(shelf: Shelf, source: usize, k: usize) -> Verdict
     ensures { result ≡ first_of (clamped_alone shelf source k) }
 {
@@ -60,7 +57,6 @@ pub fn clamped(shelf: Shelf, source: usize, k: usize) -> Verdict
     )
 }
 
-#[tactic(auto, unfolding(verdict::specs::Verdict::first_behind))]
 pub fn clamped_to(shelf: Shelf, source: usize, k: usize, target: usize) -> Verdict
     ensures { result ≡ first_of (clamped_tests shelf source k target) }
 {

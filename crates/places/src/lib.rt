@@ -5,6 +5,7 @@ ghost use Rattle.std.specs.Prelude.{◌≡◌, ◌<◌};
 ghost use Rattle.places.specs.Shelf.{rows_at, table_at, with_table, empty_shelf, Fits, Good};
 
 use number::Number;
+use std::array;
 
 pub mod check; // check.rt: the test of a shelf that nothing vouches for
 pub mod judge; // judge.rt: the tests of the calls
@@ -39,14 +40,12 @@ pub fn rows_at(shelf: Shelf, place: usize) -> usize
     sizes[place] as usize
 }
 
-// The 64 numbers of a place.
+// The 64 numbers of a place. Here and in `with_table` no `copy_from_slice`: it is `memmove`, which a firmware would have to supply.
 pub fn table_at(shelf: Shelf, place: usize) -> [Number; 64]
     requires { place < 8 }
     ensures { result ≡ table_at shelf place }
 {
-    let mut t = [Number::zero(); 64];
-    t.copy_from_slice(&shelf.numbers[place * 64..place * 64 + 64]);
-    t
+    array::from_fn(|k| shelf.numbers[place * 64 + k])
 }
 
 // A table of n rows put at a place.
@@ -56,7 +55,9 @@ pub fn with_table(shelf: Shelf, place: usize, n: usize, t: [Number; 64]) -> Shel
     ensures good { Good result }
 {
     let mut left = shelf;
-    left.numbers[place * 64..place * 64 + 64].copy_from_slice(&t);
+    for k in 0..64usize {
+        left.numbers[place * 64 + k] = t[k];
+    }
     left.sizes[place] = n as u8;
     left
 }

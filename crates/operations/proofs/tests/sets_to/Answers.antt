@@ -1,0 +1,18 @@
+-- Row and column sets behind a source and a target, by the law of a choice behind the tests of its places (`choice-verdict`).
+use mathlib.Core.Path.{◌≡◌, refl, sym, ◌∙◌}
+use borrow.Author.Rules.{rules}
+use Rattle.std.specs.Prelude.{Ok, Err}
+use Rattle.conditions.proofs.Passed.{choice-verdict}
+use Rattle.places.specs.Tests.{one_source}
+use Rattle.operations.proofs.tests.sets_to.Goals as goal
+
+pub returns-in_err-one_source : goal.returns-in_err-one_source
+returns-in_err-one_source c =
+    let a = c.args in
+    let e : c.from_residual.result ≡ Err c.in_err-one_source.field-0.0 = search rules in
+    choice-verdict (one_source a.shelf a.source a.target) (sym c.in_err-one_source.was ∙ c.one_source.ensures) refl e
+
+pub returns : goal.returns
+returns c =
+    let a = c.args in
+    choice-verdict (one_source a.shelf a.source a.target) (sym c.in_ok-one_source.was ∙ c.one_source.ensures) c.unfit.ensures c.refuse_if.ensures
