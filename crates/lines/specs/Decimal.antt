@@ -1,5 +1,7 @@
 -- Decimal numbers: what a word spells (`spelled_whole`, `spelled_signed`).
-use Rattle.std.specs.Prelude.{ℕ, ◌+◌, ◌-◌, ◌*◌, ◌^◌, ◌≤◌, Bool, true, not, cond, ◌&&◌, List, [], ◌∷◌, leb, ltb, eqb, ℤ, pos, neg_ℤ, Option, Some, None, IfSome}
+use Rattle.std.specs.Prelude.{ℕ, ◌+◌, ◌-◌, ◌*◌, ◌^◌, ◌≤◌, Bool, true, not, cond, ◌&&◌, List, [], ◌∷◌, leb, ltb, eqb, Option, Some, None, IfSome}
+use Rattle.lines.specs.declared.reading.SignedWhole.{SignedWhole}
+use Rattle.lines.specs.declared.reading.SignedWhole.TheVariants as signed
 
 -- `0` to `9`
 abbrev pub is_numeral : ℕ → Bool
@@ -23,18 +25,23 @@ abbrev pub spelled_whole : List ℕ → ℕ → Option ℕ
 spelled_whole [] most = None
 spelled_whole (b ∷ s) most = whole_from (b ∷ s) 0 most
 
-abbrev pub plus : Option ℕ → Option ℤ
-plus (Some n) = Some (pos n)
+abbrev pub plus : Option ℕ → Option SignedWhole
+plus (Some n) = Some (signed.Plus n)
 plus None = None
 
-abbrev pub minus : Option ℕ → Option ℤ
-minus (Some n) = Some (neg_ℤ (pos n))
+abbrev pub minus : Option ℕ → Option SignedWhole
+minus (Some n) = Some (signed.Minus n)
 minus None = None
 
 -- with `-` in front of a negative number; from -2^63 to 2^63 - 1
-abbrev pub spelled_signed : List ℕ → Option ℤ
+abbrev pub spelled_signed : List ℕ → Option SignedWhole
 spelled_signed [] = None
 spelled_signed (b ∷ s) = cond (eqb b 45) (minus (spelled_whole s (2 ^ 63))) (plus (spelled_whole (b ∷ s) (2 ^ 63 - 1)))
 
 abbrev pub WholeUpTo : ℕ → Option ℕ → Type 0
 WholeUpTo most r = IfSome r (λ n. n ≤ most)
+
+abbrev pub SignedFits : Option SignedWhole → Type 0
+SignedFits (Some (signed.Plus n)) = n ≤ 2 ^ 63 - 1
+SignedFits (Some (signed.Minus n)) = n ≤ 2 ^ 63
+SignedFits None = Unit {0}

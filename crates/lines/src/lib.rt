@@ -4,5 +4,7 @@
 mod reading; // reading.rt: words, numbers and bytes of a line
 mod writing; // writing.rt: the same put into a buffer
 
-pub use reading::{before, first, next_word, read_bytes, read_signed, read_whole, word};
+pub use reading::{
+    SignedWhole, before, first, next_word, read_bytes, read_signed, read_whole, word,
+};
 pub use writing::{put, put_bytes, put_signed, put_whole};

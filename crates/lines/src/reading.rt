@@ -2,8 +2,15 @@
 ghost use Rattle.std.specs.Prelude.{◌≡◌, ◌/◌, ◌<◌, ◌≤◌, length, take};
 ghost use Rattle.std.proofs.lemmas.List.Edits.{sets};
 ghost use Rattle.lines.specs.Words.{before, word_at, next_word};
-ghost use Rattle.lines.specs.Decimal.{spelled_whole, spelled_signed, WholeUpTo};
+ghost use Rattle.lines.specs.Decimal.{spelled_whole, spelled_signed, WholeUpTo, SignedFits};
 ghost use Rattle.lines.specs.Hexadecimal.{nibble_of, byte_of, all_digits, hexadecimal, spelled_bytes, bytes_read, bytes_into};
+
+// A number with a sign, as its size: the sign of a zero is told too.
+#[derive(Clone, Copy, PartialEq, Eq)]
+pub enum SignedWhole {
+    Plus(u64),
+    Minus(u64),
+}
 
 // How many bytes stand before the first that is `stop`; all, where none is.
 pub fn before(s: &[u8], stop: u8) -> usize
@@ -63,12 +70,13 @@ pub fn read_whole(s: &[u8], most: u64) -> Option<u64>
 }
 
 // The number of 64 bits with a sign that decimal digits spell, with `-` in front of a negative one.
-pub fn read_signed(s: &[u8]) -> Option<i64>
-    ensures { result ≡ spelled_signed s.now }
+pub fn read_signed(s: &[u8]) -> Option<SignedWhole>
+    ensures value { result ≡ spelled_signed s.now }
+    ensures signed_fits { SignedFits result }
 {
     match s {
-        [b'-', digits @ ..] => 0i64.checked_sub_unsigned(read_whole(digits, 1 << 63)?),
-        _ => 0i64.checked_add_unsigned(read_whole(s, (1 << 63) - 1)?),
+        [b'-', digits @ ..] => Some(SignedWhole::Minus(read_whole(digits, 1 << 63)?)),
+        _ => Some(SignedWhole::Plus(read_whole(s, (1 << 63) - 1)?)),
     }
 }
 

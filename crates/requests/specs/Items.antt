@@ -1,13 +1,20 @@
 -- List items, `sign,mantissa,exponent` each (`spelled_item`), and the numbers of a list of them (`spelled_items`).
-use Rattle.std.specs.Prelude.{ℕ, ◌+◌, List, [], ◌∷◌, ℤ, length, drop, Option, Some, None}
+use Rattle.std.specs.Prelude.{ℕ, ◌+◌, List, [], ◌∷◌, ℤ, pos, neg_ℤ, length, drop, Option, Some, None}
+use Rattle.lines.specs.declared.reading.SignedWhole.{SignedWhole}
+use Rattle.lines.specs.declared.reading.SignedWhole.TheVariants as signed
 use Rattle.lines.specs.Decimal.{spelled_signed}
 use Rattle.lines.specs.Words.{before}
 use Rattle.requests.specs.declared.items.Item.{Item}
 use Rattle.requests.specs.Lists.{spelled_list}
 
 -- a number of 64 bits with a sign
+abbrev pub signed_number : Option SignedWhole → Option ℤ
+signed_number (Some (signed.Plus n)) = Some (pos n)
+signed_number (Some (signed.Minus n)) = Some (neg_ℤ (pos n))
+signed_number None = None
+
 abbrev pub spelled_number : List ℕ → Option ℤ
-spelled_number s = spelled_signed s
+spelled_number s = signed_number (spelled_signed s)
 
 -- what stands behind the first comma, nothing where there is none
 abbrev pub behind_comma : List ℕ → List ℕ

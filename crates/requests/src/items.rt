@@ -2,15 +2,26 @@
 ghost use Rattle.std.specs.Prelude.{◌≡◌, ◌+◌, ◌≤◌, length, drop};
 ghost use Rattle.requests.specs.Words.{words_at};
 ghost use Rattle.requests.specs.Lists.{list_read};
-ghost use Rattle.requests.specs.Items.{spelled_item, spelled_items};
+ghost use Rattle.requests.specs.Items.{spelled_number, spelled_item, spelled_items};
 
 use crate::LONGEST;
+use lines::SignedWhole;
 
 #[derive(Clone, Copy)]
 pub struct Item {
     pub sign: i64,
     pub mantissa: i64,
     pub exponent: i64,
+}
+
+// The number of 64 bits with a sign that a part of an item spells.
+fn spelled_number(s: &[u8]) -> Option<i64>
+    ensures { result ≡ spelled_number s.now }
+{
+    match lines::read_signed(s)? {
+        SignedWhole::Plus(n) => 0i64.checked_add_unsigned(n),
+        SignedWhole::Minus(n) => 0i64.checked_sub_unsigned(n),
+    }
 }
 
 // What stands behind the first n bytes and one more.
@@ -30,9 +41,9 @@ fn spelled_item(word: &[u8]) -> Option<Item>
     let a = lines::before(word, b',');
     let rest = behind(word, a);
     let b = lines::before(rest, b',');
-    let sign = lines::read_signed(&word[..a])?;
-    let mantissa = lines::read_signed(&rest[..b])?;
-    let exponent = lines::read_signed(behind(rest, b))?;
+    let sign = spelled_number(&word[..a])?;
+    let mantissa = spelled_number(&rest[..b])?;
+    let exponent = spelled_number(behind(rest, b))?;
     Some(Item {
         sign,
         mantissa,

@@ -10,18 +10,18 @@ use Rattle.requests.proofs.items.spelled_item.Goals as goal
 pub returns-in_err-sign : goal.returns-in_err-sign
 returns-in_err-sign c = c.from_residual.ensures
     ∙ item-is c.args.word.now _ _ _ _ _ _ _ c.before-a.ensures.value c.behind-rest.ensures c.before-b.ensures.value refl
-    (sym c.in_err-sign.was ∙ c.read_signed.ensures) refl refl
+    (sym c.in_err-sign.was ∙ c.spelled_number.ensures) refl refl
 
 pub returns-in_err-mantissa : goal.returns-in_err-mantissa
 returns-in_err-mantissa c = c.from_residual-in_err-mantissa.ensures
     ∙ item-is c.args.word.now _ _ _ _ _ _ _ c.before-a.ensures.value c.behind-rest.ensures c.before-b.ensures.value refl
-    (sym c.in_ok-sign.was ∙ c.read_signed.ensures) (sym c.in_err-mantissa.was ∙ c.read_signed-2.ensures) refl
+    (sym c.in_ok-sign.was ∙ c.spelled_number.ensures) (sym c.in_err-mantissa.was ∙ c.spelled_number-2.ensures) refl
 
 pub returns-in_err-exponent : goal.returns-in_err-exponent
 returns-in_err-exponent c = c.from_residual-in_err-exponent.ensures
     ∙ item-is c.args.word.now _ _ _ _ _ _ _ c.before-a.ensures.value c.behind-rest.ensures c.before-b.ensures.value c.behind.ensures
-    (sym c.in_ok-sign.was ∙ c.read_signed.ensures) (sym c.in_ok-mantissa.was ∙ c.read_signed-2.ensures)
-    (sym c.in_err-exponent.was ∙ c.read_signed-3.ensures)
+    (sym c.in_ok-sign.was ∙ c.spelled_number.ensures) (sym c.in_ok-mantissa.was ∙ c.spelled_number-2.ensures)
+    (sym c.in_err-exponent.was ∙ c.spelled_number-3.ensures)
 
 pub returns : goal.returns
 returns c =
@@ -30,5 +30,5 @@ returns c =
     let z : SFits w64 c.in_ok-exponent.exponent = search rules in
     rw (to_z-of_z w64 c.in_ok-sign.sign x, to_z-of_z w64 c.in_ok-mantissa.mantissa y, to_z-of_z w64 c.in_ok-exponent.exponent z)
     (item-is c.args.word.now _ _ _ _ _ _ _ c.before-a.ensures.value c.behind-rest.ensures c.before-b.ensures.value c.behind.ensures
-    (sym c.in_ok-sign.was ∙ c.read_signed.ensures) (sym c.in_ok-mantissa.was ∙ c.read_signed-2.ensures)
-    (sym c.in_ok-exponent.was ∙ c.read_signed-3.ensures))
+    (sym c.in_ok-sign.was ∙ c.spelled_number.ensures) (sym c.in_ok-mantissa.was ∙ c.spelled_number-2.ensures)
+    (sym c.in_ok-exponent.was ∙ c.spelled_number-3.ensures))
