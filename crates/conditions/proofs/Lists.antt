@@ -1,5 +1,5 @@
--- TESTS OF EACH OF SOME PLACES, as code works them: whether any holds (`each-any`), which is what a loop finds out one place after the other (`any_next`). So
--- the tests of sources are three of them all (`alone-any`), and with a target five (`to-any`).
+-- TESTS OF EACH OF SOME PLACES, as code works them: whether any holds (`each-any`); with one place more (`any_next`). So the tests of sources are three of them
+-- all (`alone-any`), and with a target five (`to-any`).
 use Prim.Native.Nat.{ℕ, ◌≤◌}
 use native.Mathlib.Nat.{not-suc-le-zero}
 use mathlib.Core.Path.{◌≡◌, refl, sym, ap, ap₂, ◌∙◌}

@@ -16,9 +16,10 @@ use Rattle.words.specs.RowSet.{In}
 use Rattle.words.specs.Sources.{BandedNumbers}
 use Rattle.words.proofs.Banded.{banded-same, stored-banded}
 use Rattle.places.specs.declared.Shelf.{Shelf}
-use Rattle.table.specs.Table.{factors_of, table_of}
+use Rattle.table.specs.Table.{absent, factors_of, table_of}
 use Rattle.places.specs.Shelf.{rows_at, table_at, factors_at, with_table, holding, empty_shelf, Fits, Good}
 use Rattle.arrays.proofs.Runs.{get_d-sets-other, sets_over}
+use Rattle.arrays.proofs.Filled.{Filled, filled-all}
 use Rattle.table.proofs.Table.{table-length, factors-table, table-list, table_same, table-refactored, padded-none}
 
 pub shelf-fields : (s t : Shelf) → s.numbers ≡ t.numbers → s.sizes ≡ t.sizes → s ≡ t
@@ -62,6 +63,15 @@ module _ (s : Shelf) (p n : ℕ) (t : List Number) (small : p < 8) (eight : leng
 pub number_at : (s : Shelf) (p k : ℕ) → k < 64 → get_or (table_at s p) k zero_number ≡ get_or s.numbers (p * 64 + k) zero_number
 unfolding table_at
 number_at s p k h = get_or-take 64 (drop (p * 64) s.numbers) k zero_number h ∙ get_or-drop (p * 64) s.numbers k zero_number
+
+-- the numbers of a place, read one after the other
+pub table-read : (s : Shelf) (p : ℕ) → p < 8 → length s.numbers ≡ 512 → {k : ℕ} {t : List Number}
+    → Filled absent (λ i. get_or s.numbers (p * 64 + i) absent) 64 k t → 64 ≤ k → t ≡ table_at s p
+unfolding table_at
+table-read s p small all w h =
+    filled-all absent (λ i. get_or s.numbers (p * 64 + i) absent) 64 w h (take 64 (drop (p * 64) s.numbers))
+    (length-take-le 64 (drop (p * 64) s.numbers) (omega (arith, length-drop (p * 64) s.numbers)))
+    (λ i l. get_or-take 64 (drop (p * 64) s.numbers) i absent l ∙ get_or-drop (p * 64) s.numbers i absent)
 
 -- shelves with the same sizes and tables are the same
 same-places : (s t : Shelf) → Good s → Good t → ((p : ℕ) → p < 8 → rows_at s p ≡ rows_at t p) → ((p : ℕ) → p < 8 → table_at s p ≡ table_at t p) → s ≡ t

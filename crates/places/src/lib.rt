@@ -5,7 +5,6 @@ ghost use Rattle.std.specs.Prelude.{◌≡◌, ◌<◌};
 ghost use Rattle.places.specs.Shelf.{rows_at, table_at, with_table, empty_shelf, Fits, Good};
 
 use number::Number;
-use std::array;
 
 pub mod check; // check.rt: the test of a shelf that nothing vouches for
 pub mod judge; // judge.rt: the tests of the calls
@@ -40,12 +39,17 @@ pub fn rows_at(shelf: Shelf, place: usize) -> usize
     sizes[place] as usize
 }
 
-// The 64 numbers of a place. Here and in `with_table` no `copy_from_slice`: it is `memmove`, which a firmware would have to supply.
+// The 64 numbers of a place. Here and in `with_table` a loop by the index: `copy_from_slice` is `memmove`, which a firmware would have to supply, and
+// `array::from_fn` takes the shelf by a reference, for which each call keeps one copy more on its stack.
 pub fn table_at(shelf: Shelf, place: usize) -> [Number; 64]
     requires { place < 8 }
     ensures { result ≡ table_at shelf place }
 {
-    array::from_fn(|k| shelf.numbers[place * 64 + k])
+    let mut t = [Number::zero(); 64];
+    for k in 0..64usize {
+        t[k] = shelf.numbers[place * 64 + k];
+    }
+    t
 }
 
 // A table of n rows put at a place.

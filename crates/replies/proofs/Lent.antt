@@ -1,4 +1,4 @@
--- Lent bytes and items: the first of many are as many as were asked for, and a loop that fills a list with items (`Filled`).
+-- Lent bytes and items: the first of many bytes are as many as were asked for, and a loop that fills a list with items (`Filled`, `items-filled`).
 use Prim.Native.Nat.{ℕ, zero, suc, ◌+◌, ◌-◌, ◌*◌, ◌/◌, ◌≤◌, ◌<◌}
 use native.Mathlib.Numerals.{add-one}
 use native.Mathlib.Omega.{arith}

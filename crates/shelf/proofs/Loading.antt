@@ -1,5 +1,5 @@
--- A load: the shelf that it makes by what was found (`loaded-turned`, `loaded-read`), and its result by that (`load-answered`); the shelf stays good
--- (`load-good`); what was read fits a place (`read_fits`); accepted factors as a list (`banded-rows`).
+-- A load: the shelf that it makes by what was found (`loaded-turned`, `loaded-fault`, `loaded-behind`, `loaded-done`), and its result by that
+-- (`load-answered`); the shelf stays good (`load-good`); what was read fits a place (`read_fits`); accepted factors as a list (`banded-rows`).
 use Prim.Native.Nat.{ℕ, ◌+◌, ◌-◌, ◌*◌, ◌<◌, ◌≤◌}
 use native.Mathlib.Omega.{arith}
 use mathlib.Core.Path.{◌≡◌, refl, sym, ap, ap₂, subst, ◌∙◌}

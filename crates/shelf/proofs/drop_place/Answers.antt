@@ -1,7 +1,7 @@
 -- A drop: its place judged, and the empty table put there (laws in Dropping); its result by the shelf that it makes (`drop-answered`).
 use mathlib.Core.Path.{◌≡◌, sym, ap, ◌∙◌}
 use Rattle.number.specs.Number.{zero_number}
-use Rattle.std.specs.Prelude.{Ok, Err}
+use Rattle.std.specs.Prelude.{Ok}
 use Rattle.verdict.specs.Verdict.{first_of}
 use Rattle.places.specs.declared.Shelf.{Shelf}
 use Rattle.places.specs.Shelf.{with_table}

@@ -2,7 +2,7 @@
 use mathlib.Core.Path.{◌≡◌, refl, sym, ap, ◌∙◌}
 use Prim.Native.Nat.{ℕ}
 use borrow.Author.Rules.{rules}
-use Rattle.std.specs.Prelude.{Ok, Err}
+use Rattle.std.specs.Prelude.{Err}
 use Rattle.conditions.proofs.Passed.{choice-verdict}
 use Rattle.conditions.specs.Conditions.{misclamped}
 use Rattle.places.specs.Tests.{source_tests}

@@ -1,7 +1,7 @@
 -- Row and column sets behind a source, by the law of a choice behind the tests of its places (`choice-verdict`).
 use mathlib.Core.Path.{◌≡◌, refl, sym, ◌∙◌}
 use borrow.Author.Rules.{rules}
-use Rattle.std.specs.Prelude.{Ok, Err}
+use Rattle.std.specs.Prelude.{Err}
 use Rattle.conditions.proofs.Passed.{choice-verdict}
 use Rattle.places.specs.Tests.{source_tests}
 use Rattle.operations.proofs.tests.sets.Goals as goal

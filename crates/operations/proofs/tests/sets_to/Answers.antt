@@ -1,7 +1,7 @@
 -- Row and column sets behind a source and a target, by the law of a choice behind the tests of its places (`choice-verdict`).
 use mathlib.Core.Path.{◌≡◌, refl, sym, ◌∙◌}
 use borrow.Author.Rules.{rules}
-use Rattle.std.specs.Prelude.{Ok, Err}
+use Rattle.std.specs.Prelude.{Err}
 use Rattle.conditions.proofs.Passed.{choice-verdict}
 use Rattle.places.specs.Tests.{one_source}
 use Rattle.operations.proofs.tests.sets_to.Goals as goal
