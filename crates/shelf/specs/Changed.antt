@@ -1,5 +1,5 @@
--- The code's own steps: the shelf that a call makes, or why it makes none (`loaded`, `dropped`), and the call's answer by that (`changed_by`). Nothing that a
--- caller sees.
+-- Steps of the code and of its proofs: the shelf that a call makes, or why it makes none (`loaded`, of a function of that name; `dropped`, of the proof of
+-- `drop_place`), and the call's answer by that (`changed_by`). Nothing that a caller sees.
 use Rattle.std.specs.Prelude.{ℕ, List, Result, Ok, Err}
 use Rattle.verdict.specs.declared.Refusal.{Refusal}
 use Rattle.verdict.specs.Verdict.{Verdict, first_of}
